@@ -1,4 +1,4 @@
--- Words that ask for help or the version alone.
+-- Words that ask only for help or the version.
 use Rattle.std.proofs.Common.{◌≡◌, List, [], ◌∷◌, codes, refl, sym, subst, inl, inr}
 use Rattle.clap.specs.Words.{IsAmong, Text, fault_of}
 use Rattle.clap.proofs.OnLiterals.{clap_on_literals}
@@ -6,7 +6,7 @@ use Rattle.clap.specs.declared.error.kind.ErrorKind.{ErrorKind}
 use Rattle.clap.specs.declared.error.kind.ErrorKind.TheVariants.{DisplayHelp, DisplayVersion}
 use Rattle.program_arguments.specs.Asking.{AsksHelp, HasFault, IsHelp, command_line}
 
--- where nothing but help may be said
+-- words whose only fault is a request for help
 pub alone : (words : List Text) (kind : ErrorKind) → IsHelp kind → fault_of command_line words ≡ kind ∷ []
     → AsksHelp words × (HasFault words → ⊥)
 alone words kind is e = (

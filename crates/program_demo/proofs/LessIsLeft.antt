@@ -1,4 +1,5 @@
--- A carry that moves bytes, and a read that finds a message, leave less to be carried or read.
+-- After a carry that moves bytes, fewer bytes wait to be carried; after a read that finds a
+-- message, fewer wait to be read.
 use Rattle.std.proofs.Common.{◌≡◌, ℕ, Bool, ◌+◌, ◌<◌, ◌≤◌, true, false, List, [], ◌∷◌, ◌++◌, length}
 use Rattle.std.proofs.Common.{length-append, take, refl, sym, ◌∙◌, ap, arith}
 use Rattle.std.proofs.lemmas.List.{length-take}
@@ -35,7 +36,7 @@ all_bytes_len (x ∷ xs) ys = omega (
   length-append x.bytes (all_bytes xs),
 )
 
--- fewer bytes wait once some are gone
+-- taking bytes leaves fewer
 fewer_left : (o : Outgoing) (n : ℕ) → n ≤ length (waiting_bytes o) → 0 < n
     → length (waiting_bytes (after_taking o n)) < length (waiting_bytes o)
 fewer_left o n there some =
@@ -58,7 +59,7 @@ fewer_left o n there some =
       length-append after.left (all_bytes after.messages),
     )
 
--- what a move works off: the bytes that wait to be carried, or to be read
+-- what a move works on: the bytes that wait to be carried, or to be read
 abbrev pub left_for : Move → PairState → ℕ
 left_for (CarryToServer most) p = length (waiting_bytes p.client.core.outbox)
 left_for (CarryToClient most) p = length (waiting_bytes p.server.core.outbox)
@@ -87,7 +88,7 @@ read_less needs opens answer left before after answered less found = let r = fou
 read_less needs opens answer left before after (no_memory is has) less found = absurd (cc found)
 read_less needs opens answer left before after (no_memory_to_open is has) less found = absurd (cc found)
 
--- it is less where the move did something
+-- a move that does something leaves less
 pub less_left : (move : Move) (reply : Reply) (p p' : PairState) → Does p move reply p' → does_something reply ≡ true
     → left_for move p' < left_for move p
 less_left (CarryToServer most) (CarryToServer carried) p p' does busy =

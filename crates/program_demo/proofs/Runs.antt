@@ -1,4 +1,4 @@
--- Parts of a session one after another.
+-- Consecutive parts of a session.
 use Rattle.std.proofs.Common.{◌≡◌, Bool, true, false, List, [], ◌∷◌, ◌++◌, ◌||◌, map, ap, ◌∙◌, refl}
 use Rattle.std.proofs.Common.{sym, subst, OnOk, ◌<◌}
 use Rattle.std.specs.List.{list_any}
@@ -38,7 +38,7 @@ ends pair world (move ∷ moves) (reply ∷ replies) last standing (next, world'
 ends pair world [] (reply ∷ replies) last standing run = absurd run
 ends pair world (move ∷ moves) [] last standing run = absurd run
 
--- what is done at moves, and then at others
+-- the effects of two lists of moves, one after the other
 does_on : (first : PairState) (moves : List Move) (replies : List Reply) (middle : PairState) (others : List Move)
     (answers : List Reply) (last : PairState)
     → DoesAll first moves replies middle → DoesAll middle others answers last
@@ -50,7 +50,7 @@ does_on first (move ∷ moves) (reply ∷ replies) middle others answers last (n
 does_on first [] (reply ∷ replies) middle others answers last one two = absurd one
 does_on first (move ∷ moves) [] middle others answers last one two = absurd one
 
--- parts, and then others
+-- the moves of two lists of parts, one after the other
 follows_on : {parts others : List DemoStep} {moves rest : List Move} {replies answers : List Reply}
     → FollowsSteps parts moves replies → FollowsSteps others rest answers
     → FollowsSteps (parts ++ others) (moves ++ rest) (replies ++ answers)
@@ -77,7 +77,7 @@ pub plays_then : {X E : Type 0} (result : Result X E) (parts others : List DemoS
 plays_then (Ok x) parts others first middle last one two = plays_on parts others first middle last one two
 plays_then (Err e) parts others first middle last one two = tt
 
--- ---- moves that were done
+-- ---- moves made once
 
 neither : (a b : Bool) → (a || b) ≡ false → (a ≡ false) × (b ≡ false)
 neither false b h = (refl, h)
@@ -87,7 +87,7 @@ either : (a : Bool) → (a || false) ≡ true → a ≡ true
 either true h = refl
 either false h = cc h
 
--- a test of what each item is
+-- a test of the images of items
 pub any_mapped : {X Y : Type 0} (f : X → Y) (test : Y → Bool) (xs : List X)
     → list_any test (map f xs) ≡ list_any (λ x. test (f x)) xs
 any_mapped f test [] = refl
@@ -103,7 +103,7 @@ follows_once pair (move ∷ moves) (reply ∷ replies) last (next, first, does) 
 follows_once pair [] (reply ∷ replies) last does granted = absurd does
 follows_once pair (move ∷ moves) [] last does granted = absurd does
 
--- each once
+-- a list of moves, each made once
 pub plays_once : (pair : PairState) (moves : List Move) (replies : List Reply) (last : PairState)
     → Ran pair moves replies last → Plays (each_once moves) pair last
 plays_once pair moves replies last ran = record {
@@ -114,9 +114,9 @@ plays_once pair moves replies last ran = record {
   runs = ran.runs;
 }
 
--- ---- a move again and again
+-- ---- a move that is repeated
 
--- where one move was done, and did something
+-- a move that did something, followed by its repetition
 pub plays_again : (move : Move) (replies : List Reply) (first next last : PairState)
     → Ran first (move ∷ []) replies next → list_any does_something replies ≡ true
     → Plays (Until move ∷ []) next last → Plays (Until move ∷ []) first last
@@ -133,7 +133,7 @@ plays_again move (reply ∷ []) first next last ran busy more =
 plays_again move [] first next last ran busy more = absurd ran.does
 plays_again move (reply ∷ other ∷ replies) first next last ran busy more = absurd ran.does.2
 
--- where it did nothing
+-- a move that did nothing ends its repetition
 pub plays_last : (move : Move) (replies : List Reply) (first last : PairState) → Ran first (move ∷ []) replies last
     → list_any does_something replies ≡ false
     → Plays (Until move ∷ []) first last
@@ -149,7 +149,7 @@ plays_last move (reply ∷ []) first last ran idle =
 plays_last move [] first last ran idle = absurd ran.does
 plays_last move (reply ∷ other ∷ replies) first last ran idle = absurd ran.does.2
 
--- less is left to do
+-- each repetition leaves less
 pub less_after : (move : Move) (replies : List Reply) (first next : PairState) → Ran first (move ∷ []) replies next
     → list_any does_something replies ≡ true
     → left_for move next < left_for move first
@@ -159,7 +159,7 @@ less_after move (reply ∷ []) first next ran busy =
 less_after move [] first next ran busy = absurd ran.does
 less_after move (reply ∷ other ∷ replies) first next ran busy = absurd ran.does.2
 
--- ---- lists of moves that were lent
+-- ---- borrowed lists of moves
 
 pub plays_these : {X : Type 0} (meaning : List X → List Move) (lent items : List X) (moves : List Move)
     (first last : PairState) → lent ≡ items → meaning items ≡ moves

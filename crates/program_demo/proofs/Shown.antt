@@ -16,7 +16,7 @@ use Rattle.program_demo.specs.Agreement.{agreement_line}
 use Rattle.program_demo.specs.Moves.{sizes}
 use Rattle.program_demo.specs.Demo.{IsShown, TellsOfPair}
 
--- the lines of what was borrowed, followed by the last line
+-- the lines of a borrowed recording, followed by the last line
 pub whole_text : (tables : List Interface) (lent pieces : List Piece) (lines text : List ℕ) (agree : Bool)
     (counted objects : ℕ)
     → lines ≡ trace_of tables (session_of usual_limit lent) → lent ≡ pieces → counted ≡ objects
@@ -29,7 +29,7 @@ whole_text tables lent pieces lines text agree counted objects traced same numbe
     let by_number = ap (λ (n : ℕ). trace_of tables (session_of usual_limit pieces) ++ agreement_line agree n) number in
     written ∙ (by_lines ∙ (by_pieces ∙ by_number))
 
--- what tells of a pair that a new one leads to
+-- a text about a pair that new ends lead to
 pub shown_from_new : {X E : Type 0} (items : X → List ℕ) (tables : List Interface) (piece : ℕ) (pair last : PairState)
     (result : Result X E) → pair ≡ new_pair tables sizes sizes
     → Stands pair opening_world

@@ -1,4 +1,4 @@
--- What writes one after another append.
+-- What several writes append.
 use Rattle.std.proofs.Common.{◌≡◌, ◌∙◌, ◌⊎◌, ◌+◌, ◌-◌, ◌<◌, ◌≤◌, ℕ, List, [], ◌++◌, length, drop}
 use Rattle.std.proofs.Common.{take, Option, Some, None, sym, subst, inl, inr, arith}
 use Rattle.std.proofs.lemmas.Grind.{common_steps}
@@ -14,25 +14,25 @@ pub appends_none : (a : Option (List ℕ)) → Appends a a []
 appends_none None = tt
 appends_none (Some xs) = grind (arith, common_steps)
 
--- the writer was left as it was
+-- a call that left the writer unchanged
 pub appends_kept : (a b c : Option (List ℕ)) (xs : List ℕ) → Appends a b xs → Keeps b c → Appends a c xs
 appends_kept None b c xs h k = tt
 appends_kept (Some old) None c xs h k = absurd h
 appends_kept (Some old) (Some bs) None xs h k = absurd k
 appends_kept (Some old) (Some bs) (Some cs) xs h k = k ∙ h
 
--- more was appended
+-- two writes append both texts
 pub appends_more : (a b c : Option (List ℕ)) (xs ys : List ℕ) → Appends a b xs → Appends b c ys → Appends a c (xs ++ ys)
 appends_more None b c xs ys h k = tt
 appends_more (Some old) None c xs ys h k = absurd h
 appends_more (Some old) (Some bs) None xs ys h k = absurd k
 appends_more (Some old) (Some bs) (Some cs) xs ys h k = grind (arith, common_steps)
 
--- all of it is a beginning
+-- the whole is a front part
 pub front_whole : (a b : Option (List ℕ)) (xs : List ℕ) → Appends a b xs → AppendsFront a b xs
 front_whole a b xs h = (length xs, subst (Appends a b) (sym (take_all (length xs) xs (omega arith))) h)
 
--- a beginning behind what was appended
+-- a text, and a front part of the next, are a front part of both
 pub front_more : (a b c : Option (List ℕ)) (xs ys : List ℕ) → Appends a b xs → AppendsFront b c ys
     → AppendsFront a c (xs ++ ys)
 front_more a b c xs ys h k = (
@@ -41,7 +41,7 @@ front_more a b c xs ys h k = (
       (appends_more a b c xs (take k.0 ys) h k.1),
 )
 
--- a beginning of the first part
+-- a front part of the first text is one of both
 pub front_first : (a b : Option (List ℕ)) (xs ys : List ℕ) → AppendsFront a b xs → AppendsFront a b (xs ++ ys)
 front_first a b xs ys h = go (cases_lt h.0 (length xs))
   where
@@ -49,7 +49,7 @@ front_first a b xs ys h = go (cases_lt h.0 (length xs))
     go (inl lt) = (h.0, subst (Appends a b) (sym (take-append-le h.0 xs ys (omega (arith, lt)))) h.1)
     go (inr ge) = (length xs, subst (Appends a b) (take_all h.0 xs ge ∙ sym (take-append_seam xs ys)) h.1)
 
--- one more write, that took n of the bytes that were left
+-- one more write, which took n of the remaining bytes
 pub wrote_more : (a b c : Option (List ℕ)) (bytes : List ℕ) (at n next : ℕ) → at ≤ length bytes → next ≡ at + n
     → n ≤ length (take (length bytes - at) (drop at bytes)) → Appends a b (take at bytes)
     → Appends b c (take n (take (length bytes - at) (drop at bytes)))
@@ -65,7 +65,7 @@ wrote_more a b c bytes at n next le is most so_far more =
     (appends_more a b c (take at bytes) (take n (drop at bytes)) so_far taken) in
     (omega (arith, le, is, few, len), subst (λ (m : ℕ). Appends a c (take m bytes)) (sym is) all)
 
--- and one that took none
+-- one more write, which took nothing
 pub wrote_none : (a b c : Option (List ℕ)) (bytes : List ℕ) (at next : ℕ) → at ≤ length bytes → next ≡ at
     → Appends a b (take at bytes) → Keeps b c
     → (next ≤ length bytes) × Appends a c (take next bytes)
@@ -75,7 +75,7 @@ wrote_none a b c bytes at next le is so_far keeps = (
       (appends_kept a b c (take at bytes) so_far keeps),
 )
 
--- a line, in the parts in which it is written
+-- a line is its parts, in the order in which they are written
 pub line_is : (begins first second third fourth fifth sixth text ends : List ℕ)
     → first ++ (second ++ (third ++ (fourth ++ (fifth ++ sixth)))) ≡ text
     → begins ++ ((first ++ (second ++ third)) ++ ((fourth ++ (fifth ++ sixth)) ++ ends)) ≡ begins ++ (text ++ ends)

@@ -1,4 +1,4 @@
--- Files that are found and opened one after another.
+-- Finding and opening files, one after another.
 use Rattle.std.proofs.Common.{◌≡◌, ◌∙◌, ◌+◌, ◌<◌, ℕ, List, [], ◌∷◌, ◌++◌, String, Vec, get_or, length, map, take}
 use Rattle.std.proofs.Common.{ap, arith, subst, sym}
 use Rattle.std.specs.Prelude.{Result, Ok, Err, string_bytes}
@@ -14,13 +14,13 @@ use Rattle.program_jobs.specs.declared.failure.Failure.TheVariants.{Memory}
 use Rattle.program_jobs.specs.declared.tables.TablesFile.{TablesFile}
 use Rattle.program_jobs.specs.Running.{AreOpened, FailsForOne, Finds, IsOpenFailure, one_file, one_word}
 
--- one of the elements, mapped
+-- the image of an element is an element of the mapped list
 pub contains_mapped : {X Y : Type 0} (f : X → Y) (xs : List X) (k : ℕ) (x : X) → k < length xs → x ≡ get_or xs k x
     → Contains (map f xs) (f x)
 contains_mapped f xs k x lt is =
     (k, omega (arith, length-map xs f, lt), get_or-map f xs k x (f x) lt ∙ ap f (sym is))
 
--- one more word is found
+-- the files of one more word are found
 pub found_more : {A B M : Type 0} (finds : List ℕ → Result (Vec (String A) M) Error → Type 0)
     (words : List (String B)) (names after : List (String A)) (k : ℕ) (word : String B) (found : Vec (String A) M)
     → k < length words → word ≡ get_or words k word
@@ -31,7 +31,7 @@ found_more finds words names after k word found lt at so_far one is =
     rw (map_more string_bytes words k word lt, ← at, is, map-append string_bytes names found.items)
     (one_word (map string_bytes (take k words)) (map string_bytes names) (string_bytes word) found so_far one)
 
--- one more file is open
+-- one more file is opened
 pub opened_more : {B R : Type 0} (opens : List ℕ → Result R Error → Type 0) (names : List (String B))
     (files after : List (TablesFile R)) (k : ℕ) (word : String B) (file : TablesFile R)
     → k < length names → word ≡ get_or names k word → file.name.now ≡ string_bytes word
@@ -42,7 +42,7 @@ opened_more opens names files after k word file lt at same so_far one is =
     rw (map_more string_bytes names k word lt, ← at, ← same, is)
     (one_file (map string_bytes (take k names)) files file so_far one)
 
--- one cannot be found or opened
+-- a file cannot be found or opened
 pub fails_for : {B T : Type 0} (calls : List ℕ → Result T Error → Type 0) (names : List (String B)) (k : ℕ)
     (word : String B) (name : List ℕ) (why : Error) (failure : Failure) → k < length names
     → word ≡ get_or names k word → name ≡ string_bytes word → calls name (Err why)

@@ -32,13 +32,13 @@ use Rattle.program_jobs.specs.Texts.{AreRead, IsTextOf, NamedText, as_one, is_li
 use Rattle.program_jobs.specs.Texts.{one_text}
 use Rattle.program_jobs.specs.Texts.{Source, named_text, named_texts, own_line, source_of, sources_of}
 
--- an error is refused for its reason
+-- an error is refused for its own reason
 pub refused_on : {X E : Type 0} (r : Result X E) (x : E) (R Q : E → Type 0) → IsErrAnd r R → ((e : E) → R e → e ≡ x)
     → Q x → IfErr r Q
 refused_on (Ok found) x R Q is same h = tt
 refused_on (Err e) x R Q is same h = subst Q (sym (same e is)) h
 
--- one more file is read
+-- the text of one more file is read
 pub read_more : {T A : Type 0} (remaining : T → Option (List ℕ)) (files : List (TablesFile T))
     (texts after : List (ReadText A)) (file : TablesFile T) (text : ReadText A)
     → AreRead (sources_of remaining files) (named_texts texts) → IsTextOf (source_of remaining file) (named_text text)
@@ -48,7 +48,7 @@ read_more remaining files texts after file text read one is =
     rw (is, map-append (source_of remaining) files (file ∷ []), map-append named_text texts (text ∷ []))
     (one_text (sources_of remaining files) (named_texts texts) (source_of remaining file) (named_text text) read one)
 
--- there are files
+-- a list of files that is not empty
 pub some_sources : {T : Type 0} (remaining : T → Option (List ℕ)) (files : List (TablesFile T)) (n : ℕ) (none : Bool)
     → none ≡ (n == 0) → n ≡ length files → none ≡ false → sources_of remaining files ≡ [] → ⊥
 some_sources remaining [] n none is len filled empty =
@@ -56,7 +56,7 @@ some_sources remaining [] n none is len filled empty =
     cc (yes, filled)
 some_sources remaining (file ∷ files) n none is len filled empty = cc empty
 
--- what was read and gives these tables
+-- the texts that were read give these tables
 pub loads : (sources : List Source) (texts : List NamedText) (core : List Interface) (text : List ℕ)
     (r : Result (List Interface) TableFault) (tables : List Interface) → (sources ≡ [] → ⊥) → AreRead sources texts
     → core ≡ core_tables → text ≡ as_one texts → r ≡ Ok tables
@@ -65,7 +65,7 @@ loads [] texts core text r tables some read c t is exact = absurd (some refl)
 loads (source ∷ sources) texts core text r tables some read c t is (inl e) = (texts, read, cc (c, t, is, e))
 loads (source ∷ sources) texts core text r tables some read c t is (inr e) = cc (is, e)
 
--- what was read and gives none
+-- the texts that were read give no tables
 pub gives_none : (given : List (List ℕ)) (sources : List Source) (texts : List NamedText)
     (core : List Interface) (text : List ℕ) (r : Result (List Interface) TableFault) (fault : TableFault)
     (why : Failure) → AreRead sources texts → core ≡ core_tables → text ≡ as_one texts → r ≡ Err fault
@@ -98,7 +98,7 @@ gives_none given sources texts core text r faults.Memory (BreaksRule file own na
 gives_none given sources texts core text r faults.Memory CannotWrite read c t is exact said = absurd said
 gives_none given sources texts core text r faults.Memory SocketFailed read c t is exact said = absurd said
 
--- a file that was not read is one of the job's
+-- the file that could not be read is one of the job's
 pub unread : (given : List (List ℕ)) (sources : List Source) (source : Source) (why : Failure)
     → Contains sources source → IsReadFailure source.name source.known why → IsTablesRefusal given sources why
 unread given sources source (CannotRead name) one is = (source, one, sym is)
@@ -110,7 +110,7 @@ unread given sources source (BreaksRule file own rule) one is = absurd is
 unread given sources source CannotWrite one is = absurd is
 unread given sources source SocketFailed one is = absurd is
 
--- what stands before each text but the first, and the text
+-- a line feed, and the text after it
 abbrev pub after_feed : NamedText → List ℕ
 after_feed text = 10 ∷ text.bytes
 
@@ -128,14 +128,14 @@ joined_more begun others i text whole fed after bytes lt at so_far feeds more is
     rw (map_more named_text others i text lt, ← at)
     (done ∙ flat_map_more after_feed begun (named_texts (take i others)) (named_text text))
 
--- all are
+-- all texts are joined
 pub joined_all : {A : Type 0} (texts : List (ReadText A)) (first : ReadText A) (others : List (ReadText A))
     (begun whole : List ℕ) → IsFirstAndRest texts first others → begun ≡ first.bytes.items
     → whole ≡ begun ++ flat_map after_feed (named_texts others) → whole ≡ as_one (named_texts texts)
 joined_all texts first others begun whole parts begins is =
     rw (parts.0) (is ∙ ap (λ (l : List ℕ). l ++ flat_map after_feed (named_texts others)) begins)
 
--- a line is in the first text, or after it
+-- a line of the first text
 pub place_here : (text : NamedText) (texts : List NamedText) (line : ℕ)
     → line - count_by is_line_feed text.bytes ≤ 1 → own_line (text ∷ texts) line ≡ (text.name, line)
 place_here text texts line within =
@@ -150,7 +150,7 @@ place_after text texts line next beyond is =
     let left : line - lines_in text.bytes ≡ next = omega (arith, beyond, is) in
     subst (λ (m : ℕ). own_line (text ∷ texts) line ≡ own_line texts m) left (grind (arith, nat_tests, lt))
 
--- the bytes to the server, with those of one more piece
+-- a piece's bytes to the server
 own_is : (direction : Direction) (bytes : List ℕ)
     → (if same_direction direction ToServer then bytes else []) ≡ own ToServer direction bytes
 own_is ToServer bytes = refl
@@ -183,7 +183,7 @@ pub three_appended_ok : {X E : Type 0} (r : Result X E) (old a b c x y z : List 
 three_appended_ok (Ok done) old a b c x y z e f g = three_appended old a b c x y z e f g
 three_appended_ok (Err why) old a b c x y z e f g = tt
 
--- and seven, among them two numbers
+-- seven texts are appended, two of them numbers
 pub seven_appended : (old a b c d e f g x y z d' f' : List ℕ) → x ≡ old ++ (a ++ (b ++ c)) → y ≡ x ++ (d ++ (e ++ f))
     → z ≡ y ++ g → d ≡ d' → f ≡ f'
     → z ≡ old ++ (a ++ b ++ c ++ d' ++ e ++ f' ++ g)

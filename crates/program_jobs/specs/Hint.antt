@@ -1,4 +1,4 @@
--- What standard error says after a verdict on a bind that the tables do not know.
+-- The line on standard error after a verdict on a bind that the tables do not know.
 use Rattle.std.specs.Prelude.{ℕ, ◌+◌, List, [], ◌++◌, length, drop, codes, nat_le, nat_lt}
 use Rattle.std.specs.Prelude.{if◌then◌else◌, Option, Some, None, option_map, option_and_then}
 use Rattle.std.specs.declared.result.Result.{Result}
@@ -44,7 +44,8 @@ bound_at requests offset =
 -- the version that tables have of an interface, if they have it
 abbrev pub known_version : List Interface → List ℕ → Option ℕ
 known_version tables name =
-    option_and_then (λ iface. option_map (λ (i : Interface). i.version) (interface_at tables iface.0))
+    option_and_then
+    (λ iface. option_map (λ (i : Interface). i.version) (interface_at tables iface.0))
     (place_of tables name)
 
 -- the line for an interface that no table has
@@ -57,8 +58,8 @@ newer_text bound known =
     codes "waywire: the tables have " ++ bound.interface ++ codes " up to version " ++ decimal known
     ++ codes ", and it is bound at " ++ decimal bound.version ++ codes ": see --tables\n"
 
--- The line for a bind, by the version of its interface in the tables, if they have it. There is none
--- if they have the version that is bound, or if no table can have the name.
+-- The line for a bind, given the version of its interface in the tables, if they have it. There is
+-- none if the tables have the version that is bound, or if no tables can have the name.
 abbrev pub hint_text : NamedBind → Option ℕ → List ℕ
 hint_text bound None = if is_name bound.interface then unknown_text bound.interface else []
 hint_text bound (Some known) =

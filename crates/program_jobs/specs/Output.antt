@@ -54,16 +54,16 @@ pub record IsTraced (limit : ℕ) (tables : List Interface) (text output hint : 
   pub hinted : hint ≡ hint_of tables (stream_of ToServer pieces) verdict
   pub status_is : status ≡ verdict_status verdict
 
--- The tables of a job: the core ones, extended by the texts that were read, joined to one text. With
--- no text they are the core ones.
+-- The tables of a job: the core ones, extended by the texts that were read, joined to one text.
+-- Without texts they are the core ones.
 abbrev pub LoadsTables : List Source → List Interface → Type 0
 LoadsTables [] tables = tables ≡ core_tables
 LoadsTables (source ∷ sources) tables =
     (texts : List NamedText) × AreRead (source ∷ sources) texts
     × (outcome core_tables (as_one texts) ≡ Ok tables)
 
--- What a job prints, its hint on standard error, and its status. A job with a file prints its result
--- for a text that was read, with its tables.
+-- What a job prints, its hint on standard error, and its status. A job with a file prints its
+-- result for a text that was read, with its tables.
 abbrev pub IsDone : Job → List Source → Option (List ℕ) → List ℕ → List ℕ → ℕ → Type 0
 IsDone (Trace tables limit file) sources known output hint status =
     (all : List Interface) × LoadsTables sources all

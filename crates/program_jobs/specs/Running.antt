@@ -102,10 +102,10 @@ pub data OpensFiles {A M R O E : Type 0} (remaining : R → Option (List ℕ))
       → OpensFiles remaining contents said finds opens job words name out out' err err' status
 
 -- A job that names files is done with exactly the readers that opening these files gave; the table
--- files are opened first. If one cannot be opened, nothing is printed, and the failure's line goes to
--- standard error; the status is 4 for out of memory, else 3. A job with a socket is done with the
--- one that was bound to its path; if it could not be bound, the same holds. The status is 0 only if
--- the path of that socket was removed. A job with neither is done with empty files.
+-- files are opened first. If one cannot be opened, nothing is printed, and the failure's line goes
+-- to standard error; the status is 4 for out of memory, else 3. A job with a socket is done with
+-- the one that was bound to its path; if it could not be bound, the same holds. The status is 0
+-- only if the path of that socket was removed. A job with neither is done with empty files.
 pub data Opened {A M R S O E : Type 0} (remaining : R → Option (List ℕ))
     (contents : O → Option (List ℕ)) (said : E → Option (List ℕ))
     (finds : List ℕ → Result (Vec (String A) M) Error → Type 0)
@@ -126,7 +126,8 @@ pub data Opened {A M R S O E : Type 0} (remaining : R → Option (List ℕ))
       → IsSocketFailure (error_kind why) failure → status ≡ status_of failure
       → out' ≡ out → AppendsFront (said err) (said err') (failure_line failure)
       → Opened remaining contents said finds opens binds removes job out out' err err' status
-  alone : (sources : List Source) (known : Option (List ℕ)) → (ReadsFile job → ⊥) → (BindsSocket job → ⊥)
+  alone : (sources : List Source) (known : Option (List ℕ))
+      → (ReadsFile job → ⊥) → (BindsSocket job → ⊥)
       → Acted contents said job sources known out out' err err' status
       → Opened remaining contents said finds opens binds removes job out out' err err' status
 

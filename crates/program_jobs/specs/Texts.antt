@@ -53,8 +53,8 @@ pub data AreRead : List Source → List NamedText → Type 0 where
       → AreRead sources texts → IsTextOf source text
       → AreRead (sources ++ source ∷ []) (texts ++ text ∷ [])
 
--- The texts joined. Between each two is a line feed, so the last line of a text and the first of the
--- next are two lines, even if the first text does not end with a line feed.
+-- The texts joined. Between every two texts is a line feed, so the last line of a text and the
+-- first line of the next are two lines, even if the first text does not end with a line feed.
 abbrev pub as_one : List NamedText → List ℕ
 as_one [] = []
 as_one (text ∷ texts) = text.bytes ++ flat_map (λ (next : NamedText). 10 ∷ next.bytes) texts
@@ -66,8 +66,8 @@ is_line_feed byte = nat_eq byte 10
 abbrev pub lines_in : List ℕ → ℕ
 lines_in bytes = count_by is_line_feed bytes + 1
 
--- which file a line of the joined text is from, and which line of that file it is; lines are counted
--- from 1
+-- which file a line of the joined text is from, and which line of that file it is; lines are
+-- counted from 1
 abbrev pub own_line : List NamedText → ℕ → List ℕ × ℕ
 own_line [] line = ([], line)
 own_line (text ∷ texts) line =

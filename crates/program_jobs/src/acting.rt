@@ -153,7 +153,7 @@ fn output<'a, 'b, A: Allocator, T: Read + Drop, R: Read>(
     }
 }
 
-/// Writes a hint to `err`, which is standard error, if there is one. If `err` fails, nothing more is
+/// Writes a hint to `err` (standard error), if there is one. If `err` fails, nothing more is
 /// written.
 fn say<E: Write>(err: &mut E, hint: &[u8])
     ensures { IsHinted E.contents hint.now err.old err.new }
@@ -163,7 +163,7 @@ fn say<E: Write>(err: &mut E, hint: &[u8])
     }
 }
 
-/// Writes what a job prints to `out` and then its hint to `err`, or its failure to `err`, and returns
+/// Writes what a job prints to `out` and then its hint to `err`, or its failure to `err`. Returns
 /// the exit status.
 pub(crate) fn finish<A: Allocator, O: Write, E: Write>(
     output: Result<Printed<A>, Failure<'_>>,

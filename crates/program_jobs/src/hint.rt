@@ -1,4 +1,4 @@
-//! What standard error says after a verdict on a bind that the tables do not know.
+//! The line on standard error after a verdict on a bind that the tables do not know.
 ghost use Rattle.std.specs.Prelude.{◌≡◌, ◌++◌, List, IfOk, OnOk, option_map};
 ghost use Rattle.std.specs.List.{list_all};
 ghost use Rattle.wl_wire.specs.Reading.{seen};
@@ -32,7 +32,7 @@ struct Bound<'a> {
 }
 
 /// The line for standard error after the verdict on a recording with this text. It is empty unless
-/// the message that breaks a rule is a bind of an interface that the tables lack, or have only in an
+/// the message that breaks a rule is a bind whose interface the tables lack, or have only in an
 /// earlier version.
 pub(crate) fn hint_on<A: Allocator + Clone>(
     alloc: A,
@@ -150,7 +150,8 @@ fn write_hint<A: Allocator>(
     bound: &Bound<'_>,
     known: Option<u32>,
 ) -> Result<(), AllocError>
-    ensures { OnOk result (out.new.items ≡ out.old.items ++ hint_text (seen_bound bound.now) known) }
+    ensures { OnOk result
+        (out.new.items ≡ out.old.items ++ hint_text (seen_bound bound.now) known) }
 {
     match known {
         None if is_name(bound.interface) => write_unknown(out, bound.interface),
@@ -178,7 +179,8 @@ fn write_newer<A: Allocator>(
     bound: &Bound<'_>,
     known: u32,
 ) -> Result<(), AllocError>
-    ensures { OnOk result (out.new.items ≡ out.old.items ++ newer_text (seen_bound bound.now) known) }
+    ensures { OnOk result
+        (out.new.items ≡ out.old.items ++ newer_text (seen_bound bound.now) known) }
 {
     let mut most = Buffer::new();
     let mut named = Buffer::new();

@@ -1,4 +1,5 @@
-//! A run of the whole program, with anything that opens files, and any writers.
+//! A run of the whole program, with any writers, and with anything that opens files and binds
+//! sockets.
 ghost use Rattle.std.specs.Prelude.{◌≡◌, IfOk, IfErr, map, string_bytes};
 ghost use Rattle.std.specs.Fn.{FnOnceReturnsAt, FnReturnsAt};
 ghost use Rattle.std.specs.IoError.{error_kind};
@@ -37,8 +38,8 @@ impl Termination for ExitStatus {
 
 /// Does what the words of a command line ask for; the first word is the program's name.
 ///
-/// `finder` returns the names of the files with the table texts that a word names. `opener` opens the
-/// files that a job reads, all of them before one is read, and `binder` binds the socket of a job
+/// `finder` returns the names of the files with the table texts that a word names. `opener` opens
+/// the files that a job reads, all of them before one is read. `binder` binds the socket of a job
 /// that needs one. Help and the version are printed like a job's output.
 pub fn run<R, L, F, S, B, O, E>(
     alloc: Global,
@@ -60,8 +61,8 @@ where
     requires opens { F.IsAlwaysCallable opener }
     requires binds { B.IsAlwaysCallable binder }
     ensures { RunsWords words R.remaining O.contents E.contents (FnReturnsAt L.Fn finder)
-        (FnReturnsAt F.Fn opener) (FnOnceReturnsAt B.FnOnce binder) S.removes writers.old.out writers.new.out writers.old.err
-        writers.new.err result.status }
+        (FnReturnsAt F.Fn opener) (FnOnceReturnsAt B.FnOnce binder) S.removes
+        writers.old.out writers.new.out writers.old.err writers.new.err result.status }
 {
     let status = match words {
         Ok(words) => match job_of(alloc, words.as_slice()) {

@@ -6,7 +6,7 @@ use program_arguments::status;
 use std::alloc::{AllocError, Allocator};
 use wl_check::{Verdict, write_verdict};
 
-/// Appends the line of a verdict if a rule is broken, else nothing.
+/// Appends the line of a verdict if a rule is broken, otherwise nothing.
 pub fn write_broken<A: Allocator>(out: &mut Vec<u8, A>, verdict: &Verdict) -> Result<(), AllocError>
     ensures { OnOk result (out.new.items ≡ out.old.items ++ last_line verdict.now) }
 {

@@ -1,4 +1,4 @@
--- A session over two streams is one over what is known of them.
+-- What is played over two streams is played over what is known about them.
 use Rattle.std.proofs.Common.{List, ℕ, [], ◌∷◌, ap}
 use Rattle.wl_sigs.specs.Tables.{Interface}
 use Rattle.program_socket.specs.Streams.{KnownStream, Connected}

@@ -1,4 +1,4 @@
--- Parts of the session one after another.
+-- Consecutive parts of the session.
 use Rattle.std.proofs.Common.{◌≡◌, ◌∙◌, ℕ, Bool, true, List, [], ◌∷◌, ◌++◌, length, sym, ap, refl, subst, OnOk}
 use Rattle.std.specs.declared.result.Result.{Result}
 use Rattle.std.specs.declared.result.Result.TheVariants.{Ok, Err}
@@ -21,7 +21,7 @@ use Rattle.program_socket.specs.Streams.{KnownStream, Connected, Sends}
 use Rattle.program_socket.specs.Playing.{Accepts, SocketStep, Call, ClientTurn, ServerTurn, PlaysOver}
 use Rattle.program_socket.specs.Socket.{Ends}
 
--- parts, and then others
+-- two lists of parts, one after the other
 pub plays_on : {C S : Type 0} (c : KnownStream C) (s : KnownStream S) (parts others : List SocketStep)
     (first middle last : Connected C S)
     → PlaysOver c s parts first middle → PlaysOver c s others middle last → PlaysOver c s (parts ++ others) first last
@@ -38,7 +38,7 @@ pub plays_then : {C S X E : Type 0} (c : KnownStream C) (s : KnownStream S) (res
 plays_then c s (Ok x) parts others first middle last one two = plays_on c s parts others first middle last one two
 plays_then c s (Err e) parts others first middle last one two = tt
 
--- one call
+-- one call is a part
 pub plays_call : {C S : Type 0} (c : KnownStream C) (s : KnownStream S) (move other : Move) (first last : Connected C S)
     → move ≡ other → Accepts move first last → PlaysOver c s (Call other ∷ []) first last
 plays_call c s move other first last same a = (last, subst (λ (m : Move). Accepts m first last) same a, refl)
@@ -52,7 +52,7 @@ ends_call c s (Err e) move other first last same a = tt
 abbrev adds_global : ℕ → Iface → Move
 adds_global version iface = AddGlobal iface version
 
--- the interface that was found by its name
+-- an interface that was found by its name
 pub global_named : (named found : Iface) (version : ℕ) → named ≡ found
     → adds_global version found ≡ adds_global version named
 global_named named found version same = ap (adds_global version) (sym same)
@@ -134,7 +134,7 @@ server_turn c s (Err e) from from' to to' pieces pieces' writer writer' reader r
 
 -- ---- the end
 
--- both ends were found to agree
+-- the ends were found to have the same objects
 pub ends_agreeing : {C S : Type 0} (c : KnownStream C) (s : KnownStream S) (tables : List Interface) (client_stream : C)
     (server_stream : S) (pieces : List Piece) (agree : Bool) (objects : ℕ)
     → agree ≡ true → Ends c s tables client_stream server_stream pieces agree objects

@@ -1,4 +1,4 @@
--- What several flushes write is what waited, and a piece that is taken in whole is read.
+-- Several flushes together write what waited. A piece that is taken in whole is read.
 use Rattle.std.proofs.Common.{◌≡◌, ℕ, ◌+◌, ◌-◌, ◌≤◌, List, [], ◌∷◌, length, take, drop, Option}
 use Rattle.std.proofs.Common.{refl, sym, ap, subst, ◌∙◌, arith, length-append, length-drop, IfOk}
 use Rattle.std.proofs.Common.{OnOk}
@@ -25,14 +25,14 @@ none_of : (xs : List ℕ) → length xs ≤ 0 → xs ≡ []
 none_of [] h = refl
 none_of (x ∷ xs) h = absurd (omega (arith, h))
 
--- What was written so far of what waited at an end: the first bytes, without tokens.
+-- What several flushes have written of what waited at an end: its first bytes, without tokens.
 pub record Written {E : Type 0} (core : E → Core) (with_core : E → Core → E) (first : E) (held : Option (List ℕ))
     (count : ℕ) (end : E) (holds : Option (List ℕ)) : Type 0 where
   pub may : MayGo (core first).outbox count 0 count
   pub leaves : end ≡ with_core first (with_gone (core first) count)
   pub written : Appends held holds (take count (waiting_bytes (core first).outbox))
 
--- the core of what is left
+-- the core of the end after them
 core_left : {E : Type 0} (core : E → Core) (with_core : E → Core → E) → IsCoreOf core with_core
     → (first : E) (held : Option (List ℕ)) (count : ℕ) (end : E) (holds : Option (List ℕ))
     → Written core with_core first held count end holds → core end ≡ with_gone (core first) count
@@ -54,7 +54,7 @@ may_more o count n may there none =
       tokens_within = omega (arith, tokens, no_more, may.tokens_within);
     }
 
--- nothing yet
+-- no flush yet
 pub written_none : {E : Type 0} (core : E → Core) (with_core : E → Core → E) → IsCoreOf core with_core
     → (first : E) (held : Option (List ℕ)) → Written core with_core first held 0 first held
 written_none core with_core laws first held =
@@ -70,7 +70,7 @@ written_none core with_core laws first held =
       written = appends_nothing held;
     }
 
--- one flush more
+-- one more flush
 pub flushed : {E : Type 0} (core : E → Core) (with_core : E → Core → E) → IsCoreOf core with_core
     → (first : E) (held : Option (List ℕ)) (count : ℕ) (end : E) (holds : Option (List ℕ))
     (result : Result ℕ FlushError)
@@ -103,7 +103,7 @@ pub record WrittenAll {E : Type 0} (core : E → Core) (with_core : E → Core �
   pub as_many : count ≡ length (waiting_bytes (core first).outbox)
   pub others : end ≡ with_core first (core end)
 
--- nothing is left where the last flush was Ok
+-- if the last flush succeeded, everything was written
 pub flushed_all : {E : Type 0} (core : E → Core) (with_core : E → Core → E) → IsCoreOf core with_core
     → (first : E) (held : Option (List ℕ)) (count : ℕ) (end : E) (holds : Option (List ℕ))
     → Written core with_core first held count end holds → waiting_bytes (core end).outbox ≡ []
@@ -127,7 +127,7 @@ flushed_all core with_core laws first held count end holds w none =
       others = w.leaves ∙ ap (with_core first) (sym left);
     }
 
--- the last flush was Ok, and so many bytes can be counted
+-- the flushes succeeded and wrote everything, this number of bytes
 abbrev pub IsAll : {E X : Type 0} → (E → Core) → (E → Core → E) → E → Option (List ℕ) → Result ℕ X → E → Option (List ℕ)
     → Type 0
 IsAll core with_core first held result end holds =
@@ -160,7 +160,7 @@ pub all_others : {E X : Type 0} (core : E → Core) (with_core : E → Core → 
 all_others core with_core first held end holds (Ok count) w = w.others
 all_others core with_core first held end holds (Err why) w = tt
 
--- ---- what was given to an end is read
+-- ---- bytes given to an end are read
 
 abbrev pub not_read : ReadAll
 not_read = record { pieces = 0; part = no_room; stop = Some Failed }
@@ -176,7 +176,7 @@ reads_fed e laws fed end reports answer false f stop read failed =
     subst (λ s. Reads e s reports None end) (arrived_nothing e laws fed)
     (subst (λ (o : Option NextError). ReadsUntil e (with_arrivals e fed [] []) reports o end) stop (read f).reads)
 
--- all of it fits, and nothing stops the reading
+-- all of them fit, and nothing stops the reading
 pub delivered : {S R : Type 0} (e : Reading S R) → IsCoreOf e.core e.with_core
     → (state : S) (bytes : List ℕ) (n m : ℕ) (fed end : S) (reports : List R) (answer : ReadAll) → length bytes ≤ n
     → fed ≡ with_arrivals e state (take n bytes) (take m []) → answer.stop ≡ None

@@ -21,25 +21,25 @@ use Rattle.program_arguments.specs.Asking.{StopsWith, command_line, faulty, help
 use Rattle.program_arguments.specs.Asking.{no_memory, texts_of}
 use Rattle.program_arguments.proofs.job.job_of.Goals as goal
 
--- the kind of an error, among those that the words may have
+-- the kind of an error: memory, or one of the faults of the words
 abbrev MayHave : ErrorKind → List Text → Type 0
 MayHave kind words = (kind ≡ OutOfMemory) ⊎ IsAmong kind (fault_of command_line words)
 
--- help was asked for
+-- a stop for help: help was asked for
 help : (words : List Text) (stop : Stop) (kind : ErrorKind) → (kind ≡ OutOfMemory → ⊥) → IsHelp kind
     → MayHave kind words → Says 0 stop ⊎ IsOutOfMemory stop → Stops words stop
 help words stop kind other is (inl e) said = absurd (other e)
 help words stop kind other is (inr among) (inl says) = helps (kind, among, is) says
 help words stop kind other is (inr among) (inr none) = no_memory none
 
--- the words have a fault
+-- a stop for any other fault: the words have one
 usage : (words : List Text) (stop : Stop) (kind : ErrorKind) → (kind ≡ OutOfMemory → ⊥) → (IsHelp kind → ⊥)
     → MayHave kind words → Says 2 stop ⊎ IsOutOfMemory stop → Stops words stop
 usage words stop kind other unhelpful (inl e) said = absurd (other e)
 usage words stop kind other unhelpful (inr among) (inl says) = faulty (kind, among, unhelpful) says
 usage words stop kind other unhelpful (inr among) (inr none) = no_memory none
 
--- the stop for the kind of an error is one for the words
+-- a stop for the kind of an error is a stop for the words
 stops : (words : List Text) (stop : Stop) (kind : ErrorKind) → MayHave kind words → StopsFor kind stop
     → Stops words stop
 stops words stop OutOfMemory among is = no_memory is
@@ -61,11 +61,11 @@ stops words stop DisplayHelpOnMissingArgumentOrSubcommand among is =
 stops words stop Io among is = usage words stop Io (λ e. cc) (λ h. h) among is
 stops words stop Format among is = usage words stop Format (λ e. cc) (λ h. h) among is
 
--- what was parsed without a fault
+-- the words were parsed without a fault
 abbrev Parsed : List Text → Option Job → Type 0
 Parsed words = λ found. (fault_of command_line words ≡ []) × NamesJob (subcommand_of command_line words) found
 
--- the job that was parsed is asked for
+-- the words ask for the parsed job
 asked : (words : List Text) (parsed : Result (Option Job) Error) (result : Result Job Stop) → IfOk parsed (Parsed words)
     → IsAnswer parsed result → IfOk result (Asks words)
 asked words parsed (Err stop) found is = tt
@@ -74,7 +74,7 @@ asked words (Ok (Some job)) (Ok other) found is = let same : other ≡ job = cc 
 asked words (Ok None) (Ok other) found is = absurd is
 asked words (Err error) (Ok other) found is = absurd is
 
--- and what stops is why there is none
+-- a stop gives the reason why there is no job
 stopped : (words : List Text) (parsed : Result (Option Job) Error) (result : Result Job Stop)
     → IfOk parsed (Parsed words) → IfErr parsed (HasKind (fault_of command_line words)) → IsAnswer parsed result
     → IfErr result (Stops words)
@@ -83,12 +83,12 @@ stopped words (Ok (Some job)) (Err stop) found kind is = cc
 stopped words (Ok None) (Err stop) found kind is = names_none found is
 stopped words (Err error) (Err stop) found kind is = stops words stop (kind_of error) kind is
 
--- no kind is among none
+-- words without a fault have no kind of fault
 none_among : (words : List Text) (kind : ErrorKind) → IsAmong kind (fault_of command_line words)
     → fault_of command_line words ≡ [] → ⊥
 none_among words kind among e = subst (IsAmong kind) e among
 
--- where help alone is asked for
+-- words that only ask for help stop with status 0
 helped : (words : List Text) (stop : Stop) → AsksHelp words → (HasFault words → ⊥) → Stops words stop
     → Says 0 stop ⊎ IsOutOfMemory stop
 helped words stop asks sound (helps h says) = inl says
@@ -96,7 +96,7 @@ helped words stop asks sound (faulty f says) = absurd (sound f)
 helped words stop asks sound (names_none n says) = absurd (none_among words asks.0 asks.1 n.0)
 helped words stop asks sound (no_memory none) = inr none
 
--- where the words have a fault
+-- words that have a fault and do not ask for help stop with status 2
 refused : (words : List Text) (stop : Stop) → HasFault words → (AsksHelp words → ⊥) → Stops words stop
     → Says 2 stop ⊎ IsOutOfMemory stop
 refused words stop fault no_help (helps h says) = absurd (no_help h)
@@ -104,25 +104,25 @@ refused words stop fault no_help (faulty f says) = inl says
 refused words stop fault no_help (names_none n says) = inl says
 refused words stop fault no_help (no_memory none) = inr none
 
--- where they name no job
+-- words that name no job stop with status 2
 nothing : (words : List Text) (stop : Stop) → NamesNone words → Stops words stop → Says 2 stop ⊎ IsOutOfMemory stop
 nothing words stop names (helps h says) = absurd (none_among words h.0 h.1 names.0)
 nothing words stop names (faulty f says) = inl says
 nothing words stop names (names_none n says) = inl says
 nothing words stop names (no_memory none) = inr none
 
--- a job that names none is none
+-- words that name no job ask for none
 names_no_job : (words : List Text) (job : Job) → NamesNone words → Asks words job → ⊥
 names_no_job words job none asks = let named = asks.named in none.1 named.0 named.1 job named.2 named.3
 
--- and where they ask for one
+-- if the words ask for a job, the only stop is for lack of memory
 job_asked : (words : List Text) (stop : Stop) (job : Job) → Asks words job → Stops words stop → IsOutOfMemory stop
 job_asked words stop job asks (helps h says) = absurd (none_among words h.0 h.1 asks.faultless)
 job_asked words stop job asks (faulty f says) = absurd (none_among words f.0 f.1 asks.faultless)
 job_asked words stop job asks (names_none n says) = absurd (names_no_job words job n asks)
 job_asked words stop job asks (no_memory none) = none
 
--- the same of what is answered
+-- the same, for the result
 stops_with : (words : List Text) (status : ℕ) (result : Result Job Stop) → IfOk result (Asks words)
     → IfErr result (Stops words) → ((job : Job) → Asks words job → ⊥)
     → ((stop : Stop) → Stops words stop → Says status stop ⊎ IsOutOfMemory stop) → StopsWith status result

@@ -7,7 +7,7 @@ use Rattle.wl_message.specs.Cut.{IsLimit}
 use Rattle.program_arguments.specs.Asking.{IsLimitOf, IsNumber}
 use Rattle.program_arguments.proofs.job.limit_of.Goals as goal
 
--- the number that was given is one
+-- at most one number is given for the limit
 one_number : (rows : List Row) (n m : ℕ) → IsNumber (codes "limit") rows (Some n)
     → IsNumber (codes "limit") rows (Some m) → n ≡ m
 one_number rows n m a b =

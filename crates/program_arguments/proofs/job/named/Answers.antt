@@ -5,7 +5,7 @@ use Rattle.program_arguments.specs.declared.job.Job.TheVariants.{Trace, Check, D
 use Rattle.program_arguments.specs.Asking.{IsGiven, IsLimitOf}
 use Rattle.program_arguments.proofs.job.named.Goals as goal
 
--- the commands have names of their own
+-- the commands have different names
 trace_check : codes "trace" ≡ codes "check" → ⊥
 trace_check e = let first : 116 ≡ 99 = ap (λ (l : List ℕ). get_or l 0 0) e in omega (arith, first)
 
@@ -21,7 +21,7 @@ check_demo e = cc
 check_socket : codes "check" ≡ codes "socket" → ⊥
 check_socket e = cc
 
--- where a trace is given no limit, nothing is asked for
+-- a trace with an impossible limit is no job
 no_trace : (name : Text) (rows : List Row) → name ≡ codes "trace" → IsLimitOf rows None → (job : Job)
     → IsGiven name rows job → ⊥
 no_trace name rows e none (Trace tables limit file) g = none limit g.2
@@ -29,7 +29,7 @@ no_trace name rows e none (Check tables limit file) g = trace_check (sym e ∙ g
 no_trace name rows e none (Demo piece) g = trace_demo (sym e ∙ g.0)
 no_trace name rows e none (Socket path) g = trace_socket (sym e ∙ g.0)
 
--- and the same of a check
+-- neither is such a check
 no_check : (name : Text) (rows : List Row) → name ≡ codes "check" → IsLimitOf rows None → (job : Job)
     → IsGiven name rows job → ⊥
 no_check name rows e none (Trace tables limit file) g = trace_check (sym g.0 ∙ e)

@@ -6,7 +6,7 @@ use Rattle.clap.proofs.WalkLemmas.{one_text-rows}
 use Rattle.program_arguments.specs.Asking.{IsNumber, SpellsU32}
 use Rattle.program_arguments.proofs.job.number_of.Goals as goal
 
--- what a text reads as
+-- the number that a text is parsed as
 read : (E : Type 0) (G : List ℕ → Result ℕ E → Type 0) (name : Text) (rows : List Row) (digits : Text) (r : Option ℕ)
     → one_of name rows ≡ Some digits
     → ((u : List ℕ) (x : Result ℕ E) → G u x → ParsesUnsigned 32 10 u x) → ReadsOne G digits r → IsNumber name rows r

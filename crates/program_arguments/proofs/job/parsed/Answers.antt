@@ -4,7 +4,7 @@ use Rattle.clap.proofs.OnLiterals.{clap_on_literals}
 use Rattle.program_arguments.specs.Asking.{NamesJob, command_line, texts_of}
 use Rattle.program_arguments.proofs.job.parsed.Goals as goal
 
--- the command line is one of which the parser says all
+-- the command line is of the kind that the parser's contracts cover completely
 whole : is_simple_and_free command_line ≡ true
 unfolding clap_on_literals
 whole = refl

@@ -6,7 +6,7 @@ use Rattle.program_demo.specs.Session.{each_once, to_server, to_client}
 use Rattle.program_demo.proofs.Runs.{plays_on, plays_then, plays_these}
 use Rattle.program_demo.proofs.playing.play.Goals as goal
 
--- the parts are one session
+-- the parts together are the session
 pub returns : goal.returns
 returns g c =
     let start = c.args.pair.now in

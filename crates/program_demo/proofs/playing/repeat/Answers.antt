@@ -8,7 +8,7 @@ use Rattle.program_demo.proofs.playing.repeat.Goals as goal
 pub again-init : goal.again-init
 again-init g c = λ last more. more
 
--- it was the last
+-- this was the last repetition
 pub returns-then-not-do_something : goal.returns-then-not-do_something
 returns-then-not-do_something g c =
     let move : c.deref.result.now ≡ c.args.action ∷ [] = c.deref.ensures.value ∙ c.in_ok-moves.ensures in

@@ -6,7 +6,7 @@ use Rattle.program_demo.specs.Playing.{Plays}
 use Rattle.program_demo.proofs.LessIsLeft.{left_for}
 use Rattle.program_demo.proofs.playing.repeat.Given as goal
 
--- what is still to be played goes on from here
+-- what repetition still does completes it
 abbrev pub invariant-again : goal.invariant-again
 invariant-again g l = (last : PairState) → Plays (Until (move_of l.fn.action) ∷ []) l.pair last
     → Plays (Until (move_of l.fn.action) ∷ []) l.fn.pair last

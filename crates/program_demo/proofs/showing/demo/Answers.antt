@@ -8,7 +8,7 @@ use Rattle.program_demo.specs.Moves.{sizes}
 use Rattle.program_demo.proofs.Shown.{shown_from_new}
 use Rattle.program_demo.proofs.showing.demo.Goals as goal
 
--- sizes of this limit, and else those of the demonstration
+-- the queues of the demonstration, with this limit
 abbrev sizes_by : Limit → Sizes
 sizes_by limit = record sizes { limit = limit }
 

@@ -5,7 +5,7 @@ pub returns-clause-acted : goal.returns-clause-acted
 returns-clause-acted g c = c.finish.ensures.acted c.args.job.now (sources_of g.T.Read.remaining c.args.tables.items)
     (g.R.Read.remaining c.args.file.now) c.output.ensures.done c.output.ensures.refused
 
--- where there is an output, no line is bad
+-- with a bad line there is no output
 pub returns-clause-bad : goal.returns-clause-bad
 returns-clause-bad g c = λ text n known bad reads. c.finish.ensures.refused
     (c.output.ensures.bad text n known bad reads)

@@ -1,7 +1,7 @@
 use Rattle.std.proofs.Common.{rules, inl, inr}
 use Rattle.program_jobs.proofs.acting.checked.Goals as goal
 
--- the hint is that of the pieces which the text records
+-- the hint is about the pieces that the text records
 pub returns-clause-line : goal.returns-clause-line
 returns-clause-line g c =
     let told = c.in_ok-verdict.ensures.told in
@@ -15,6 +15,6 @@ returns-clause-line g c =
       status_is = search rules;
     }
 
--- what was read has no bad line
+-- a text with a verdict has no bad line
 pub returns-clause-bad : goal.returns-clause-bad
 returns-clause-bad g c = λ n bad. elim (c.in_ok-verdict.ensures.first n bad) [ inl e ↦ cc e | inr e ↦ cc e ]

@@ -3,11 +3,11 @@ use Rattle.std.proofs.Common.{length, take, ap, ◌∙◌, arith}
 use Rattle.std.proofs.lemmas.Grind.{common_steps}
 use Rattle.program_jobs.proofs.acting.contents.Goals as goal
 
--- a beginning that is shorter than its limit is the whole
+-- a prefix shorter than its limit is the whole
 whole_taken : (limit : ℕ) (all : List ℕ) → length (take limit all) < limit → take limit all ≡ all
 whole_taken limit all short = grind (arith, common_steps)
 
--- what was read where fewer bytes came than were asked for
+-- if fewer bytes came than were asked for, all were read
 all_read : (known : Option (List ℕ)) (limit : ℕ) (before got : List ℕ)
     → IfSome (option_map (take limit) known) (λ xs. got ≡ before ++ xs) → before ≡ [] → length got < limit
     → IfSome known (λ all. got ≡ all)

@@ -4,7 +4,7 @@ use Rattle.program_jobs.specs.Output.{IsHinted, printed, refused, not_taken}
 use Rattle.program_jobs.specs.Writing.{AppendsFront}
 use Rattle.program_jobs.proofs.acting.finish.Goals as goal
 
--- all was written
+-- the output was written whole
 pub returns-in-Ok-write_through-clause-acted : goal.returns-in-Ok-write_through-clause-acted
 returns-in-Ok-write_through-clause-acted g c = λ job sources known done refuses.
     let written = subst (λ (bytes : List ℕ). Appends (g.O.Write.contents c.args.writers.now.out)
@@ -14,7 +14,7 @@ returns-in-Ok-write_through-clause-acted g c = λ job sources known done refuses
     c.deref-in-Ok-write_through.ensures.value c.say.ensures in
     printed c.in-Ok.output.text.items c.in-Ok.output.hint.items (rw c.in-Ok.is at done) written hinted
 
--- it was made, and not taken
+-- the output was complete, and was not taken whole
 pub returns-in-Ok-clause-acted : goal.returns-in-Ok-clause-acted
 returns-in-Ok-clause-acted g c = λ job sources known done refuses.
     let front = subst (λ (bytes : List ℕ). AppendsFront (g.O.Write.contents c.args.writers.now.out)
@@ -22,7 +22,7 @@ returns-in-Ok-clause-acted g c = λ job sources known done refuses.
     not_taken c.in-Ok.output.text.items c.in-Ok.output.hint.items c.in-Ok.output.status (search rules)
     (rw c.in-Ok.is at done) front c.report.ensures.said
 
--- there is none
+-- there is no output
 pub returns-clause-acted : goal.returns-clause-acted
 returns-clause-acted g c = λ job sources known done refuses. refused c.in-Err.failure (search rules)
     (rw c.in-Err.is at refuses) refl c.report-in-Err.ensures.said

@@ -1,7 +1,7 @@
 use Rattle.std.proofs.Common.{rules, inl, inr}
 use Rattle.program_jobs.proofs.acting.traced.Goals as goal
 
--- the hint is that of the pieces which the text records
+-- the hint is about the pieces that the text records
 pub returns-clause-lines : goal.returns-clause-lines
 returns-clause-lines g c =
     let told = c.in_ok-lines.ensures.told in
@@ -15,6 +15,6 @@ returns-clause-lines g c =
       status_is = search rules;
     }
 
--- what was read has no bad line
+-- a text with a trace has no bad line
 pub returns-clause-bad : goal.returns-clause-bad
 returns-clause-bad g c = λ n bad. elim (c.in_ok-lines.ensures.first n bad) [ inl e ↦ cc e | inr e ↦ cc e ]

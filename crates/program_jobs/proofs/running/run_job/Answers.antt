@@ -13,7 +13,7 @@ use Rattle.program_jobs.specs.Texts.{Source}
 use Rattle.program_jobs.specs.Running.{files, bound, not_bound, alone}
 use Rattle.program_jobs.proofs.running.run_job.Goals as goal
 
--- why a session over a socket prints nothing is why the job prints nothing
+-- a session over a socket that prints nothing gives the job's reason
 socket_refused : (job : Job) (sources : List Source) (known : Option (List ℕ)) (why : Failure) → BindsSocket job
     → IsSocketRefusal why → IsRefused job sources known why
 socket_refused job sources known SocketFailed binds is = binds
@@ -34,12 +34,12 @@ removed_where_fine (Err why) status removed other is refused fine = elim (refuse
   | inr four ↦ absurd (omega (arith, four, fine))
 ]
 
--- a demonstration reads nothing, and binds nothing
+-- a demonstration reads no file and binds no socket
 pub returns-in-Demo : goal.returns-in-Demo
 returns-in-Demo g c = alone _ _ (λ reads. subst (λ (job : Job). ReadsFile job) c.in-Demo.is reads)
     (λ binds. subst (λ (job : Job). BindsSocket job) c.in-Demo.is binds) c.act.ensures.acted
 
--- the files that the job names
+-- a trace or a check reads the files that it names
 pub returns-in-Trace : goal.returns-in-Trace
 returns-in-Trace g c =
     let names : NamesFile c.args.job.now (string_bytes c.in-Trace.name) = elim c.in-Trace.is [
@@ -52,7 +52,7 @@ returns-in-Trace g c =
     ] in
     files (string_bytes c.in-Trace.name) names (rw words at c.run_over_files.ensures)
 
--- the session over the socket that was bound
+-- a socket job plays its session over the socket that was bound
 pub returns-in-Ok : goal.returns-in-Ok
 returns-in-Ok g c =
     let job_is = sym c.in-Socket.is in

@@ -5,7 +5,7 @@ use Rattle.program_socket.specs.Socket.{IsShownOverStreams}
 use Rattle.program_socket.proofs.Known.{shown_over_streams}
 use Rattle.program_jobs.proofs.socket.play_session.Goals as goal
 
--- what was shown over the two streams, as of what is known of them
+-- what the session over the two streams shows
 pub returns-clause-shows : goal.returns-clause-shows
 returns-clause-shows g c =
     let stream = known_stream g.B.Stream.Read.remaining g.B.Stream.Write.contents in

@@ -16,7 +16,7 @@ pub files-preserved : goal.files-preserved
 files-preserved g c = read_more g.T.Read.remaining c.files.yielded c.files.texts.items c.push.new.self.items
     c.in-Some.file c.in_ok-read_one.field-0 c.files.invariant c.in_ok-read_one.ensures.read c.in_ok-push.ensures.items
 
--- the file that could not be read is one of them
+-- the file that could not be read is one of the job's
 pub returns-in_err-read_one-clause-refused : goal.returns-in_err-read_one-clause-refused
 returns-in_err-read_one-clause-refused g c = λ given.
     let turn = YieldsList-turn (YieldsList-from_vec {s = c.into_iter-file-iterator.result} c.args.files.items

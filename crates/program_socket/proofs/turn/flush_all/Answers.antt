@@ -9,7 +9,7 @@ pub tries-init : goal.tries-init
 tries-init g c = written_none g.E.End.core g.E.End.with_core g.met.E.End.laws c.args.end.now
     (g.W.Write.contents c.args.writer.now)
 
--- the last flush was Ok
+-- the last flush succeeded
 pub returns-in-Ok-clause-sends : goal.returns-in-Ok-clause-sends
 returns-in-Ok-clause-sends g c =
     let core = g.E.End.core in
@@ -44,7 +44,7 @@ returns-in-Ok-clause-count g c =
     (counts_all core with_core first held (c.tries.count + c.in-Ok.written) end holds c.counted.result
     c.counted.ensures all)
 
--- one more is to be tried
+-- another flush is tried
 pub tries-preserved : goal.tries-preserved
 tries-preserved g c =
     let core = g.E.End.core in

@@ -9,7 +9,7 @@ use Rattle.wl_server.specs.State as server
 use Rattle.program_demo.specs.Moves.{sizes}
 use Rattle.program_socket.proofs.session.Session.new.Goals as goal
 
--- sizes of this limit, and else those of the session
+-- the queues of the session, with this limit
 abbrev sizes_by : Limit → Sizes
 sizes_by limit = record sizes { limit = limit }
 
