@@ -1,4 +1,4 @@
--- A call of `is_refused`: what it is handed, and what its caller has of it. Assumes `Logic`.
+-- A call of `is_refused`: what it gets, and what its caller then knows about it. Assumes `Logic`.
 use Rattle.std.proofs.Common.{◌≡◌, ℕ, List, [], ◌∷◌, refl, ap, Bool}
 use seplogic.Ra.Ura.{Ura}
 use mir.Val.{Val, vbool, vptr}
@@ -31,7 +31,7 @@ module _ {M : Type 1} {𝓤 : Ura M} (𝓛 : Logic 𝓤) (at_mem : Memory → SP
   abbrev pub Asked : Contract 𝓤
   Asked = triple_of 𝓛 call.signature (call.spec 𝓛 at_mem run)
 
-  -- the call that is lent the plan `x` at `c`
+  -- a call that borrows the plan `x` at `c`
   abbrev pub at_asked : Lft → Share → Shared.Denot → ℕ × ℕ → Asked.Ghost
   at_asked κ q x c = (((κ, tt), (q, tt), tt, (record { ref_ptr = c; now = x }, tt), (vptr c.0 c.1 ∷ [], tt)), tt)
 

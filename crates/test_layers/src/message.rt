@@ -94,7 +94,7 @@ fn a_size_that_no_message_has_is_told_with_its_header(rt: HostRuntime) {
     assert!(rt; tells_bad_sizes(rt.alloc()));
 }
 
-/// Whether exactly the numbers of bytes of limits make a limit.
+/// Whether a limit is made from each allowed number of bytes, and from no other.
 fn makes_the_limits() -> bool {
     for bytes in 0..70_000 {
         let is_limit = 4096 <= bytes && bytes <= 65_532 && bytes % 4 == 0;
@@ -327,7 +327,7 @@ fn fits_a_full_outbox(outbox: &mut Outbox<Global>) -> bool
         && outbox.room() == 12
 }
 
-/// Whether an ordinary message then follows the rest of it, and no other fits.
+/// Whether one ordinary message then fits after the rest of it, and no other.
 fn goes_behind(outbox: &mut Outbox<Global>) -> bool
     requires { outbox.old.has_error ≡ false }
 {
@@ -392,7 +392,7 @@ fn outboxes_are_refused(memory: &RefusingAllocator) -> Result<bool, AllocError> 
     Ok(all)
 }
 
-/// Whether each of the six allocations of an inbox is.
+/// The same for each of the six allocations of an inbox.
 fn inboxes_are_refused(memory: &RefusingAllocator) -> Result<bool, AllocError> {
     let mut all = true;
     for number in 0u64..7 {

@@ -6,9 +6,8 @@ use std::alloc::Global;
 use std::test::Fail;
 use wl_message::{Fed, Inbox, Limit, Outbox, Taken};
 
-/// How many messages are pushed. Besides those that wait at the end, more come out than the larger
-/// ring has places, 4163, so they begin at each place: neither 2 nor 3 divides the number of
-/// places.
+/// How many messages are pushed. More of them come out than the larger ring has places (4163). So
+/// they begin at every place, because the number of places is divisible by neither 2 nor 3.
 const ROUNDS: u16 = 4700;
 
 /// Messages that pass through a queue.
@@ -212,8 +211,8 @@ fn messages_pass_an_outbox_with_its_seam_at_each_place(rt: HostRuntime) -> Resul
 /// The length of the longest message with the greatest limit, in bytes.
 const LONGEST: usize = 65_532;
 
-/// How often it passes through a slightly larger ring. It begins at each place, because each time
-/// it begins one place, or 65, before its last beginning: 65 and 65,597 have no common divisor.
+/// How often it passes through a slightly larger ring. Each time it begins 1 or 65 places before
+/// its last beginning. So it begins at every place, because 65 and 65,597 have no common divisor.
 const LONG_ROUNDS: u32 = 65_597;
 
 /// Whether one message comes out of an inbox each time as it went in.

@@ -205,8 +205,8 @@ fn are_made(alloc: Global, memory: RefusingAllocator) -> bool {
     }
 }
 
-/// Whether making the tables is refused, for lack of memory, if the allocation with this number is,
-/// and the same call with memory returns the tables; if there is no such allocation, whether the
+/// If there is an allocation with this number: whether making the tables is out of memory when it
+/// is refused, and returns the tables when it is repeated with memory. Otherwise: whether the
 /// tables are made.
 fn is_made_at_last(
     alloc: Global,

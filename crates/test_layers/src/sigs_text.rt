@@ -365,9 +365,8 @@ fn the_largest_text_is_read(rt: HostRuntime) -> Result<(), Fail> {
     Ok(())
 }
 
-/// Whether reading is refused, for lack of memory, if the allocation with this number is, and the
-/// same call with memory returns the tables; if there is no such allocation, whether the tables are
-/// read.
+/// If there is an allocation with this number: whether reading is out of memory when it is refused,
+/// and returns the tables when it is repeated with memory. Otherwise: whether the tables are read.
 fn is_read_at_last(
     alloc: Global,
     memory: &RefusingAllocator,

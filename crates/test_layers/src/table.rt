@@ -197,9 +197,9 @@ fn opens_downwards<T: Table>(table: &mut T, limit: u32, in_use: u32) -> bool {
     true
 }
 
-/// Whether all ids can be used, and a freed one is the next; and, if many are freed, an object is
-/// opened in their middle, and the others follow in order. A full table still opens one in place of
-/// another.
+/// Whether all ids can be used, and a freed one is used next. If many are freed, one in their
+/// middle can be opened, and the others then follow in order. A full table can still replace an
+/// object.
 fn fills_up<T: Table>(table: &mut T) -> bool {
     opens_below(table, 1_048_577)
         && is_full(table)
@@ -254,7 +254,7 @@ fn filled<T: Table<Alloc = RefusingAllocator> + Drop>(
     }
 }
 
-/// The object that an opening then gives, at its id if it is to be named.
+/// The object that the next opening returns; `named` says whether the opening names its id.
 fn next_object(objects: u32, named: bool) -> Object
     requires { objects < 100 }
 {
@@ -269,7 +269,7 @@ fn next_object(objects: u32, named: bool) -> Object
     }
 }
 
-/// Opens one more, at its id if it is to be named.
+/// Opens one more object; `named` says whether the opening names its id.
 fn open<T: Table>(table: &mut T, id: u32, named: bool) -> Result<Object, TableError> {
     if named {
         table.open_at(id, CALLBACK, 1)
@@ -346,8 +346,8 @@ fn is_made<T: Table<Alloc = RefusingAllocator> + Drop>(
     Ok(T::new(alloc, DISPLAY).is_ok())
 }
 
-/// Whether making a table is refused if and only if one of its allocations is, and finally
-/// succeeds.
+/// Whether making a table is refused if and only if one of its allocations is, and succeeds in the
+/// end.
 fn is_made_in_the_end<T: Table<Alloc = RefusingAllocator> + Drop>(
     memory: &RefusingAllocator,
 ) -> Result<bool, AllocError> {

@@ -8,13 +8,13 @@ use wl_object_map::FIRST_SERVER_ID;
 use wl_objects::{Arg, GotRef, Named, Object};
 use wl_twins::Twins;
 
-/// Object number 1 of those that a client makes, at the proxy's server.
+/// The first object that a client makes, at the proxy's server.
 const BY_CLIENT: Object = Object { id: 2, birth: 1 };
 
 /// Its twin at the proxy's client, which has made another object before.
 const BY_CLIENT_THERE: Object = Object { id: 3, birth: 2 };
 
-/// Object number 2 of those that the compositor makes, at the proxy's client.
+/// The second object that the compositor makes, at the proxy's client.
 const BY_SERVER_THERE: Object = Object {
     id: FIRST_SERVER_ID + 1,
     birth: 2,
@@ -88,7 +88,7 @@ fn forwards<A: Allocator + Clone + Drop>(twins: &Twins<A>) -> bool {
         && twins.request_arg(event).is_none()
 }
 
-/// Whether the second pair is refused if and only if this allocation of it is, the first one stays,
+/// Whether a second pair is refused if and only if this allocation is. The first pair must stay,
 /// and with memory both are twins.
 fn is_refused_rightly(
     memory: &RefusingAllocator,

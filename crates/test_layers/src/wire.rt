@@ -99,7 +99,7 @@ fn tells_faults_of_strings(alloc: Global) -> bool {
         && has_fault(alloc, text, b"\0\0\0\0", ArgFault::NullNotAllowed)
 }
 
-/// Whether those of a non-null object and of a word are.
+/// The same for the faults of a non-null object and of a word.
 fn tells_faults_of_words(alloc: Global) -> bool {
     let object = Kind::Obj {
         null: false,

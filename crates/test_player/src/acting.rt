@@ -1,4 +1,4 @@
-//! Moves that are made at an end or at a pair, and their replies as text.
+//! Making moves at an end or at a pair, and writing their replies as text.
 
 use crate::moves::{arguments_of, lend, read_move};
 use crate::names::Names;
@@ -13,8 +13,7 @@ use wl_objects::Table;
 use wl_session::{Move, Pair, Reply};
 use wl_sigs::Tables;
 
-/// What is needed to read moves and to write about them: the tables, and the objects that were
-/// seen.
+/// What is needed to read moves and to write about them: the tables, and the objects seen so far.
 #[derive(Drop)]
 pub struct Actor<'a> {
     pub alloc: Global,
@@ -23,7 +22,7 @@ pub struct Actor<'a> {
 }
 
 impl<'a> Actor<'a> {
-    /// One that has seen wl_display alone.
+    /// An actor that has seen only wl_display.
     pub fn new(alloc: Global, tables: &'a Tables) -> Result<Actor<'a>, AllocError> {
         Ok(Actor {
             alloc,
@@ -32,7 +31,7 @@ impl<'a> Actor<'a> {
         })
     }
 
-    /// What writes replies and reports.
+    /// The writer of replies and reports.
     pub fn teller(&self) -> Teller<'_> {
         Teller {
             tables: self.tables,
@@ -40,8 +39,8 @@ impl<'a> Actor<'a> {
         }
     }
 
-    /// Makes the call of a verb and the words after it at an end, and appends its reply. True if
-    /// the verb is a move's.
+    /// Makes the call that a verb and the words after it describe at an end, and appends its reply.
+    /// Returns false if the verb names no move.
     pub fn act<E: Playable>(
         &mut self,
         end: &mut E,
@@ -71,8 +70,8 @@ impl<'a> Actor<'a> {
         }
     }
 
-    /// Makes the bind of these words at an end, of a global that need not have been announced, and
-    /// appends its reply.
+    /// Makes the bind that these words describe at an end, even for a global that was not
+    /// announced, and appends its reply.
     pub fn bind_unannounced<E: Playable>(
         &mut self,
         end: &mut E,
@@ -102,8 +101,8 @@ impl<'a> Actor<'a> {
         Ok(self.teller().write_reply(reply, answer)?)
     }
 
-    /// Makes the move of these words at a pair, whose moves have this memory, and appends its
-    /// reply. True if the words are a move's.
+    /// Makes the move that these words describe at a pair whose moves use this memory, and appends
+    /// its reply. Returns false if the words are no move.
     pub fn run<T: Table>(
         &mut self,
         pair: &mut Pair<'_, T>,
@@ -132,8 +131,8 @@ impl<'a> Actor<'a> {
         }
     }
 
-    /// Makes the move of these words this many times in one run at a pair. Appends the number of
-    /// replies, and each reply; equal ones in a row are one line.
+    /// Makes the move that these words describe this many times in one run at a pair. Appends the
+    /// number of replies, and each reply; equal consecutive replies share a line.
     pub fn run_many<T: Table>(
         &mut self,
         pair: &mut Pair<'_, T>,
@@ -176,7 +175,7 @@ impl<'a> Actor<'a> {
     }
 }
 
-/// Appends this many moves of these words, or none if the words are no move's.
+/// Appends this many copies of the move that these words describe; none if they are no move.
 fn read_moves<A: Allocator + Clone + Drop>(
     alloc: &A,
     tables: &Tables,

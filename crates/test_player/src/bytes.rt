@@ -1,17 +1,17 @@
-//! Bytes and tokens in a scene.
+//! Reading and writing the bytes and tokens of a scene.
 
 use crate::trouble::Trouble;
 use std::alloc::{AllocError, Allocator, Global};
 use std::fmt::Write;
 
-/// Bytes and tokens that come together.
+/// Bytes and tokens that arrive together.
 #[derive(Drop)]
 pub struct Chunk {
     pub bytes: Vec<u8>,
     pub tokens: Vec<u32>,
 }
 
-/// The bytes of some words and the tokens of those that begin with `+`.
+/// The bytes in some words, and the tokens in those words that begin with `+`.
 pub fn read_chunk(alloc: Global, words: &str) -> Result<Chunk, Trouble> {
     let mut chunk = Chunk {
         bytes: Vec::new(alloc),
@@ -21,7 +21,7 @@ pub fn read_chunk(alloc: Global, words: &str) -> Result<Chunk, Trouble> {
     Ok(chunk)
 }
 
-/// The same for words separated by a comma.
+/// The same for words separated by commas.
 pub fn read_chunks(alloc: Global, words: &str) -> Result<Vec<Chunk>, Trouble> {
     let mut chunks = Vec::new(alloc);
     if let Some(words) = words.trim().strip_prefix("bytewise ") {
@@ -35,7 +35,7 @@ pub fn read_chunks(alloc: Global, words: &str) -> Result<Vec<Chunk>, Trouble> {
     Ok(chunks)
 }
 
-/// Appends a chunk for each byte of some words.
+/// Appends one chunk for each byte in some words.
 fn put_alone(alloc: Global, chunks: &mut Vec<Chunk>, words: &str) -> Result<(), Trouble> {
     let whole = read_chunk(alloc, words)?;
     for byte in whole.bytes.chunks(1) {
@@ -56,7 +56,7 @@ fn put_words(chunk: &mut Chunk, words: &str) -> Result<(), Trouble> {
     Ok(())
 }
 
-/// Appends the tokens of a word such as `7`, or `21*7` for 21 of them.
+/// Appends the tokens in a word such as `7`, or `21*7` for 21 equal ones.
 fn put_tokens(tokens: &mut Vec<u32>, word: &str) -> Result<(), Trouble> {
     let (count, token) = word.split_once('*').unwrap_or(("1", word));
     let count = count.parse::<u32>()?;
@@ -67,9 +67,9 @@ fn put_tokens(tokens: &mut Vec<u32>, word: &str) -> Result<(), Trouble> {
     Ok(())
 }
 
-/// Appends the bytes of a word: hexadecimal digits; a text in double quotes; `-` for none;
+/// Appends the bytes in a word: hexadecimal digits; a text in double quotes; `-` for none;
 /// `800*WORD` for a word 800 times; `each:2..9:WORD` for a word followed by a number of 32 bits,
-/// from 2 to 8.
+/// once for each number from 2 to 8.
 pub fn put_bytes<A: Allocator + Clone + Drop>(
     bytes: &mut Vec<u8, A>,
     word: &str,
@@ -142,7 +142,7 @@ pub fn write_bytes(out: &mut String, bytes: &[u8]) -> Result<(), AllocError> {
     Ok(())
 }
 
-/// Appends bytes and tokens as a scene has them.
+/// Appends bytes and tokens as a scene writes them.
 pub fn write_chunk(out: &mut String, bytes: &[u8], tokens: &[u32]) -> Result<(), AllocError> {
     write_bytes(out, bytes)?;
     for token in tokens {
@@ -151,12 +151,12 @@ pub fn write_chunk(out: &mut String, bytes: &[u8], tokens: &[u32]) -> Result<(),
     Ok(())
 }
 
-/// Whether a quoted text shows a byte unchanged.
+/// Whether a quoted text shows this byte as it is.
 fn is_plain(byte: &u8) -> bool {
     *byte > 0x20 && *byte < 0x7f && *byte != b'"' && *byte != b','
 }
 
-/// Appends bytes as one word: in double quotes if all of them are plain, else as digits.
+/// Appends bytes as one word: in double quotes if all of them are plain, otherwise as digits.
 pub fn write_text(out: &mut String, bytes: &[u8]) -> Result<(), AllocError> {
     if !bytes.iter().all(is_plain) {
         for byte in bytes {

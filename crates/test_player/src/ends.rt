@@ -17,16 +17,16 @@ use wl_objects::{Maker, NextError, Object, Objects, State, Table};
 use wl_sigs::Tables;
 use wl_wire::Iface;
 
-/// An end, and what a scene has seen of it.
+/// An end, and what a scene knows about it.
 #[derive(Drop)]
 pub struct AtEnd<'a, E: Playable + Drop> {
     pub alloc: Global,
     pub tables: &'a Tables,
     pub end: E,
     pub actor: Actor<'a>,
-    /// What was read of pieces.
+    /// The reports of the pieces that were read.
     pub reports: Vec<E::Report, <E::Table as Table>::Alloc>,
-    /// How many pieces were taken by a reading that was refused memory.
+    /// How many pieces were taken by a read that then ran out of memory.
     pub pieces: usize,
 }
 
@@ -53,7 +53,7 @@ impl<'a, E: Playable + Drop> Stage for AtEnd<'a, E> {
 }
 
 impl<'a, E: Playable + Drop> AtEnd<'a, E> {
-    /// Makes a call that is no move.
+    /// Makes a call that is not a move.
     fn play_other(
         &mut self,
         verb: &str,
@@ -80,7 +80,7 @@ impl<'a, E: Playable + Drop> AtEnd<'a, E> {
         }
     }
 
-    /// Appends what one word asks for.
+    /// Appends the answer to a one-word question.
     fn query(&self, verb: &str, reply: &mut String) -> Result<(), AllocError> {
         match verb {
             "room" => {
@@ -101,7 +101,7 @@ impl<'a, E: Playable + Drop> AtEnd<'a, E> {
         Ok(write_amount(reply, fed.bytes, fed.tokens)?)
     }
 
-    /// Takes into slices of the lengths in the words, and appends what was taken, or how much.
+    /// Takes into slices of the lengths in the words, and appends what was taken, or only how much.
     fn take(
         &mut self,
         words: &mut Words<'_>,
@@ -119,7 +119,7 @@ impl<'a, E: Playable + Drop> AtEnd<'a, E> {
         Ok(write_chunk(reply, &bytes, &tokens)?)
     }
 
-    /// Reads pieces; after a reading of them that was refused memory, those that are left.
+    /// Reads pieces. If the last read of these pieces ran out of memory, reads the remaining ones.
     fn read(&mut self, words: &str, reply: &mut String) -> Result<(), Trouble> {
         let chunks = read_chunks(self.alloc, words)?;
         let pieces = pieces_of(self.alloc, &chunks)?;
@@ -138,8 +138,7 @@ impl<'a, E: Playable + Drop> AtEnd<'a, E> {
         Ok(write_end(reply, taken, end)?)
     }
 
-    /// Appends what was read of pieces, one a line; equal ones that follow one another are one
-    /// line.
+    /// Appends the reports of the pieces read, one a line; equal consecutive reports share a line.
     fn write_reports(&self, reply: &mut String) -> Result<(), AllocError> {
         write!(reply, "{} reports", self.reports.len())?;
         let mut lines = Repeated::nothing(self.alloc);
@@ -166,7 +165,7 @@ fn count_of<T: Table>(objects: &Objects<T>) -> u64 {
     u64::from(objects.len(Maker::Client)) + u64::from(objects.len(Maker::Server))
 }
 
-/// The pieces of these chunks.
+/// The pieces with the bytes and tokens of these chunks.
 fn pieces_of(alloc: Global, chunks: &[Chunk]) -> Result<Vec<Piece<'_>>, AllocError> {
     let mut pieces = Vec::new(alloc);
     for chunk in chunks {
@@ -178,7 +177,7 @@ fn pieces_of(alloc: Global, chunks: &[Chunk]) -> Result<Vec<Piece<'_>>, AllocErr
     Ok(pieces)
 }
 
-/// Appends how far a reading got, and why it stopped.
+/// Appends how far a read got, and why it stopped.
 fn write_end(reply: &mut String, pieces: usize, end: ReadAll) -> Result<(), AllocError> {
     write!(reply, "{pieces} pieces")?;
     if end.part.bytes > 0 || end.part.tokens > 0 {
@@ -216,13 +215,14 @@ fn write_live(
     write!(reply, " {version}")
 }
 
-/// Appends the objects of each range of ids: those with its first 200 ids, and how many there are.
+/// Appends the objects in both ranges of ids: those with the first 200 ids of a range, and how many
+/// there are.
 fn write_objects<T: Table>(text: &mut String, objects: &Objects<T>) -> Result<(), AllocError> {
     write_range(text, objects, Maker::Client, DISPLAY_ID)?;
     write_range(text, objects, Maker::Server, FIRST_SERVER_ID)
 }
 
-/// Appends the objects of a range that begins with this id.
+/// Appends the objects in the range that begins with this id.
 fn write_range<T: Table>(
     text: &mut String,
     objects: &Objects<T>,

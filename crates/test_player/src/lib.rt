@@ -1,9 +1,9 @@
-//! Scenes: calls of an end, of a pair or of a part of one, with the answer that each must give, as
+//! Scenes: calls of an end, of a pair or of a part of one, with the result that each must give, as
 //! text.
 //!
 //! This crate reads the text of scenes and of their calls, plays them at a client, a server, a pair
-//! or a recording, and says which results differ from what the scenes demand. The program
-//! `test_scenes` prints that. crates/test_scenes/README.md has the form.
+//! or a recording, and reports each result that differs from what the scene demands. The program
+//! `test_scenes` prints these reports. crates/test_scenes/README.md describes the form of a scene.
 #![tactic(auto)]
 
 mod acting;

@@ -1,23 +1,23 @@
-//! One call of a scene.
+//! One line of a scene: a call.
 
-/// How a call is given memory.
+/// How much memory a call gets.
 #[derive(Clone, Copy)]
 pub enum Memory {
-    /// It has all that it asks for.
+    /// As much as it asks for.
     Granted,
-    /// Each of its allocations is refused in turn; if a number is given, there are that many.
+    /// Each of its allocations is refused in turn. If a number is given, there must be that many.
     Refused(Option<u64>),
-    /// It asks for no memory.
+    /// It must not ask for any.
     Unasked,
 }
 
-/// A call, how often it is made, and the answer that it must give.
+/// A call, how often it is made, and the result that it must give.
 #[derive(Clone, Copy)]
 pub struct Line<'a> {
     pub times: u32,
     pub memory: Memory,
     pub call: &'a str,
-    /// The first line of the answer; `None` if it is left open.
+    /// The first line of the result; `None` if any result is right.
     pub wanted: Option<&'a str>,
 }
 
@@ -39,7 +39,7 @@ impl<'a> Line<'a> {
     }
 }
 
-/// What the front of a row says about memory, and the rest.
+/// What the beginning of a row says about memory, and the rest of the row.
 fn memory_of(row: &str) -> (Memory, &str) {
     match row.split_once(": ") {
         Some(("each refused", rest)) => (Memory::Refused(None), rest),
@@ -58,7 +58,7 @@ fn refusals_of(front: &str) -> Option<u64> {
     count.parse::<u64>().ok()
 }
 
-/// The number in front of ` times `, and the rest.
+/// The number before ` times `, and the rest.
 fn times_of(row: &str) -> (u32, &str) {
     match row.split_once(" times ") {
         Some((count, call)) => match count.parse::<u32>() {

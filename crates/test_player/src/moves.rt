@@ -1,4 +1,4 @@
-//! The moves of a scene.
+//! Reading the moves of a scene.
 
 use crate::bytes::put_bytes;
 use crate::trouble::Trouble;
@@ -9,7 +9,7 @@ use wl_session::{Move, SendArg};
 use wl_sigs::{Side, Tables};
 use wl_wire::{Fixed, Iface};
 
-/// The move that a verb and the words after it mean; `None` if the verb is no move's.
+/// The move that a verb and the words after it describe; `None` if the verb names no move.
 pub fn read_move<A: Allocator + Clone + Drop>(
     alloc: &A,
     tables: &Tables,
@@ -27,7 +27,7 @@ pub fn read_move<A: Allocator + Clone + Drop>(
     Ok(Some(action))
 }
 
-/// The moves of few words.
+/// The moves that take few words.
 fn read_short<A: Allocator>(verb: &str, words: &mut Words<'_>) -> Result<Option<Move<A>>, Trouble> {
     let action = match verb {
         "drop" => Move::ServerDrop {
@@ -116,7 +116,7 @@ fn iface_of(tables: &Tables, word: &str) -> Result<Iface, Trouble> {
     }
 }
 
-/// The interface and the opcode of a message such as `wl_surface.commit`, or, with its number,
+/// The interface and the opcode of a message such as `wl_surface.commit` or, by number,
 /// `wl_surface.6`.
 fn message_of(tables: &Tables, side: Side, word: &str) -> Result<(Iface, u16), Trouble> {
     let (iface, message) = word.split_once('.').ok_or(Trouble::Unreadable)?;
@@ -136,7 +136,7 @@ fn opcode_of(tables: &Tables, side: Side, iface: Iface, name: &[u8]) -> Option<u
     None
 }
 
-/// The arguments that the remaining words mean.
+/// The arguments that the remaining words describe.
 fn read_arguments<A: Allocator + Clone + Drop>(
     alloc: &A,
     words: &Words<'_>,
@@ -180,7 +180,7 @@ fn read_name<A: Allocator>(word: &str) -> Result<SendArg<A>, Trouble> {
     }
 }
 
-/// The bytes of a word.
+/// The bytes in a word.
 fn bytes_of<A: Allocator + Clone + Drop>(alloc: &A, word: &str) -> Result<Vec<u8, A>, Trouble> {
     let mut bytes = Vec::new(alloc.clone()?);
     put_bytes(&mut bytes, word)?;

@@ -9,8 +9,8 @@ use wl_session::{Move, Reply};
 use wl_sigs::{Side, Tables};
 use wl_wire::{Iface, Kind};
 
-/// The objects that a scene has seen, by their births in each range of ids, each with its
-/// interface. So a report can be written with the name of its message even if its object has ended.
+/// The objects that a scene has seen, by birth in each range of ids, with their interfaces. So the
+/// name of a reported message is known even after its object is gone.
 #[derive(Drop)]
 pub struct Names {
     of_client: BTreeMap<u64, Iface>,
@@ -18,7 +18,7 @@ pub struct Names {
 }
 
 impl Names {
-    /// wl_display alone.
+    /// Only wl_display.
     pub fn new(alloc: Global) -> Result<Names, AllocError> {
         let mut names = Names {
             of_client: BTreeMap::new(alloc),
@@ -49,7 +49,7 @@ impl Names {
         seen.get(&object.birth).copied()
     }
 
-    /// Adds the object that a move made.
+    /// Adds the object that a move has made.
     pub fn learn<A: Allocator, B: Allocator>(
         &mut self,
         tables: &Tables,
@@ -75,7 +75,7 @@ impl Names {
         }
     }
 
-    /// Adds the object that a message made.
+    /// Adds the object that a sent message has made.
     fn add_sent(
         &mut self,
         tables: &Tables,
@@ -109,7 +109,7 @@ impl Names {
         }
     }
 
-    /// Adds the object of a message that was read.
+    /// Adds the object made by a message that was read.
     pub fn add_read<A: Allocator>(
         &mut self,
         tables: &Tables,

@@ -15,7 +15,7 @@ use wl_recording::{Direction, Passed};
 use wl_session::{Pair, Verdict};
 use wl_sigs::Tables;
 
-/// A pair, and what a scene has seen of it.
+/// A pair, and what a scene knows about it.
 #[derive(Drop)]
 pub struct AtPair<'a, 't, T: Table + Drop> {
     pub alloc: Global,
@@ -24,7 +24,7 @@ pub struct AtPair<'a, 't, T: Table + Drop> {
     /// The limit of both ends.
     pub limit: Limit,
     pub actor: Actor<'a>,
-    /// The memory of the moves. It refuses none.
+    /// The memory for the moves. It never refuses.
     pub granting: T::Alloc,
 }
 
@@ -48,7 +48,7 @@ impl<'a, 't, T: Table + Drop> Stage for AtPair<'a, 't, T> {
 }
 
 impl<'a, 't, T: Table + Drop> AtPair<'a, 't, T> {
-    /// Appends what is wrong with what the pair recorded, up to the first error that was posted;
+    /// Appends what is wrong with the pair's recording up to the first error that was posted;
     /// nothing if it is lawful.
     pub fn judge(&self, wrong: &mut String) -> Result<(), AllocError> {
         let verdict = own_verdict(&self.granting, self.tables, &self.pair, self.limit)?;
@@ -69,7 +69,7 @@ impl<'a, 't, T: Table + Drop> AtPair<'a, 't, T> {
         self.query(verb, &mut words, reply)
     }
 
-    /// Repeats a move in one run: how often, and the call.
+    /// Makes a move several times in one run. The words give the number and the call.
     fn play_many(&mut self, words: &str, reply: &mut String) -> Result<(), Trouble> {
         let mut words = Words::of(words);
         let count = words.size()?;
@@ -78,7 +78,7 @@ impl<'a, 't, T: Table + Drop> AtPair<'a, 't, T> {
             .run_many(&mut self.pair, &self.granting, count, call, reply)
     }
 
-    /// Appends what the words ask for.
+    /// Appends the answer to a question.
     fn query(&self, verb: &str, words: &mut Words<'_>, reply: &mut String) -> Result<(), Trouble> {
         match verb {
             "text" => self.write_text(words.size()?, reply)?,

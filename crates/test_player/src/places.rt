@@ -1,4 +1,4 @@
-//! Where a scene is played: a client, a server, a pair or a recording.
+//! The places where a scene can play: a client, a server, a pair or a recording.
 ghost use Rattle.wl_message.specs.Arrived.{AreSizes};
 
 use crate::acting::Actor;
@@ -21,7 +21,7 @@ use wl_recording::Recording;
 use wl_server::Server;
 use wl_session::Pair;
 
-/// The sizes of an end's queues if a scene gives none.
+/// The sizes of an end's queues if a scene names none.
 const USUAL: Sizes = Sizes {
     out_bytes: 65_536,
     out_tokens: 64,
@@ -30,7 +30,7 @@ const USUAL: Sizes = Sizes {
     limit: Limit::USUAL,
 };
 
-/// Sizes that queues may have.
+/// Sizes that are allowed for queues.
 #[derive(Clone, Copy)]
 struct Queues {
     sizes: Sizes,
@@ -42,7 +42,7 @@ fn usual() -> Queues {
     Queues { sizes: USUAL }
 }
 
-/// Queues of these sizes, or trouble if no queues have them.
+/// Queues of these sizes; trouble if the sizes are not allowed.
 fn queues_of(sizes: Sizes) -> Result<Queues, Trouble> {
     if sizes.is_allowed() {
         Ok(Queues { sizes })
@@ -51,7 +51,7 @@ fn queues_of(sizes: Sizes) -> Result<Queues, Trouble> {
     }
 }
 
-/// The limit that a word gives in bytes, or trouble if it is no limit.
+/// The limit in a word, in bytes; trouble if there is no such limit.
 fn limit_of(words: &mut Words<'_>) -> Result<Limit, Trouble> {
     match Limit::new(words.number()?) {
         Some(limit) => Ok(limit),
@@ -59,8 +59,8 @@ fn limit_of(words: &mut Words<'_>) -> Result<Limit, Trouble> {
     }
 }
 
-/// The queues of some words: `out` and two numbers, `in` and two numbers, `limit` and a number, any
-/// of which may be missing.
+/// The queues that some words describe: `out` and two numbers, `in` and two numbers, `limit` and a
+/// number, each of which may be left out.
 fn read_queues(text: &str) -> Result<Queues, Trouble> {
     let mut sizes = USUAL;
     for part in text.split(',') {
@@ -81,7 +81,7 @@ fn read_queues(text: &str) -> Result<Queues, Trouble> {
     queues_of(sizes)
 }
 
-/// Plays a scene at its place, with an allocation refused.
+/// Plays a scene at its place; one allocation may be refused.
 pub fn play_at(
     props: Props<'_>,
     scene: &Scene<'_>,
@@ -104,8 +104,8 @@ pub fn play_at(
     }
 }
 
-/// Which allocation is refused when the client, server or pair of a scene is made; the scene's
-/// first row `begin` represents that.
+/// The allocation to refuse while the client, server or pair of a scene is made. The scene's first
+/// row, `begin`, stands for that.
 fn begins_refused(scene: &Scene<'_>, refusal: Option<Refusal>) -> Option<u64> {
     match refusal {
         Some(refusal) if refusal.row == 0 && begins(&scene.rows) => Some(refusal.number),
@@ -141,7 +141,7 @@ fn at_place(
     }
 }
 
-/// A scene whose place cannot be read.
+/// The result for a scene whose place cannot be read.
 fn nowhere(props: Props<'_>, scene: &Scene<'_>) -> Result<SceneOutcome, AllocError> {
     Ok(SceneOutcome {
         met: false,
@@ -189,7 +189,7 @@ fn at_end<T: Table<Alloc = RefusingAllocator>, E: Playable<Table = T> + Drop>(
     play(props, &mut stage, &scene.rows, refusal)
 }
 
-/// Plays a scene at a pair; the words give the queues of the client and, after a bar, those of the
+/// Plays a scene at a pair. The words give the queues of the client and, after a bar, those of the
 /// server.
 fn at_pair<T: Table<Alloc = RefusingAllocator> + Drop>(
     props: Props<'_>,
@@ -218,7 +218,7 @@ fn at_pair<T: Table<Alloc = RefusingAllocator> + Drop>(
     play_and_judge(props, &mut stage, &scene.rows, refusal)
 }
 
-/// Plays these rows at a pair, and then checks what it recorded.
+/// Plays these rows at a pair, and then judges what it recorded.
 fn play_and_judge<T: Table + Drop>(
     props: Props<'_>,
     stage: &mut AtPair<'_, '_, T>,
@@ -232,7 +232,7 @@ fn play_and_judge<T: Table + Drop>(
     Ok(played)
 }
 
-/// Plays a scene at an empty recording.
+/// Plays a scene at a new, empty recording.
 fn at_recording(
     props: Props<'_>,
     scene: &Scene<'_>,

@@ -12,36 +12,36 @@ use wl_server::{OwnedRequest, Server};
 use wl_session::{Direction, Move, Reply};
 use wl_sigs::{Side, Tables};
 
-/// A client or a server at which moves are made: what each of the two does in its own way.
+/// A client or a server at which moves are made: the differences between the two.
 pub trait Playable: Receiver {
-    /// The verb of its reading.
+    /// The verb of the call that reads the next message.
     const NEXT: &'static str;
 
-    /// Which pieces of a recording it reads.
+    /// The direction of the pieces that it reads.
     const READS: Direction;
 
-    /// Makes the call of a move, with its arguments; `None` if it is no call of this end.
+    /// Makes the call of a move with its arguments; `None` if this end has no such call.
     fn act(
         &mut self,
         action: &Move,
         args: &[Arg<'_>],
     ) -> Option<Reply<<Self::Table as Table>::Alloc>>;
 
-    /// Makes the bind of a move, for a global that need not have been announced; `None` if the move
-    /// is no bind, and at a server.
+    /// Makes the bind of a move, even for a global that was not announced; `None` if the move is no
+    /// bind, or at a server.
     fn act_unannounced(&mut self, action: &Move) -> Option<Reply<<Self::Table as Table>::Alloc>>;
 
-    /// Reads the next message by the call whose report is borrowed, and appends that report in the
-    /// words of an owned one.
+    /// Reads the next message with the call that lends its report. Appends that report in the words
+    /// of an owned one.
     fn next_lent(&mut self, actor: &mut Actor<'_>, reply: &mut String) -> Result<(), AllocError>;
 
-    /// At a client, the object of the server that the last message read made.
+    /// At a client: the server's object that was made by the last message read.
     fn made(&self) -> Option<Object>;
 
-    /// The live object that this one replaced.
+    /// The live object that it replaced.
     fn replaced(&self) -> Option<Object>;
 
-    /// Adds the objects that a report made.
+    /// Adds the objects of a report.
     fn learn(names: &mut Names, tables: &Tables, report: &Self::Report) -> Result<(), AllocError>;
 
     fn write_report(

@@ -8,7 +8,7 @@ use crate::trouble::Trouble;
 use std::alloc::{AllocError, Global};
 use std::fmt::Write;
 
-/// The allocation that is refused when a scene is played once: its row, and its number among the
+/// The allocation that is refused in one playing of a scene: its row, and its number among the
 /// row's allocations, from 0.
 #[derive(Clone, Copy)]
 pub struct Refusal {
@@ -16,27 +16,27 @@ pub struct Refusal {
     pub number: u64,
 }
 
-/// How playing a scene once ended.
+/// The result of playing a scene once.
 #[derive(Drop)]
 pub struct SceneOutcome {
-    /// Whether the refused allocation was asked for.
+    /// Whether the scene asked for the allocation that is refused.
     pub met: bool,
     /// What is wrong; empty if nothing is.
     pub wrong: String,
 }
 
-/// One call that is being played.
+/// A call while it is played.
 #[derive(Clone, Copy)]
 struct Turn<'a> {
     row: Row<'a>,
     line: Line<'a>,
-    /// The rows after it.
+    /// The rows after the call.
     rest: &'a [Row<'a>],
-    /// Which of its allocations is refused.
+    /// Which of the call's allocations is refused.
     refused: Option<u64>,
 }
 
-/// Plays these rows, with an allocation refused.
+/// Plays these rows; one allocation may be refused.
 pub fn play<S: Stage>(
     props: Props<'_>,
     stage: &mut S,
@@ -73,7 +73,7 @@ fn refused_at(refusal: Option<Refusal>, row: usize) -> Option<u64> {
     }
 }
 
-/// Makes a call as often as its line says.
+/// Makes a call as often as its row says.
 fn play_line<S: Stage>(
     props: Props<'_>,
     stage: &mut S,
@@ -99,7 +99,7 @@ fn play_line<S: Stage>(
     Ok(())
 }
 
-/// Making what the scene is played at, which has been done already.
+/// Accounts for the row `begin`: what the scene plays at was made before.
 fn play_begin(
     props: Props<'_>,
     turn: Turn<'_>,
@@ -121,7 +121,7 @@ fn choose(props: Props<'_>, turn: Turn<'_>) {
     }
 }
 
-/// Makes a call once; and again if it was refused memory, which must be reported.
+/// Makes a call once. If it was refused memory, it must say so, and it is made again.
 fn play_once<S: Stage>(
     props: Props<'_>,
     stage: &mut S,
@@ -143,8 +143,8 @@ fn play_once<S: Stage>(
     Ok(())
 }
 
-/// Repeats a call that was refused memory. If it did not say so, or something changed, the reply
-/// says that.
+/// Repeats a call that was refused memory. If the call did not say so, or changed something, the
+/// reply says that.
 fn is_kept<S: Stage>(
     props: Props<'_>,
     stage: &mut S,
@@ -154,7 +154,7 @@ fn is_kept<S: Stage>(
 ) -> Result<(), AllocError> {
     let is_reading = turn.line.call.starts_with("read ");
     if reply.as_str() != OUT_OF_MEMORY {
-        // a reading may ask for a report's room even if nothing waits, and then does not need it
+        // a read may ask for room for a report even if nothing waits, and then does not need it
         return match is_reading {
             true => Ok(()),
             false => reply.push_str(", without memory"),
@@ -163,7 +163,7 @@ fn is_kept<S: Stage>(
     let mut after = String::new(props.alloc);
     stage.write_state(&mut after)?;
     reply.clear();
-    // a reading of pieces keeps what was read
+    // a read of pieces keeps what was read
     if after.as_str() != before && !is_reading {
         return reply.push_str("changed without memory");
     }
@@ -179,8 +179,8 @@ fn answer<S: Stage>(stage: &mut S, turn: Turn<'_>, reply: &mut String) -> Result
     }
 }
 
-/// Whether a reply is right: it is the wanted one; or, if none is given, it is no refusal; or, if
-/// `*` is wanted, the end has not failed.
+/// Whether a reply is right. It must be the one that is given. If none is given, the end must not
+/// have failed and the call must not be refused. If `*` is given, the end must not have failed.
 fn is_right(alloc: Global, turn: Turn<'_>, reply: &str) -> Result<bool, AllocError> {
     match turn.line.wanted {
         Some("*") => Ok(goes_on(reply)),
@@ -189,7 +189,7 @@ fn is_right(alloc: Global, turn: Turn<'_>, reply: &str) -> Result<bool, AllocErr
     }
 }
 
-/// Whether a reply is that of an end that has not failed and had memory.
+/// Whether the reply shows that the end has not failed and had enough memory.
 fn goes_on(reply: &str) -> bool {
     !reply.starts_with("fault")
         && !reply.starts_with("error")
@@ -198,7 +198,7 @@ fn goes_on(reply: &str) -> bool {
         && !reply.contains("without memory")
 }
 
-/// Says that a reply is wrong.
+/// Reports a wrong reply.
 fn write_wrong(wrong: &mut String, turn: Turn<'_>, reply: &str) -> Result<(), AllocError> {
     write!(wrong, "line {}: ", turn.row.number)?;
     wrong.push_str(turn.row.text)?;

@@ -19,7 +19,7 @@ pub struct AtRecording<'a, A: Allocator + Clone + Drop> {
     pub tables: &'a Tables,
     pub memory: A,
     pub recording: Recording<A>,
-    /// The limit by which it is judged.
+    /// The limit used to judge it.
     pub limit: Limit,
 }
 
@@ -42,7 +42,7 @@ impl<'a, A: Allocator + Clone + Drop> Stage for AtRecording<'a, A> {
 }
 
 impl<'a, A: Allocator + Clone + Drop> AtRecording<'a, A> {
-    /// Adds a piece: its bytes, and after a `+` how many tokens came with it.
+    /// Adds a piece: its bytes, and how many tokens came with it, after a `+`.
     fn add(
         &mut self,
         direction: Direction,
@@ -63,7 +63,7 @@ impl<'a, A: Allocator + Clone + Drop> AtRecording<'a, A> {
         Ok(reply.push_str("nothing")?)
     }
 
-    /// Sets the limit to this number of bytes, if that is a limit.
+    /// Sets the limit to this number of bytes, if there is such a limit.
     fn go_by(&mut self, words: &mut Words<'_>, reply: &mut String) -> Result<(), Trouble> {
         match Limit::new(words.number()?) {
             Some(limit) => {
@@ -74,7 +74,7 @@ impl<'a, A: Allocator + Clone + Drop> AtRecording<'a, A> {
         }
     }
 
-    /// Reads a text, and replaces the recording.
+    /// Parses a text as the new recording.
     fn parse(&mut self, text: &str, reply: &mut String) -> Result<(), Trouble> {
         let text = unescaped(self.alloc, text)?;
         match Recording::parse(self.memory.clone()?, text.as_bytes()) {
@@ -88,7 +88,7 @@ impl<'a, A: Allocator + Clone + Drop> AtRecording<'a, A> {
         }
     }
 
-    /// Appends what one word asks for.
+    /// Appends the answer to a one-word question.
     fn query(&self, verb: &str, reply: &mut String) -> Result<(), Trouble> {
         match verb {
             "pieces" => write!(reply, "{}", self.recording.pieces().len())?,
@@ -141,7 +141,7 @@ impl<'a, A: Allocator + Clone + Drop> AtRecording<'a, A> {
     }
 }
 
-/// Appends the lines of a text, each on its own line; each ends with a line feed in the text.
+/// Appends the lines of a text, each on a line of its own. Each ends with a line feed in the text.
 fn write_lines(reply: &mut String, text: &[u8]) -> Result<(), AllocError> {
     match text.split_last() {
         Some((_, lines)) => {
@@ -166,7 +166,7 @@ fn unescaped(alloc: Global, text: &str) -> Result<String, AllocError> {
     Ok(out)
 }
 
-/// Appends the character that a letter means, and the rest.
+/// Appends the character that an escape letter means, and the rest.
 fn put_escaped(out: &mut String, part: &str) -> Result<(), AllocError> {
     let marks = [('n', "\n"), ('r', "\r"), ('t', "\t"), ('s', " ")];
     for (letter, mark) in marks {

@@ -1,9 +1,9 @@
-//! Texts in which equal ones may follow one another.
+//! Texts that may be repeated.
 
 use std::alloc::{AllocError, Global};
 use std::fmt::Write;
 
-/// A text, and how often it came in a row.
+/// A text, and how often it was put in a row.
 #[derive(Drop)]
 pub struct Repeated {
     text: String,
@@ -19,7 +19,7 @@ impl Repeated {
         }
     }
 
-    /// Counts a text; if it differs from the last one, the line of that is finished.
+    /// Counts a text. If it differs from the one before, finishes the line of that one.
     pub fn put(&mut self, out: &mut String, text: String) -> Result<(), AllocError> {
         if text.as_str() == self.text.as_str() {
             self.times = self.times.saturating_add(1);
@@ -31,7 +31,7 @@ impl Repeated {
         Ok(())
     }
 
-    /// Appends the line of the last text, with how often it came if that is more than once.
+    /// Appends the line of the last text. If it was put more than once, the line says how often.
     pub fn end(&self, out: &mut String) -> Result<(), AllocError> {
         let text = self.text.as_str();
         match self.times {

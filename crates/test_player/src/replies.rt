@@ -1,4 +1,4 @@
-//! Replies, as text.
+//! Replies as text.
 
 use crate::bytes::{write_bytes, write_text};
 use crate::names::Names;
@@ -16,7 +16,8 @@ pub const UNREADABLE: &str = "unreadable: no such call here, or a word that is n
 /// The reply of a call that is out of memory.
 pub const OUT_OF_MEMORY: &str = "out of memory";
 
-/// Writes replies: with the names of messages, from the tables and the objects that were seen.
+/// A writer of replies. It takes the names of messages from the tables and from the objects that a
+/// scene has seen.
 #[derive(Clone, Copy)]
 pub struct Teller<'a> {
     pub tables: &'a Tables,
@@ -47,7 +48,7 @@ impl<'a> Teller<'a> {
         }
     }
 
-    /// Appends what a client read.
+    /// Appends what a client has read.
     pub fn write_incoming<A: Allocator>(
         self,
         out: &mut String,
@@ -100,7 +101,7 @@ impl<'a> Teller<'a> {
         write_tokens(out, tokens)
     }
 
-    /// Appends what a server read.
+    /// Appends what a server has read.
     pub fn write_request<A: Allocator>(
         self,
         out: &mut String,
@@ -218,7 +219,7 @@ fn write_argument<A: Allocator>(out: &mut String, arg: &Got<A>) -> Result<(), Al
     }
 }
 
-/// Appends the answer to a message that was sent.
+/// Appends the result of sending a message.
 fn write_sent(out: &mut String, sent: Result<Option<Object>, SendError>) -> Result<(), AllocError> {
     match sent {
         Ok(Some(object)) => write_object(out, object),
@@ -249,7 +250,7 @@ fn write_count(out: &mut String, count: Result<usize, SendError>) -> Result<(), 
     }
 }
 
-/// Appends the name of a global; `done` for the name 0, which none has.
+/// Appends the name of a global; `done` for 0, which is no name.
 fn write_global(out: &mut String, given: Result<u32, GlobalError>) -> Result<(), AllocError> {
     match given {
         Ok(0) => out.push_str("done"),

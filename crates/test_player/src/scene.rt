@@ -1,16 +1,17 @@
-//! The scenes of a text.
+//! Reading scenes from a text.
 
 use crate::trouble::Trouble;
 use std::alloc::{AllocError, Global};
 
-/// A row of a scene, and its number in the text, counted from 1.
+/// A row of a scene, and its line number in the text, from 1.
 #[derive(Clone, Copy)]
 pub struct Row<'a> {
     pub number: usize,
     pub text: &'a str,
 }
 
-/// A scene: its name, where it plays, and its rows. A setup's rows replace the row `given`.
+/// A scene: its name, the place where it plays, and its rows. The row `given` is replaced by the
+/// rows of a setup.
 #[derive(Drop)]
 pub struct Scene<'a> {
     pub name: &'a str,
@@ -18,26 +19,26 @@ pub struct Scene<'a> {
     pub rows: Vec<Row<'a>>,
 }
 
-/// The scenes and the setups that were read so far.
+/// The scenes and setups read so far.
 #[derive(Drop)]
 struct Reader<'a> {
     alloc: Global,
     scenes: Vec<Scene<'a>>,
     setups: Vec<Scene<'a>>,
-    /// Whether the last that was begun is a setup.
+    /// Whether the last one begun is a setup.
     in_setup: bool,
 }
 
-/// Where a text of scenes cannot be read, and why.
+/// The first line of a text that cannot be read, and the reason.
 #[derive(Clone, Copy)]
 pub struct Unread {
-    /// The line, counted from 1.
+    /// Its number, from 1.
     pub line: usize,
     pub why: Trouble,
 }
 
-/// The scenes of a text, in order. A row outside any scene cannot be read, and neither can one that
-/// asks for a setup that is not above it.
+/// The scenes of a text, in order. A row before the first scene cannot be read, nor a row `given`
+/// whose setup is not above it.
 pub fn read_scenes(alloc: Global, text: &str) -> Result<Vec<Scene<'_>>, Unread> {
     let mut reader = Reader {
         alloc,
@@ -55,7 +56,7 @@ pub fn read_scenes(alloc: Global, text: &str) -> Result<Vec<Scene<'_>>, Unread> 
 }
 
 impl<'a> Reader<'a> {
-    /// Takes in one line.
+    /// Reads one line.
     fn take(&mut self, place: usize, text: &'a str) -> Result<(), Trouble> {
         if text.is_empty() || text.starts_with('#') {
             return Ok(());
@@ -84,7 +85,7 @@ impl<'a> Reader<'a> {
         Ok(())
     }
 
-    /// The scene or setup that was begun last.
+    /// The scene or setup begun last.
     fn last(&mut self) -> Result<&mut Scene<'a>, Trouble> {
         let list = if self.in_setup {
             &mut self.setups
@@ -105,7 +106,7 @@ impl<'a> Reader<'a> {
         Ok(())
     }
 
-    /// Adds the rows of a setup.
+    /// Adds the rows of a setup to it.
     fn give(&mut self, name: &str) -> Result<(), Trouble> {
         let rows = rows_of(self.alloc, &self.setups, name)?;
         self.last()?.rows.extend_from_slice(&rows)?;
@@ -113,7 +114,7 @@ impl<'a> Reader<'a> {
     }
 }
 
-/// The rows of the setup of this name.
+/// The rows of the setup with this name.
 fn rows_of<'a>(alloc: Global, setups: &[Scene<'a>], name: &str) -> Result<Vec<Row<'a>>, Trouble> {
     for setup in setups {
         if setup.name == name {
@@ -123,7 +124,8 @@ fn rows_of<'a>(alloc: Global, setups: &[Scene<'a>], name: &str) -> Result<Vec<Ro
     Err(Trouble::Unreadable)
 }
 
-/// Whether a reply is what is wanted: this first line, and then the rows that begin with `|`.
+/// Whether a reply is right: its first line is `first`, and its other lines are the rows that begin
+/// with `|`.
 pub fn is_told(
     alloc: Global,
     reply: &str,

@@ -6,7 +6,7 @@ use test_allocator::RefusingAllocator;
 use wl_objects::SlotTable;
 use wl_sigs::Tables;
 
-/// The object tables of everything at which scenes are played.
+/// The object tables used wherever scenes are played.
 pub type Objects = SlotTable<RefusingAllocator>;
 
 /// Something at which scenes are played.
@@ -14,11 +14,11 @@ pub trait Stage {
     /// Makes a call, and appends its reply.
     fn play(&mut self, call: &str, reply: &mut String) -> Result<(), Trouble>;
 
-    /// Appends the visible state, which a call that is refused memory must not change.
+    /// Appends the visible state. A call that is refused memory must not change it.
     fn write_state(&self, text: &mut String) -> Result<(), AllocError>;
 }
 
-/// What every scene is played with.
+/// What is needed to play any scene.
 #[derive(Clone, Copy)]
 pub struct Props<'a> {
     pub alloc: Global,

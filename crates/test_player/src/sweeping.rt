@@ -1,4 +1,4 @@
-//! Playing a scene once, or once for each allocation of a row that asks for that.
+//! Playing a scene once, or once for each allocation of a row.
 
 use crate::line::{Line, Memory};
 use crate::places::play_at;
@@ -7,10 +7,10 @@ use crate::scene::Scene;
 use crate::stage::Props;
 use std::alloc::AllocError;
 
-/// The most allocations of one row.
+/// The most allocations that a row may make.
 const MOST_ALLOCATIONS: u64 = 10_000;
 
-/// How a scene went: what is wrong, or nothing.
+/// What is wrong with a scene; empty if nothing is.
 pub fn play_scene(props: Props<'_>, scene: &Scene<'_>) -> Result<String, AllocError> {
     let mut is_swept = false;
     for (place, row) in scene.rows.iter().enumerate() {
@@ -28,7 +28,8 @@ pub fn play_scene(props: Props<'_>, scene: &Scene<'_>) -> Result<String, AllocEr
     Ok(play_at(props, scene, None)?.wrong)
 }
 
-/// Plays a scene once for each allocation of one of its rows, with that one refused, and once more.
+/// Plays a scene once for each allocation of one of its rows, which is then refused; and once more
+/// without a refusal.
 fn sweep(
     props: Props<'_>,
     scene: &Scene<'_>,
@@ -47,7 +48,7 @@ fn sweep(
     format!(in props.alloc; "there is no end of the allocations")
 }
 
-/// What is wrong if a row asks for this number of allocations.
+/// What is wrong with the number of allocations of a row, if something is.
 fn miscounted(props: Props<'_>, number: u64, count: Option<u64>) -> Result<String, AllocError> {
     match count {
         Some(count) if count != number => {

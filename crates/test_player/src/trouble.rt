@@ -1,14 +1,14 @@
-//! Why a call of a scene is not played.
+//! Why a call of a scene cannot be played.
 
 use std::alloc::{AllocError, AllocFailed};
 use std::num::ParseIntError;
 
-/// Why a call of a scene is not played.
+/// Why a call of a scene cannot be played.
 #[derive(Clone, Copy)]
 pub enum Trouble {
-    /// There is no memory for what the player keeps.
+    /// There is no memory for the player's own data.
     Memory,
-    /// There is no such call here, or one of its words does not have its form.
+    /// There is no such call here, or one of its words is malformed.
     Unreadable,
 }
 

@@ -3,7 +3,7 @@
 use crate::trouble::Trouble;
 use wl_objects::Object;
 
-/// The remaining words of a call.
+/// The words of a call that are not read yet.
 #[derive(Drop)]
 pub struct Words<'a> {
     rest: &'a str,
@@ -15,7 +15,7 @@ impl<'a> Words<'a> {
         Words { rest: text }
     }
 
-    /// All that remains.
+    /// All remaining words.
     pub fn rest(&self) -> &'a str {
         self.rest
     }

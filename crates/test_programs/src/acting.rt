@@ -27,7 +27,7 @@ impl Write for Failing {
     }
 }
 
-/// Whether this holds for the jobs that trace and check a file.
+/// Whether a test passes for the job that traces a file and for the one that checks it.
 fn holds_of_both<F: FnOnce(Global, &Job, &Job) -> bool>(
     alloc: Global,
     scene: F,
@@ -65,13 +65,13 @@ const LAWFUL: [(&[u8], &[u8], &[u8]); 9] = [
         b"",
         b"lawful: 0 requests, 0 events, 0 and 0 bytes left\n",
     ),
-    // Comments, empty lines, carriage returns, digits of upper case, no last line feed.
+    // Comments, empty lines, carriage returns, upper-case digits, and no line feed at the end.
     (
         b"# a comment\n\n\r\n> 0100000001000C0002000000\r\n\n# the end",
         b"-> wl_display@1.get_registry(new id wl_registry@2)\n",
         b"lawful: 1 requests, 0 events, 0 and 0 bytes left\n",
     ),
-    // One message in pieces, one of which brings nothing; and a part of one.
+    // One message in several pieces, one of them empty; then a part of a message.
     (
         b"> 01000000\n> -\n> 01000c00020000\n> 000100\n",
         b"-> wl_display@1.get_registry(new id wl_registry@2)\n",
@@ -88,7 +88,7 @@ const LAWFUL: [(&[u8], &[u8], &[u8]); 9] = [
           -> wl_display@1.sync(new id wl_callback@2)\n",
         b"lawful: 2 requests, 2 events, 0 and 0 bytes left\n",
     ),
-    // A token that comes before its message.
+    // A token that arrives before its message.
     (
         b"> 0100000001000c0002000000\n\
           < 0200000000001c000100000007000000776c5f73686d000001000000\n\
@@ -100,7 +100,7 @@ const LAWFUL: [(&[u8], &[u8], &[u8]); 9] = [
           -> wl_shm@3.create_pool(new id wl_shm_pool@4, fd 1, 4096)\n",
         b"lawful: 3 requests, 1 events, 0 and 0 bytes left\n",
     ),
-    // An error ends the session: what follows in either direction is left over.
+    // An error ends the session: the rest of both directions is left over.
     (
         b"< 010000000000180000000000010000000100000000000000ffff\n> 00\n> 0900000000000800\n",
         b"<- wl_display@1.error(nil, 1, \"\")\n",
@@ -113,14 +113,14 @@ const LAWFUL: [(&[u8], &[u8], &[u8]); 9] = [
     ),
 ];
 
-/// Broken sessions: the recording, the lines before the verdict's end, and the line of its verdict.
+/// Broken sessions: the recording, the trace up to the broken message, and the line of the verdict.
 const BROKEN: [(&[u8], &[u8], &[u8]); 12] = [
     (
         b"> 0100000001000c0003000000\n",
         b"",
         b"broken: > message 1 at byte 0: F6 bad new id, argument 0\n",
     ),
-    // A size of 7, and after a message one of 4100.
+    // A size of 7; then a size of 4100 after another message.
     (
         b"> 0100000000000700\n",
         b"",
@@ -159,7 +159,7 @@ const BROKEN: [(&[u8], &[u8], &[u8]); 12] = [
         b"",
         b"broken: > message 1 at byte 0: F4 malformed argument 0 (A1)\n",
     ),
-    // A compositor in place of a buffer.
+    // A compositor where a buffer is expected.
     (
         b"> 0100000001000c0002000000\n\
           < 0200000000002400010000000e000000776c5f636f6d706f7369746f7200000006000000\n\
@@ -197,7 +197,7 @@ const BROKEN: [(&[u8], &[u8], &[u8]); 12] = [
     ),
 ];
 
-/// Texts that are no recordings, and what standard error says.
+/// Texts that are no recordings, and what is written to standard error.
 const REFUSED: [(&[u8], &[u8]); 3] = [
     (b"# fine\n> 012\n", b"waywire: line 2: bad line\n"),
     (b"> 00\r", b"waywire: line 1: bad line\n"),
@@ -208,8 +208,8 @@ const REFUSED: [(&[u8], &[u8]); 3] = [
     ),
 ];
 
-/// Whether a job ends with this status and writes this output (the second part after the first),
-/// and nothing to standard error.
+/// Whether a job ends with this status and writes `first` and then `last` to standard output, and
+/// nothing to standard error.
 fn prints(alloc: Global, job: &Job, text: &[u8], status: u8, first: &[u8], last: &[u8]) -> bool {
     let mut file = text;
     let mut writers = Writers {
@@ -236,7 +236,7 @@ fn traces_and_checks_lawful_sessions(rt: HostRuntime) -> Result<(), Fail> {
     Ok(())
 }
 
-/// Whether each broken session is traced as far as it is lawful, and checked.
+/// Whether each broken session is traced up to its broken message, and checked.
 fn prints_broken(alloc: Global, trace: &Job, check: &Job) -> bool {
     let mut is_so = true;
     for (text, lines, verdict) in BROKEN {
@@ -252,7 +252,7 @@ fn traces_and_checks_broken_sessions(rt: HostRuntime) -> Result<(), Fail> {
     Ok(())
 }
 
-/// Whether a job ends with this status, writes no output, and writes this to standard error.
+/// Whether a job ends with this status, and writes only this, to standard error.
 fn says<R: Read>(alloc: Global, job: &Job, file: &mut R, status: u8, said: &[u8]) -> bool {
     let mut writers = Writers {
         out: Vec::new(alloc),
@@ -262,7 +262,7 @@ fn says<R: Read>(alloc: Global, job: &Job, file: &mut R, status: u8, said: &[u8]
     answer == status && writers.out.is_empty() && writers.err.as_slice() == said
 }
 
-/// The same for a file with this text.
+/// The same for a job over a file with this text.
 fn says_of(alloc: Global, job: &Job, text: &[u8], status: u8, said: &[u8]) -> bool {
     let mut file = text;
     says(alloc, job, &mut file, status, said)
@@ -284,13 +284,13 @@ fn refuses_other_texts(rt: HostRuntime) -> Result<(), Fail> {
     Ok(())
 }
 
-/// Whether a file of the most bytes is read.
+/// Whether a file of the greatest allowed size is read.
 fn reads_the_longest(alloc: Global, trace: &Job, _check: &Job) -> bool {
     let mut longest = io::repeat(b'#').take(16_777_216);
     says(alloc, trace, &mut longest, 0, b"")
 }
 
-/// Whether an endless file is refused.
+/// Whether a file without an end is refused.
 fn reads_none_longer(alloc: Global, trace: &Job, _check: &Job) -> bool {
     let mut endless = io::repeat(b'#');
     says(alloc, trace, &mut endless, 3, b"waywire: file too long\n")
@@ -332,7 +332,7 @@ fn says_that_writing_failed(alloc: Global, _trace: &Job, check: &Job) -> bool {
     status == 3 && writers.err.as_slice() == b"waywire: cannot write\n".as_slice()
 }
 
-/// A standard error that fails changes no status.
+/// The status is the same if standard error cannot be written.
 fn answers_the_same(alloc: Global, _trace: &Job, check: &Job) -> bool {
     let mut file = REFUSED[0].0;
     let mut writers = Writers {
@@ -360,8 +360,8 @@ fn says_which_stream_failed(rt: HostRuntime) -> Result<(), Fail> {
 /// The message for lack of memory.
 const NO_MEMORY: &[u8] = b"waywire: out of memory\n";
 
-/// Whether a trace in this memory is out of memory, and does nothing else, if an allocation was
-/// refused; else whether it traces all of this session.
+/// If an allocation is refused: whether a trace in this memory is out of memory, and does nothing
+/// else. Otherwise: whether it traces the whole session.
 fn is_refused_or_whole(
     alloc: Global,
     memory: RefusingAllocator,
@@ -389,8 +389,8 @@ fn is_refused_or_whole(
     }
 }
 
-/// Refuses each allocation in turn. True if the output is right each time, and finally none is
-/// refused.
+/// Refuses each allocation in turn. True if the output is right each time, and in the end no
+/// allocation is refused.
 fn is_refused_in_turn(
     alloc: Global,
     memory: &RefusingAllocator,
@@ -407,7 +407,7 @@ fn is_refused_in_turn(
     Ok(false)
 }
 
-/// Whether each allocation of a trace is refused in turn, and the trace is finally made.
+/// Whether a trace is refused with each of its allocations in turn, and succeeds in the end.
 fn traces_at_last(alloc: Global, trace: &Job, _check: &Job) -> bool {
     match RefusingAllocator::new(alloc) {
         Ok(memory) => matches!(is_refused_in_turn(alloc, &memory, trace), Ok(true)),

@@ -1,11 +1,11 @@
 //! A refused line leaves the bytes of both directions unchanged. A line that is no piece is refused
-//! for that, whether or not there is memory for its bytes.
+//! as such, even if there is no memory for its bytes.
 use std::alloc::AllocError;
 use std::test::Fail;
 use test_allocator::RefusingAllocator;
 use wl_recording::{Appended, PieceReader, Recording, RecordingError};
 
-/// Lines that are no piece, each for its own reason.
+/// Lines that are no piece, each for a different reason.
 const BAD: [&[u8]; 28] = [
     b"x 00",
     b">",
@@ -37,12 +37,12 @@ const BAD: [&[u8]; 28] = [
     b"< 00\r0",
 ];
 
-/// The text before a bad line.
+/// The part of a text before a bad line.
 struct Beginning {
     text: &'static [u8],
-    /// How many pieces it has.
+    /// The number of its pieces.
     pieces: usize,
-    /// The number of the line after it, counted from the end of its last piece.
+    /// The number of the line after it; lines are counted from the end of its last piece.
     next_line: usize,
     to_server: &'static [u8],
     to_client: &'static [u8],
@@ -147,7 +147,7 @@ fn is_piece(read: &Result<Option<Appended>, RecordingError>) -> bool {
     }
 }
 
-/// Whether the line is refused as no piece of a recording even if the first allocation is refused.
+/// Whether a line is refused because it is no piece, even if the first allocation is refused.
 fn is_not_parsed(memory: &RefusingAllocator, line: &[u8]) -> Result<bool, AllocError> {
     let own = memory.clone()?;
     memory.refuse_nth(0);
@@ -156,7 +156,7 @@ fn is_not_parsed(memory: &RefusingAllocator, line: &[u8]) -> Result<bool, AllocE
     Ok(is_bad)
 }
 
-/// A text made of a beginning, a line, and one more piece.
+/// A text that consists of a beginning, a line, and one more piece.
 fn text_of(
     memory: &RefusingAllocator,
     beginning: &Beginning,
@@ -170,7 +170,7 @@ fn text_of(
 }
 
 /// Whether a bad line after a beginning is refused without an allocation, and leaves what was read
-/// before it, so that the next piece follows that.
+/// before it. The next piece must then follow that.
 fn leaves_all(
     memory: &RefusingAllocator,
     beginning: &Beginning,
@@ -232,15 +232,15 @@ fn a_count_without_its_sign_is_passed_over(rt: HostRuntime) -> Result<(), Fail> 
 /// What happened to a piece when one allocation was refused.
 #[derive(Clone, Copy, PartialEq, Eq)]
 enum Outcome {
-    /// It asks for fewer allocations, and was read.
+    /// It made fewer allocations, and was read.
     Read,
     /// It was refused, and what was read before it is unchanged.
     LeftAll,
     Wrong,
 }
 
-/// Reads a piece with the allocation of this number refused, and then one more, beside bytes of
-/// both directions.
+/// Reads a piece while the allocation with this number is refused, and then one more piece. Both
+/// directions already have bytes.
 fn append_without_memory(
     memory: &RefusingAllocator,
     refused: u64,
@@ -276,7 +276,7 @@ fn pieces_without_memory_leave_what_was_read(rt: HostRuntime) -> Result<(), Fail
     Ok(())
 }
 
-/// Whether the pieces of a recording, each without memory, leave the bytes of both directions
+/// Whether the pieces of a recording, each refused memory, leave the bytes of both directions
 /// unchanged.
 fn are_left_by_pieces(memory: &RefusingAllocator, text: &[u8]) -> Result<bool, AllocError> {
     let mut bytes = Bytes::new(memory)?;

@@ -1,4 +1,4 @@
-//! Worked commands, from their words to what is printed.
+//! Whole commands: their words, and what they print.
 use crate::words::{asked, no_tables};
 use program_arguments::Job;
 use program_jobs::{Writers, act};
@@ -96,7 +96,7 @@ const RUNS: [Run; 9] = [
     },
 ];
 
-/// Whether a job with the file of this run does what the run says.
+/// Whether a job over the file of this run does what the run says.
 fn does(alloc: Global, job: &Job, run: &Run) -> bool {
     let mut file = run.file;
     let mut writers = Writers {

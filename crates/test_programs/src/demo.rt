@@ -1,4 +1,4 @@
-//! The lines of the whole session, from the words of a command line.
+//! The lines of the whole demonstration, from the words of a command line.
 use crate::words::{asked, no_tables};
 use program_arguments::Job;
 use program_jobs::{Writers, act};
@@ -23,7 +23,7 @@ pub const LINES: &[u8] = b"-> wl_display@1.get_registry(new id wl_registry@2)
 agree: 4 objects
 ";
 
-/// Whether a job ends with 0 and writes these lines, and nothing to standard error.
+/// Whether a job ends with status 0, writes these lines, and nothing to standard error.
 fn shows(alloc: Global, job: &Job) -> bool {
     let mut writers = Writers {
         out: Vec::new(alloc),
@@ -54,7 +54,7 @@ fn shows_the_same_session_in_any_pieces(rt: HostRuntime) -> Result<(), Fail> {
     Ok(())
 }
 
-/// Whether a demonstration in this memory is out of memory, and does nothing else.
+/// Whether a demonstration in this memory is out of memory, and prints nothing.
 fn is_refused(alloc: Global, memory: RefusingAllocator<Global>) -> bool {
     let mut writers = Writers {
         out: Vec::new(alloc),
@@ -75,7 +75,8 @@ fn is_refused(alloc: Global, memory: RefusingAllocator<Global>) -> bool {
         && writers.err.as_slice() == b"waywire: out of memory\n".as_slice()
 }
 
-/// Refuses each allocation in turn. True if each refusal is reported, and finally none is refused.
+/// Refuses each allocation in turn. True if each refusal is reported, and in the end no allocation
+/// is refused.
 fn is_refused_in_turn(alloc: Global, memory: &RefusingAllocator) -> Result<bool, AllocError> {
     let mut is_so = true;
     for number in 0u64..2000 {

@@ -43,7 +43,7 @@ const FAILURES: [(Failure<'static>, &str); 10] = [
     (Failure::Memory, "out of memory"),
 ];
 
-/// Whether a failure shows this text, and its line on standard error has the text that it shows.
+/// Whether this is a failure's text, also in its line on standard error.
 fn has_text(alloc: Global, failure: Failure<'_>, text: &str) -> Result<bool, AllocError> {
     let shown = failure.to_string(alloc)?;
     let line = format!(in alloc; "waywire: {shown}\n")?;

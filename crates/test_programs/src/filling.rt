@@ -1,5 +1,5 @@
-//! Reading from a stream into an inbox that is almost full, and into a new server when a read fails
-//! in the middle of a message.
+//! Reading from a stream into an inbox that is almost full, and into a new server while a read
+//! fails in the middle of a message.
 use std::io::ErrorKind;
 use std::test::Fail;
 use wl_connection::End;
@@ -11,8 +11,8 @@ use wl_sigs::{Tables, request};
 /// All but the last byte of an inbox of 4096 bytes.
 const WAITING: [u8; 4095] = [0; 4095];
 
-/// The last free byte is filled, a failure of the reader leaves it free, and no byte is read if
-/// none is free.
+/// A read fills the last free byte. A failing reader leaves it free. If no byte is free, nothing is
+/// read.
 #[test]
 fn fills_the_last_byte(rt: HostRuntime) -> Result<(), Fail> {
     let mut inbox = Inbox::new(rt.alloc(), 4096, 20, Limit::USUAL)?;
@@ -36,7 +36,7 @@ const SIZES: Sizes = Sizes {
     limit: Limit::USUAL,
 };
 
-/// Whether the next report is that get_registry made the registry 2/1.
+/// Whether the next report says that get_registry made the registry 2/1.
 fn reports_the_registry<T: Table>(server: &mut Server<'_, T>) -> bool {
     let registry = Object { id: 2, birth: 1 };
     let Ok(Some(mut report)) = server.next() else {
@@ -48,7 +48,7 @@ fn reports_the_registry<T: Table>(server: &mut Server<'_, T>) -> bool {
         && report.args.next().is_none()
 }
 
-/// Whether the message is read whole although a read fails within it.
+/// Whether a message is read whole although a read fails in its middle.
 fn reads_after_a_failure<T: Table>(server: &mut Server<'_, T>) -> bool {
     let script = [Step::Pass(3), Step::Fail(ErrorKind::Interrupted)];
     let mut reader = ScriptReader::new(&GET_REGISTRY, &script);

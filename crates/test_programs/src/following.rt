@@ -1,4 +1,4 @@
-//! A follower goes past each message of a session, and is unchanged if memory runs out.
+//! A follower goes past each message of a session. If memory runs out, it is unchanged.
 use crate::recordings::{DEVICES, MADE, SURFACE};
 use std::alloc::AllocError;
 use std::test::Fail;
@@ -8,12 +8,13 @@ use wl_message::Limit;
 use wl_recording::{Direction, Passed, Recording};
 use wl_sigs::Tables;
 
-/// More than any of these calls allocates, and than any of these pieces completes.
+/// More allocations than any of these calls makes, and more messages than any of these pieces
+/// completes.
 const MOST: u32 = 1000;
 
 type Refusable<'t> = Follower<'t, RefusingAllocator>;
 
-/// Feeds a piece; its allocations are refused one by one until all are granted.
+/// Feeds a piece. Each of its allocations is refused in turn, until it is fed.
 fn feeds(memory: &RefusingAllocator, follower: &mut Refusable<'_>, piece: &Passed) -> bool {
     for number in 0..MOST {
         memory.refuse_nth(u64::from(number));
@@ -29,7 +30,7 @@ fn feeds(memory: &RefusingAllocator, follower: &mut Refusable<'_>, piece: &Passe
     false
 }
 
-/// The number of the next message, if it could be read; 0 if there is none.
+/// The number of the next message; 0 if it cannot be read or there is none.
 fn number_ahead(follower: &Refusable<'_>, direction: Direction) -> u64 {
     match follower.ahead(direction) {
         Some(message) if message.is_read => message.number,
@@ -37,7 +38,8 @@ fn number_ahead(follower: &Refusable<'_>, direction: Direction) -> u64 {
     }
 }
 
-/// Goes past the next message in the same way. True if each refusal leaves it there.
+/// Goes past the next message. Each allocation is refused in turn, until that succeeds. True if the
+/// message is still there after each refusal.
 fn goes_past(
     memory: &RefusingAllocator,
     follower: &mut Refusable<'_>,
@@ -58,8 +60,8 @@ fn goes_past(
     false
 }
 
-/// Goes past the messages that a piece completes, numbered from this one, and returns the next
-/// number; 0 if something is wrong.
+/// Goes past the messages that a piece completes, of which the first has this number. Returns the
+/// number after the last; 0 if something is wrong.
 fn follows_piece(
     memory: &RefusingAllocator,
     follower: &mut Refusable<'_>,
@@ -83,8 +85,8 @@ fn follows_piece(
     0
 }
 
-/// How many messages of a session a follower reads and goes past, all of which it can read; `None`
-/// if something is wrong.
+/// How many messages of a session a follower reads and goes past, if it can read all of them;
+/// `None` if something is wrong.
 fn follows(
     rt: &HostRuntime,
     memory: &RefusingAllocator,

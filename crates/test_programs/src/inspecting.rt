@@ -1,4 +1,4 @@
-//! Passing a recording through an inspector.
+//! Passing a recording to an inspector.
 ghost use Rattle.std.specs.Prelude.{◌<◌};
 
 use std::alloc::{AllocError, Allocator, Global};
@@ -7,15 +7,15 @@ use wl_message::Limit;
 use wl_recording::{Passed, Recording};
 use wl_sigs::Tables;
 
-/// All that was printed, and the last verdict.
+/// Everything that was printed, and the last verdict.
 #[derive(Drop)]
 pub struct Told {
     pub lines: Vec<u8>,
     pub verdict: Verdict,
 }
 
-/// Passes a piece, with its bytes cut into parts of this size, and its tokens with the first part.
-/// The lines are appended to those of the pieces before it.
+/// Passes a piece in parts of this many bytes, with all tokens in the first part. Appends the lines
+/// printed for it.
 fn pass_cut<A: Allocator + Clone>(
     inspector: &mut Inspector<'_, A>,
     piece: &Passed,
@@ -38,7 +38,7 @@ fn pass_cut<A: Allocator + Clone>(
     Ok(())
 }
 
-/// Passes the pieces of a recording one by one, each cut into parts of this size.
+/// Passes the pieces of a recording one by one, each in parts of this many bytes.
 pub fn inspect(
     alloc: Global,
     tables: &Tables,

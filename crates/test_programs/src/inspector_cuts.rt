@@ -1,4 +1,4 @@
-//! However the bytes are split, an inspector says what the trace of their recording says.
+//! An inspector prints the trace of a recording, however the bytes are split.
 ghost use Rattle.std.specs.Prelude.{◌<◌};
 
 use crate::inspecting::inspect;
@@ -10,7 +10,7 @@ use wl_message::Limit;
 use wl_recording::Recording;
 use wl_sigs::Tables;
 
-/// Whether the pieces, cut into parts of this size, give the lines and the verdict of the trace.
+/// Whether passing the pieces in parts of this size gives the lines and the verdict of the trace.
 fn agrees(alloc: Global, tables: &Tables, text: &[u8], size: usize) -> bool
     requires { 0 < size }
 {
@@ -26,7 +26,7 @@ fn agrees(alloc: Global, tables: &Tables, text: &[u8], size: usize) -> bool
     }
 }
 
-/// How many of the recordings agree.
+/// How many of the recordings do.
 fn agreeing(alloc: Global, tables: &Tables, size: usize) -> u64
     requires { 0 < size }
 {

@@ -1,4 +1,5 @@
-//! However long a session lasts, it takes no more memory; the same holds after a huge piece.
+//! A long session takes no more memory than a short one. A huge piece takes memory only while it is
+//! passed.
 use linked_list_allocator::LocalHeap;
 use std::alloc::AllocError;
 use std::test::Fail;
@@ -10,14 +11,14 @@ use wl_sigs::Tables;
 /// wl_display.sync with new id 2.
 const SYNC: [u8; 12] = [1, 0, 0, 0, 0, 0, 12, 0, 2, 0, 0, 0];
 
-/// wl_callback.done of it, and its wl_display.delete_id.
+/// Its wl_callback.done and wl_display.delete_id.
 const DONE: [u8; 24] = [
     2, 0, 0, 0, 0, 0, 12, 0, 1, 0, 0, 0, 1, 0, 0, 0, 1, 0, 12, 0, 2, 0, 0, 0,
 ];
 
 const ROUNDS: u64 = 20_000;
 
-/// The verdict after this many rounds, with only enough memory for a small session.
+/// The verdict after this many rounds in memory that suffices only for a short session.
 fn goes_on(heap: &LocalHeap, tables: &Tables) -> Result<Verdict, AllocError> {
     let mut inspector = Inspector::new(heap, tables, Limit::USUAL)?;
     go_on(&mut inspector)
@@ -60,7 +61,7 @@ const GLOBAL: [u8; 32] = [
 
 const GLOBALS: u64 = 2_000;
 
-/// How much memory an inspector takes after small pieces: before a huge piece, and after it.
+/// The memory that an inspector takes before and after a huge piece.
 fn taken(heap: &LocalHeap, tables: &Tables, huge: &[u8]) -> Result<(usize, usize), AllocError> {
     let mut inspector = Inspector::new(heap, tables, Limit::USUAL)?;
     taken_by(heap, &mut inspector, huge)
@@ -96,7 +97,7 @@ fn a_huge_piece_takes_no_memory_for_good(rt: HostRuntime) -> Result<(), Fail> {
     Ok(())
 }
 
-/// How much memory an inspector takes: before a piece that needs more than there is, and after it.
+/// The memory that an inspector takes before and after a piece for which there is too little.
 fn taken_by_refused(
     heap: &LocalHeap,
     tables: &Tables,

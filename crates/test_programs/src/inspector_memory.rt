@@ -1,4 +1,4 @@
-//! If memory runs out, an inspector is unchanged, and the same piece can be passed again.
+//! If memory runs out, an inspector is unchanged, and the piece can be passed again.
 use crate::inspecting::Told;
 use crate::recordings::{ALL, DEVICES};
 use std::alloc::{AllocError, Allocator, Global};
@@ -9,7 +9,7 @@ use wl_message::Limit;
 use wl_recording::{Passed, Recording};
 use wl_sigs::Tables;
 
-/// Passes a piece; its allocations are refused one by one until all are granted. True if each
+/// Passes a piece. Each of its allocations is refused in turn, until it has passed. True if each
 /// refusal leaves the lines and the verdict unchanged.
 fn passes(
     memory: &RefusingAllocator,
@@ -36,8 +36,7 @@ fn passes(
     false
 }
 
-/// Whether the pieces, each passed until all its allocations are granted, give the lines and the
-/// verdict of the trace.
+/// Whether passing all pieces in this way gives the lines and the verdict of the trace.
 fn agrees(
     alloc: Global,
     memory: &RefusingAllocator,
@@ -54,7 +53,7 @@ fn agrees(
     says(alloc, memory, &mut inspector, recording.pieces(), &told)
 }
 
-/// Whether an inspector says this about the pieces, each passed until all is granted.
+/// Whether an inspector prints this for the pieces, when they are passed in this way.
 fn says(
     alloc: Global,
     memory: &RefusingAllocator,
@@ -87,7 +86,7 @@ fn is_as_it_was_where_memory_runs_out(rt: HostRuntime) -> Result<(), Fail> {
     Ok(())
 }
 
-/// An inspector after some pieces have passed.
+/// An inspector after some pieces were passed.
 fn after<'t, A: Allocator + Clone>(
     alloc: A,
     tables: &'t Tables,
@@ -104,7 +103,7 @@ fn after<'t, A: Allocator + Clone>(
     Ok(inspector)
 }
 
-/// Whether two inspectors say the same about each of these pieces.
+/// Whether two inspectors print the same for each of these pieces.
 fn agree(
     one: &mut Inspector<'_, RefusingAllocator>,
     other: &mut Inspector<'_>,
@@ -129,17 +128,17 @@ struct Passing<'a> {
     others: &'a [Passed],
 }
 
-/// The result of refusing one allocation of a piece.
+/// What happened when one allocation of a piece was refused.
 enum Refused {
-    /// The inspector says what one says to which the piece was never passed.
+    /// The inspector prints the same as one that never got the piece.
     Forgotten,
-    /// The piece asks for fewer allocations, and has passed.
+    /// The piece made fewer allocations, and has passed.
     NoMore,
     Wrong,
 }
 
-/// Refuses each allocation of a piece in turn, and continues with other pieces each time. True if
-/// each refused inspector says about these what one says to which the piece was never passed.
+/// Refuses each allocation of a piece in turn, and then passes other pieces. True if the inspector
+/// prints the same for these as one that never got the refused piece.
 fn forgets(
     alloc: Global,
     memory: &RefusingAllocator,
@@ -194,8 +193,8 @@ fn refuse(
     })
 }
 
-/// Whether a refused piece leaves no trace, whatever piece comes next: the pieces after it, and
-/// those from the first one on.
+/// Whether a refused piece has no effect on the pieces that come next: those after it, or those
+/// from the first one on.
 fn leaves_nothing(
     alloc: Global,
     memory: &RefusingAllocator,
@@ -236,8 +235,7 @@ fn leaves_nothing_of_a_refused_piece(rt: HostRuntime) -> Result<(), Fail> {
     Ok(())
 }
 
-/// Whether making an inspector is refused with each of its allocations in turn, and finally
-/// succeeds.
+/// Whether making an inspector fails if one of its allocations is refused, and succeeds in the end.
 fn is_made_at_last(memory: &RefusingAllocator, tables: &Tables) -> Result<bool, AllocError> {
     for number in 0u64..100 {
         let own = memory.clone()?;

@@ -2,7 +2,7 @@ use program_arguments::{Job, Stop, job_of};
 use std::alloc::{AllocError, Global};
 use std::test::Fail;
 
-/// Command lines that ask for no job, and a part of the message for each.
+/// Command lines that ask for no job, each with a part of its message.
 const FAULTY: [(&[&str], &str); 15] = [
     (&["waywire"], "Usage: waywire"),
     (&["waywire", "draw"], "unrecognized subcommand 'draw'"),
@@ -36,7 +36,7 @@ const FAULTY: [(&[&str], &str); 15] = [
     ),
 ];
 
-/// Command lines of the demonstration, and how many bytes are carried at once.
+/// Command lines of the demonstration, each with the number of bytes that it carries at once.
 const DEMOS: [(&[&str], u32); 4] = [
     (&["waywire", "demo"], 4096),
     (&["waywire", "demo", "--piece", "1"], 1),
@@ -44,18 +44,17 @@ const DEMOS: [(&[&str], u32); 4] = [
     (&["waywire", "demo", "--piece", "4096"], 4096),
 ];
 
-/// What a command line asks for.
+/// What a command line should ask for.
 #[derive(Clone, Copy)]
 enum Wanted<'a> {
-    /// The job that reads the table file of the first name, if there is one, and then the recording
-    /// of the other.
+    /// To trace the recording with the second name, with the table files named first.
     Trace(&'a [&'a str], &'a str),
     Check(&'a [&'a str], &'a str),
-    /// The job that checks a recording of this name with this limit.
+    /// To check the recording of this name with this limit.
     CheckBy(u16, &'a str),
-    /// The demonstration, with this number of bytes at once.
+    /// The demonstration, carrying this number of bytes at once.
     Demo(u32),
-    /// No job, but this status, and a text that contains this one.
+    /// No job, but a stop with this status and with a text that contains this one.
     Stop(u8, &'a str),
 }
 
@@ -72,7 +71,7 @@ fn add_all(alloc: Global, all: &mut Vec<String>, words: &[&str]) -> Result<(), A
     Ok(())
 }
 
-/// Whether these are the names.
+/// Whether the names are these.
 fn are_named(found: &[String], wanted: &[&str]) -> bool {
     let mut is_so = found.len() == wanted.len();
     for (name, other) in found.iter().zip(wanted.iter()) {
@@ -114,7 +113,7 @@ fn is_stop(stop: &Stop, wanted: Wanted<'_>) -> bool {
     }
 }
 
-/// Whether this is what is wanted.
+/// Whether an answer is the one that is wanted.
 fn is_wanted(answer: &Result<Job, Stop>, wanted: Wanted<'_>) -> bool {
     match answer {
         Ok(job) => is_job(job, wanted),
@@ -122,12 +121,12 @@ fn is_wanted(answer: &Result<Job, Stop>, wanted: Wanted<'_>) -> bool {
     }
 }
 
-/// Whether these words ask for this.
+/// Whether these words get this answer.
 fn is_answered(alloc: Global, words: &[String], wanted: Wanted<'_>) -> bool {
     is_wanted(&job_of(alloc, words), wanted)
 }
 
-/// Whether a command line asks for this.
+/// Whether a command line gets this answer.
 fn answers(alloc: Global, words: &[&str], wanted: Wanted<'_>) -> Result<bool, AllocError> {
     let words = owned(alloc, words)?;
     Ok(is_answered(alloc, words.as_slice(), wanted))
@@ -149,8 +148,7 @@ fn reads_the_file_of_a_check(rt: HostRuntime) -> Result<(), Fail> {
     Ok(())
 }
 
-/// The option of the tables may come before or after the recording, and its word may be joined to
-/// it.
+/// The option `--tables` may come before or after the recording, and its value may be joined to it.
 #[test]
 fn reads_the_file_of_tables(rt: HostRuntime) -> Result<(), Fail> {
     let wanted = Wanted::Trace(&["t"], "f");
@@ -163,7 +161,7 @@ fn reads_the_file_of_tables(rt: HostRuntime) -> Result<(), Fail> {
     Ok(())
 }
 
-/// It may be given several times, and keeps its order.
+/// The option may be given several times; the order is kept.
 #[test]
 fn reads_all_files_of_tables(rt: HostRuntime) -> Result<(), Fail> {
     let words = ["waywire", "trace", "--tables", "b", "f", "--tables=a"];
@@ -186,7 +184,7 @@ fn reads_the_limit(rt: HostRuntime) -> Result<(), Fail> {
     }
     let words = ["waywire", "check", "--limit=-4096", "f"];
     assert!(rt; answers(rt.alloc(), &words, Wanted::Stop(2, "limit"))?);
-    // a word that begins with `-` is a separate option
+    // a word that begins with `-` is an option of its own
     let words = ["waywire", "check", "--limit", "-4096", "f"];
     assert!(rt; answers(rt.alloc(), &words, Wanted::Stop(2, "-4"))?);
     Ok(())

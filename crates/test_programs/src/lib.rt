@@ -1,5 +1,5 @@
-//! The tests of the command's crates through their public calls, above all `program_jobs` and
-//! `program_socket`, and of what these use: the inspector of `wl_check`, lines that are no piece,
+//! Tests of the command's crates through their public calls, above all of `program_jobs` and
+//! `program_socket`; and of what these use: the inspector of `wl_check`, lines that are no piece,
 //! and streams.
 #![tactic(auto)]
 

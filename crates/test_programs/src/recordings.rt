@@ -1,6 +1,6 @@
 //! Recordings of small sessions.
 
-/// A client makes a surface, is told that everything before it was read, and makes the surface
+/// A client makes a surface, learns that everything before it was read, and makes the surface
 /// again.
 pub const SURFACE: &[u8] = b"> 0100000001000c0002000000
 < 0200000000002400010000000e000000776c5f636f6d706f7369746f72000000060000000200000000001c000200000008000000776c5f736561740009000000
@@ -10,7 +10,7 @@ pub const SURFACE: &[u8] = b"> 0100000001000c0002000000
 > 0300000000000c0005000000050000000600080005000000000008000100
 ";
 
-/// A pool is made twice, the second time with no token left.
+/// A pool is made twice, but there is a token for the first one only.
 const NO_TOKEN_LEFT: &[u8] = b"> 0100000001000c0002000000
 < 0200000000001c000100000007000000776c5f73686d000001000000
 > 02000000000020000100000007000000776c5f73686d00000100000003000000 +1
@@ -18,14 +18,14 @@ const NO_TOKEN_LEFT: &[u8] = b"> 0100000001000c0002000000
 > 0100000000000c0006000000
 ";
 
-/// The server ends the session. What follows is not looked at.
+/// The server ends the session with an error. What follows is not read.
 const ENDED: &[u8] = b"> 0100000000000c0002000000
 < 010000000000240009000000000000000f000000756e6b6e6f776e206f626a6563740000
 > 0900000000000800
 < 0100000001000c0002000000
 ";
 
-/// The first message has a bad size. What follows is not looked at.
+/// The first message has a bad size. What follows is not read.
 const BAD_SIZE: &[u8] = b"> 01000000000005
 > 00010000000100
 < 0100000001000c0002000000
@@ -36,8 +36,8 @@ const BAD_NEW_ID: &[u8] = b"> 0100000001000c0003000000
 > 0100000001000c0002000000
 ";
 
-/// The server makes objects, several in one piece, and some with ids of objects that the client has
-/// destroyed. The last one takes the id of an open object.
+/// The server makes objects, several of them in one piece, and some at ids of objects that the
+/// client has destroyed. The last one gets the id of an open object.
 pub const MADE: &[u8] = b"> 0100000001000c0002000000
 < 020000000000180001000000040000006465760001000000
 > 0200000000001c000100000004000000646576000100000003000000
@@ -49,7 +49,7 @@ pub const MADE: &[u8] = b"> 0100000001000c0002000000
 < 0300000000000c00010000ff0300000000000c00000000ff0300000000000c00000000ff
 ";
 
-/// The tables of the objects in it, as text.
+/// A table text with the interfaces of these objects.
 pub const DEVICES: &[u8] = b"interface dev 1
 event made N(off)
 interface off 1

@@ -1,4 +1,4 @@
-//! The session over a socket in memory, whose path can or cannot be removed.
+//! The session over a socket in memory. In some cases its path cannot be removed.
 use crate::demo::LINES;
 use crate::words::command_line;
 use program_jobs::{BoundSocket, Writers, run};
@@ -7,7 +7,7 @@ use std::cell::{Cell, RefCell};
 use std::io::{self, Error, ErrorKind, Read, Write};
 use std::test::Fail;
 
-/// The bytes on their way in one direction, kept in memory.
+/// The bytes that travel in one direction.
 type Way = RefCell<Vec<u8>>;
 
 /// One end of a connection.
@@ -17,7 +17,7 @@ struct SocketEnd<'a> {
     output: &'a Way,
 }
 
-/// The error if a direction's bytes are in use, which they never are.
+/// The error if these bytes are borrowed, which never happens.
 fn busy() -> Error {
     Error::from(ErrorKind::ResourceBusy)
 }
@@ -44,14 +44,14 @@ impl Write for SocketEnd<'_> {
     }
 }
 
-/// What is on its way over one connection.
+/// The bytes that travel over one connection.
 #[derive(Drop)]
 struct Ways {
     to_server: Way,
     to_client: Way,
 }
 
-/// A socket in memory, with what is on its way over the one connection to it.
+/// A socket in memory, and the one connection to it.
 struct Socket<'a> {
     ways: &'a Ways,
     is_connected: Cell<bool>,
@@ -69,8 +69,8 @@ impl<'a> BoundSocket for Socket<'a> {
         })
     }
 
-    /// There is no other end before something connects to the socket; a real socket would wait for
-    /// that.
+    /// Until something connects to the socket there is no other end. A real socket would wait for
+    /// it.
     fn accept(&self) -> io::Result<SocketEnd<'a>> {
         if !self.is_connected.get() {
             return Err(Error::from(ErrorKind::WouldBlock));
@@ -94,7 +94,8 @@ impl<'a> BoundSocket for Socket<'a> {
     }
 }
 
-/// Whether a run over such a socket writes these bytes to standard output and to standard error.
+/// Whether a run over such a socket writes these bytes to standard output and these to standard
+/// error.
 fn writes(alloc: Global, is_stuck: bool, written: (&[u8], &[u8])) -> Result<bool, AllocError> {
     let words = command_line(alloc, &["socket", "a.sock"])?;
     let ways = Ways {
@@ -128,7 +129,7 @@ fn shows_the_session_and_removes_the_path(rt: HostRuntime) -> Result<(), Fail> {
     Ok(())
 }
 
-/// A path that stays is a failure, although the session went well.
+/// If the path cannot be removed, the job fails although the session went well.
 #[test]
 fn says_that_the_path_was_not_removed(rt: HostRuntime) -> Result<(), Fail> {
     assert!(rt; writes(rt.alloc(), true, (b"", b"waywire: socket failed\n"))?);

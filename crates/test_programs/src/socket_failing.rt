@@ -1,4 +1,4 @@
-// The session over streams in memory, one call of which fails, and with each allocation refused.
+// The session over streams in memory, if one of their calls fails, and if an allocation is refused.
 use program_socket::{SessionOutcome, SocketError, socket_session, socket_text};
 use std::alloc::{AllocError, Allocator, Global};
 use std::cell::{Cell, RefCell};
@@ -9,17 +9,16 @@ use wl_message::{Limit, ScriptReader, ScriptWriter, Step};
 use wl_session::trace;
 use wl_sigs::Tables;
 
-/// A number that no call has.
+/// A number that is greater than that of any call.
 const NEVER: u32 = u32::MAX;
 
-/// The numbers of the reads, if as many bytes pass as are asked for: each turn is a write and a
-/// read.
+/// The numbers of the reads if every call passes all bytes: each turn is a write and a read.
 const READS: [u32; 6] = [1, 3, 5, 7, 9, 11];
 
 /// What a failing call does.
 const FAILS: Step = Step::Fail(ErrorKind::Interrupted);
 
-/// What a read does that finds the end of the input, although more bytes follow.
+/// What a read does that reports the end of the input, although more bytes follow.
 const ENDS: Step = Step::Pass(0);
 
 /// What the session prints.
@@ -38,11 +37,11 @@ const SHOWN: &[u8] = b"-> wl_display@1.get_registry(new id wl_registry@2)
 agree: 4 objects
 ";
 
-/// The bytes on their way in one direction, kept in memory.
+/// The bytes that travel in one direction.
 type Way = RefCell<Vec<u8>>;
 
-/// A connection in memory. One call of its two streams does this step, and in every other call at
-/// most this number of bytes passes.
+/// A connection in memory. One call of its two streams does this step; every other call passes at
+/// most this number of bytes.
 #[derive(Drop)]
 struct Connection {
     to_server: Way,
@@ -110,7 +109,7 @@ struct Stream<'a> {
     connection: &'a Connection,
 }
 
-/// The error if a direction's bytes are in use, which they never are.
+/// The error if these bytes are borrowed, which never happens.
 fn busy() -> io::Error {
     io::Error::from(ErrorKind::ResourceBusy)
 }
@@ -159,8 +158,7 @@ fn play(
     )
 }
 
-/// Whether both ends have the same four objects, and the trace of what passed is that of the
-/// session.
+/// Whether both ends have the same four objects, and what passed has the trace of the session.
 fn is_the_session(alloc: Global, tables: &Tables, played: &SessionOutcome<Global>) -> bool {
     let Some(lines) = SHOWN.strip_suffix(b"agree: 4 objects\n") else {
         return false;
@@ -171,13 +169,13 @@ fn is_the_session(alloc: Global, tables: &Tables, played: &SessionOutcome<Global
     }
 }
 
-/// Whether this says that the session failed.
+/// Whether the session failed, other than for lack of memory.
 fn has_failed<T>(answer: &Result<T, SocketError>) -> bool {
     matches!(answer, Err(error) if *error == SocketError::Failed)
 }
 
 /// Whether the session has the same result if the call with this number fails and is repeated, and
-/// fails if it is not repeated; the program never repeats one.
+/// fails if it is not repeated. The program repeats none.
 fn overcomes(alloc: Global, tables: &Tables, fails_at: u32, most: usize) -> bool {
     let overcome = match play(
         alloc,
@@ -194,7 +192,8 @@ fn overcomes(alloc: Global, tables: &Tables, fails_at: u32, most: usize) -> bool
     overcome && failed && has_failed(&printed(alloc, tables, &connection))
 }
 
-/// How many reads and writes the session makes if none fails, provided that it is the session.
+/// How many reads and writes the session makes if none fails; the result must be that of the
+/// session.
 fn count_calls(alloc: Global, tables: &Tables, connection: &Connection) -> Option<u32> {
     match play(alloc, tables, connection, 0) {
         Ok(played) if is_the_session(alloc, tables, &played) => Some(connection.calls.get()),
@@ -202,8 +201,8 @@ fn count_calls(alloc: Global, tables: &Tables, connection: &Connection) -> Optio
     }
 }
 
-/// Whether the session overcomes a failure in each of its calls, of which there are at least this
-/// many.
+/// Whether the session overcomes a failure of each of its calls, and makes at least this number of
+/// calls.
 fn overcomes_each(alloc: Global, tables: &Tables, most: usize, at_least: u32) -> bool {
     let Some(calls) = count_calls(alloc, tables, &Connection::failing(alloc, NEVER, most)) else {
         return false;
@@ -216,13 +215,13 @@ fn each_call_may_fail_once(rt: HostRuntime) -> Result<(), Fail> {
     let tables = Tables::core(rt.alloc())?;
     // A write and a read in each of the six turns.
     assert!(rt; overcomes_each(rt.alloc(), &tables, usize::MAX, 12));
-    // 34 of each, for at most seven bytes at a time.
+    // 34 writes and reads, each of at most seven bytes.
     assert!(rt; overcomes_each(rt.alloc(), &tables, 7, 68));
     Ok(())
 }
 
-/// Whether the session fails if the read with this number finds the end of the input, although a
-/// retry is left and another read would give the rest.
+/// Whether the session fails if the read with this number reports the end of the input, although a
+/// retry is left and more bytes follow.
 fn fails_at_an_end(alloc: Global, tables: &Tables, ends_at: u32) -> bool {
     let connection = Connection::new(alloc, ends_at, ENDS, usize::MAX);
     has_failed(&play(alloc, tables, &connection, 1))
@@ -237,7 +236,7 @@ fn reads_nothing_behind_an_end(rt: HostRuntime) -> Result<(), Fail> {
     Ok(())
 }
 
-/// What the session over a connection prints, with this memory.
+/// What the session over a connection prints, using this memory.
 fn printed<A: Allocator + Clone + Drop>(
     memory: A,
     tables: &Tables,
@@ -246,8 +245,8 @@ fn printed<A: Allocator + Clone + Drop>(
     socket_text(memory, tables, connection.client(), connection.server())
 }
 
-/// Whether the session is out of memory if an allocation was refused, and else prints what it
-/// should.
+/// If an allocation is refused: whether the session is out of memory. Otherwise: whether it prints
+/// what it should.
 fn is_refused_or_whole(
     alloc: Global,
     tables: &Tables,
@@ -264,8 +263,8 @@ fn is_refused_or_whole(
     }
 }
 
-/// Refuses each allocation in turn. True if each run ends as it should, and finally none is
-/// refused.
+/// Refuses each allocation in turn. True if each run ends as it should, and in the end no
+/// allocation is refused.
 fn is_refused_in_turn(
     alloc: Global,
     tables: &Tables,

@@ -1,4 +1,4 @@
-//! Traces and checks with the tables of a text.
+//! Tracing and checking with table texts.
 use program_arguments::Job;
 use program_jobs::{TablesFile, Writers, act};
 use std::alloc::{AllocError, Global};
@@ -16,7 +16,7 @@ request set_source f f f f
 request set_destination i i
 ";
 
-/// A session that binds an interface of it.
+/// A session that binds the interface in it.
 const SESSION: &[u8] = b"> 0100000001000c0002000000
 < 0200000000002400010000000e00000077705f76696577706f7274657200000001000000
 > 0200000000002800010000000e00000077705f76696577706f727465720000000100000003000000
@@ -28,15 +28,15 @@ const LINES: &[u8] = b"-> wl_display@1.get_registry(new id wl_registry@2)
 -> wl_registry@2.bind(1, \"wp_viewporter\", 1, new id wp_viewporter@3)
 ";
 
-/// The verdict on it, with these tables and without them.
+/// The verdict with these tables, and the one without them.
 const LAWFUL: &[u8] = b"lawful: 2 requests, 1 events, 0 and 0 bytes left\n";
 
 const BROKEN: &[u8] = b"broken: > message 2 at byte 12: F9 bad bind\n";
 
-/// What standard error says where no table has the interface.
+/// What is written to standard error if the tables lack the interface.
 const HINT: &[u8] = b"waywire: no table has wp_viewporter: see --tables\n";
 
-/// Texts that are not taken as tables, and what standard error says.
+/// Texts that are not accepted as tables, and what is written to standard error.
 const REFUSED: [(&[u8], &[u8]); 13] = [
     (b"request poke", b"waywire: tables line 1: bad line\n"),
     // A bad line comes before a broken rule.
@@ -84,7 +84,7 @@ const REFUSED: [(&[u8], &[u8]); 13] = [
         b"interface a 1\nevent made N",
         b"waywire: tables line 2: bad line\n",
     ),
-    // The first line that breaks a rule, not the lowest rule of all lines.
+    // The first line that breaks a rule is reported, even if a later line breaks a lower rule.
     (
         b"interface a 1\nrequest r o(b)\ninterface a 1",
         b"waywire: tables line 2: breaks V9\n",
@@ -94,10 +94,10 @@ const REFUSED: [(&[u8], &[u8]); 13] = [
 /// A text that is no recording.
 const NO_RECORDING: &[u8] = b"> 012\n";
 
-/// The name of the file of tables.
+/// The name of the file with the table text.
 const NAME: &str = "a.tables";
 
-/// Words for files of tables.
+/// These names, as the words that name table texts.
 fn named(alloc: Global, names: &[&str]) -> Result<Vec<String>, AllocError> {
     let mut all = Vec::new(alloc);
     for name in names {
@@ -106,7 +106,7 @@ fn named(alloc: Global, names: &[&str]) -> Result<Vec<String>, AllocError> {
     Ok(all)
 }
 
-/// The job that traces a recording with the tables of a text.
+/// The job that traces a recording with these tables.
 fn trace_by_tables(alloc: Global) -> Result<Job, AllocError> {
     Ok(Job::Trace {
         tables: named(alloc, &[NAME])?,
@@ -115,7 +115,7 @@ fn trace_by_tables(alloc: Global) -> Result<Job, AllocError> {
     })
 }
 
-/// The job that checks a recording with these tables, if any.
+/// The job that checks a recording with the table texts of these names.
 fn check_by(alloc: Global, names: &[&str]) -> Result<Job, AllocError> {
     Ok(Job::Check {
         tables: named(alloc, names)?,
@@ -124,7 +124,7 @@ fn check_by(alloc: Global, names: &[&str]) -> Result<Job, AllocError> {
     })
 }
 
-/// The texts, each in the file of its name.
+/// The texts, each in the file with its name.
 fn files_of<'a>(
     alloc: Global,
     texts: &[(&'a str, &'a [u8])],
@@ -139,8 +139,8 @@ fn files_of<'a>(
     Ok(files)
 }
 
-/// Whether a job over these texts of tables and this recording ends with this status, and writes
-/// these bytes to standard output and to standard error.
+/// Whether a job over these table texts and this recording ends with this status, and writes these
+/// bytes to standard output and these to standard error.
 fn answers(
     alloc: Global,
     job: &Job,
@@ -178,7 +178,7 @@ fn traces_and_checks_by_the_tables_of_a_text(rt: HostRuntime) -> Result<(), Fail
     Ok(())
 }
 
-/// Texts of tables in two files, and what standard error says.
+/// Two table texts in two files, and what is written to standard error.
 const REFUSED_TOGETHER: [(&[u8], &[u8], &[u8]); 6] = [
     (
         b"interface a 1\n",
@@ -196,19 +196,19 @@ const REFUSED_TOGETHER: [(&[u8], &[u8], &[u8]); 6] = [
         b"interface b 1\n\nfoo",
         b"waywire: tables b line 3: bad line\n",
     ),
-    // An interface of the first file stands in the second again.
+    // An interface of the first file is declared again in the second.
     (
         b"\ninterface a 1\n",
         b"# b\ninterface a 1",
         b"waywire: tables b line 2: breaks V1\n",
     ),
-    // The first names an interface that none of them has.
+    // The first text names an interface that no text declares.
     (
         b"interface a 1\nrequest r o(c)\n",
         b"interface b 1",
         b"waywire: tables a line 2: breaks V9\n",
     ),
-    // A bad line comes before a broken rule, also in a later file.
+    // A bad line comes before a broken rule, even if it is in a later file.
     (
         b"interface wl_seat 9",
         b"interface",
@@ -216,7 +216,7 @@ const REFUSED_TOGETHER: [(&[u8], &[u8], &[u8]); 6] = [
     ),
 ];
 
-/// Two texts are taken as one, and a fault names the file and its line.
+/// Two texts are read as one; a fault is reported by file and line.
 #[test]
 fn names_the_file_of_several(rt: HostRuntime) -> Result<(), Fail> {
     let alloc = rt.alloc();
@@ -228,7 +228,7 @@ fn names_the_file_of_several(rt: HostRuntime) -> Result<(), Fail> {
     Ok(())
 }
 
-/// A file of a folder is named, also where it is the only one there.
+/// A file of a folder is reported by name, even if it is the folder's only file.
 #[test]
 fn names_the_file_of_a_folder(rt: HostRuntime) -> Result<(), Fail> {
     let alloc = rt.alloc();
@@ -239,7 +239,7 @@ fn names_the_file_of_a_folder(rt: HostRuntime) -> Result<(), Fail> {
     Ok(())
 }
 
-/// An interface may be declared in one file, extended in the next, and named by an earlier one.
+/// An interface may be declared in one file and extended in the next; an earlier file may name it.
 #[test]
 fn takes_several_texts_as_one(rt: HostRuntime) -> Result<(), Fail> {
     let alloc = rt.alloc();
@@ -258,7 +258,7 @@ fn takes_several_texts_as_one(rt: HostRuntime) -> Result<(), Fail> {
     Ok(())
 }
 
-/// The recording has a bad line each time; the tables are reported first.
+/// In each case the recording has a bad line, too; the tables are reported first.
 #[test]
 fn refuses_texts_that_give_no_tables(rt: HostRuntime) -> Result<(), Fail> {
     let alloc = rt.alloc();
@@ -270,8 +270,8 @@ fn refuses_texts_that_give_no_tables(rt: HostRuntime) -> Result<(), Fail> {
     Ok(())
 }
 
-/// Whether a job with these tables and this recording ends with 3, prints nothing, and writes this
-/// message.
+/// Whether a job over these tables and this recording ends with status 3, prints nothing, and
+/// writes this message.
 fn says<T: Read + Drop, R: Read>(
     alloc: Global,
     job: &Job,
@@ -299,7 +299,7 @@ fn failing() -> ScriptReader<'static> {
 
 const FAILS: &[Step] = &[Step::Fail(ErrorKind::BrokenPipe)];
 
-/// The recording fails, or is endless, each time; the tables are reported first.
+/// In each case the recording cannot be read or has no end, too; the tables are reported first.
 #[test]
 fn refuses_bad_tables_before_any_recording(rt: HostRuntime) -> Result<(), Fail> {
     let alloc = rt.alloc();
@@ -311,8 +311,8 @@ fn refuses_bad_tables_before_any_recording(rt: HostRuntime) -> Result<(), Fail> 
     Ok(())
 }
 
-/// Tables that fail or are endless are reported before a recording with a bad line, and a recording
-/// that fails only if the tables are sound.
+/// Tables that cannot be read or have no end are reported before a recording with a bad line. A
+/// recording that cannot be read is reported only if the tables have no fault.
 #[test]
 fn names_the_file_that_is_at_fault(rt: HostRuntime) -> Result<(), Fail> {
     let alloc = rt.alloc();

@@ -1,4 +1,4 @@
-// A reader that keeps a copy: with each allocation refused, and when a read fails.
+// A reader that keeps a copy, if an allocation is refused, and if a read fails.
 use std::alloc::{AllocError, Global};
 use std::io::{self, ErrorKind, Read};
 use std::test::Fail;
@@ -9,7 +9,7 @@ use wl_session::{Direction, Recording, Tee};
 /// What passes.
 const BYTES: &[u8] = b"abcdef";
 
-/// Whether a recording has `BYTES` and nothing else.
+/// Whether a recording consists of `BYTES`.
 fn has_bytes(recording: &Recording<RefusingAllocator>) -> bool {
     match recording.pieces() {
         [piece] => piece.direction == Direction::ToServer && piece.bytes.as_slice() == BYTES,
@@ -17,8 +17,8 @@ fn has_bytes(recording: &Recording<RefusingAllocator>) -> bool {
     }
 }
 
-/// Whether a copy whose allocations are refused in turn is added to a recording, whole and once.
-/// Before that each call is out of memory, and leaves the recording empty.
+/// Whether a copy is added to a recording, whole and once, after each of its allocations was
+/// refused in turn. Each of those calls must be out of memory, and leave the recording empty.
 fn is_added_at_last(
     memory: &RefusingAllocator,
     tee: &mut Tee<ScriptReader<'_>, RefusingAllocator>,
@@ -41,7 +41,8 @@ fn is_added_at_last(
     false
 }
 
-/// Whether a new `Tee` is out of memory if its only allocation is refused, and else copies.
+/// Whether making a `Tee` is out of memory if its only allocation is refused, and otherwise gives
+/// one that copies.
 fn copies_at_last(memory: &RefusingAllocator) -> Result<bool, AllocError> {
     memory.refuse_nth(0);
     let refused = Tee::new(memory.clone()?, ScriptReader::new(BYTES, &[]), 6).is_err();
@@ -66,8 +67,8 @@ fn is_failure(read: io::Result<usize>, kind: ErrorKind) -> bool {
     }
 }
 
-/// Whether a read that fails after 4 bytes gives the reason, and so does one after all 6, when
-/// there is no room to copy more.
+/// Whether a read that fails after 4 bytes returns the error; and a read after all 6 bytes returns
+/// the error for a copy that is full.
 fn says_why(tee: &mut Tee<ScriptReader<'_>>, kind: ErrorKind) -> bool {
     let mut buf = [0; 6];
     matches!(tee.read(&mut buf), Ok(4))

@@ -1,4 +1,4 @@
-//! The line of a verdict for which no file is long enough.
+//! The line of a verdict on a session that is too long for a file.
 use std::alloc::{AllocError, Global};
 use std::test::Fail;
 use wl_check::{check, write_verdict};

@@ -1,21 +1,21 @@
-//! What the words of a command line ask for.
+//! Asking for a job with the words of a command line.
 use program_arguments::{Job, Stop, job_of};
 use program_jobs::TablesFile;
 use std::alloc::{AllocError, Global};
 use std::io::Empty;
 
-/// What these words after the program's name ask for.
+/// The answer to these words after the program's name.
 pub fn asked(alloc: Global, words: &[&str]) -> Result<Result<Job, Stop>, AllocError> {
     let all = command_line(alloc, words)?;
     Ok(job_of(alloc, all.as_slice()))
 }
 
-/// No file of tables.
+/// No table files.
 pub fn no_tables(alloc: Global) -> Vec<TablesFile<'static, Empty>> {
     Vec::new(alloc)
 }
 
-/// A command line: the program's name, and these words.
+/// A command line of the program's name and these words.
 pub fn command_line(alloc: Global, words: &[&str]) -> Result<Vec<String>, AllocError> {
     let mut all = Vec::new(alloc);
     all.push(String::from_str(alloc, "waywire")?)?;

@@ -1,4 +1,4 @@
-//! Output that is interrupted, and output that is flushed.
+//! Interrupted output, and flushed output.
 use crate::words::no_tables;
 use program_arguments::Job;
 use program_jobs::{Writers, act};
@@ -17,7 +17,7 @@ const INTERRUPTED: &[Step] = &[
 
 const LAWFUL: &[u8] = b"lawful: 0 requests, 0 events, 0 and 0 bytes left\n";
 
-/// A writer that passes on what it was given when it is flushed, unless it is broken.
+/// A writer that passes bytes on only when it is flushed; if it is broken, the flush fails.
 #[derive(Drop)]
 struct Buffered {
     waiting: Vec<u8>,
@@ -60,7 +60,7 @@ fn check(alloc: Global) -> Result<Job, AllocError> {
     })
 }
 
-/// Does the job with a recording of this text and these writers, and returns the status.
+/// Does the job over a recording with this text, with these writers, and returns the status.
 fn status_over<O: Write, E: Write>(
     alloc: Global,
     text: &[u8],
@@ -71,7 +71,7 @@ fn status_over<O: Write, E: Write>(
     Ok(act(alloc, alloc, &job, no_tables(alloc), &mut file, writers))
 }
 
-/// An interrupted write is repeated, both of the output and of a failure's line.
+/// An interrupted write is repeated, both for the output and for a failure's line.
 #[test]
 fn writes_on_after_an_interruption(rt: HostRuntime) -> Result<(), Fail> {
     let alloc = rt.alloc();
@@ -91,7 +91,7 @@ fn writes_on_after_an_interruption(rt: HostRuntime) -> Result<(), Fail> {
     Ok(())
 }
 
-/// The output is flushed, so that all of it has passed if the status is the verdict's.
+/// The output is flushed, so all of it has passed when the status is the verdict's.
 #[test]
 fn flushes_the_output(rt: HostRuntime) -> Result<(), Fail> {
     let alloc = rt.alloc();

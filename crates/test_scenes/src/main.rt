@@ -1,5 +1,5 @@
-//! Plays the scenes of the files on the command line, and prints for each whether everything went
-//! as it says. (crates/test_scenes/README.md)
+//! Plays the scenes in the files that the command line names, and prints for each scene whether
+//! everything went as it should. (crates/test_scenes/README.md)
 #![tactic(auto)]
 
 use std::process::ExitCode;

@@ -81,7 +81,7 @@ fn changed_at(
     Ok(changed)
 }
 
-/// The same bytes.
+/// A copy of these bytes.
 pub fn copy_of(alloc: Global, bytes: &[u8]) -> Result<Vec<u8>, AllocError> {
     let mut copy = Vec::new(alloc);
     copy.extend_from_slice(bytes)?;

@@ -127,7 +127,7 @@ impl Drawer {
         Ok(call)
     }
 
-    /// The kind of the next move. While reading, it is mostly the one that goes on with that.
+    /// The kind of the next move; while reading, mostly one that goes on reading.
     fn verb(&mut self, model: &Model<'_>) -> &'static str {
         if self.is_reading() && self.dice.below(4) > 0 {
             return reading(model);

@@ -36,7 +36,7 @@ pub struct Message {
 }
 
 impl Message {
-    /// One without arguments and without effect.
+    /// A message without arguments and without effect.
     pub fn new(alloc: Global, target: Object, iface: Iface, opcode: u16) -> Message {
         Message {
             target,

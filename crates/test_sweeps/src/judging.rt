@@ -40,11 +40,11 @@ pub const OUTCOMES: [&str; 7] = [
 /// How moves went.
 #[derive(Clone, Copy)]
 pub struct MoveTallies {
-    /// Of each kind how many moves were made; those that did nothing are counted as faults.
+    /// How many moves of each kind were made; those that did nothing count as faults.
     pub moves: [Tally; 12],
     /// How often each of `OUTCOMES` occurred.
     pub outcomes: [Tally; 7],
-    /// Moves of which an allocation was refused.
+    /// Moves in which an allocation was refused.
     pub refused: Tally,
     /// Moves after which nothing waited in any queue.
     pub drained: Tally,

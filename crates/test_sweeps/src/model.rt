@@ -33,7 +33,7 @@ pub struct Told {
     pub globals: usize,
 }
 
-/// What happened to objects of the server. Special cases are counted as faults.
+/// What happened to objects of the server. Special cases count as faults.
 #[derive(Clone, Copy)]
 pub struct Sights {
     /// Objects that an event made. Special: a message on its way still has the id for an older one.

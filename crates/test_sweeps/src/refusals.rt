@@ -56,8 +56,8 @@ pub fn refuse(props: Props<'_>, sample: &Sample<'_>, call: Call) -> Result<Tally
     Err(Trouble::Memory)
 }
 
-/// How many are wrong in the end, when no allocation was refused: none if the result is the same as
-/// before, and there are allocations.
+/// The number of mistakes at the end: 0 if the last call was refused nothing, its result is the
+/// same as before, and at least one allocation was refused before it.
 fn wrong_at_last(is_refused: bool, is_same: bool, number: u64) -> usize {
     if is_refused || !is_same || number == 0 {
         1

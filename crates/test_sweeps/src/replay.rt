@@ -38,8 +38,7 @@ pub struct Props<'a> {
     pub memory: &'a RefusingAllocator,
 }
 
-/// How the bytes of a recording reach an end: joined as far as no call is in between, or each
-/// alone.
+/// How the bytes of a recording reach an end: together up to the next call, or one at a time.
 #[derive(Clone, Copy)]
 enum Cut {
     Whole,
@@ -313,7 +312,7 @@ fn write_counts<T: Table>(
     write!(text, "{used} {births} {} ", objects.len(maker))
 }
 
-/// The bytes as one piece, or as a piece for each.
+/// The bytes as one piece, or as one piece for each byte.
 fn pieces_of(alloc: Global, bytes: &[u8], cut: Cut) -> Result<Vec<Piece<'_>>, AllocError> {
     let mut pieces = Vec::new(alloc);
     match cut {

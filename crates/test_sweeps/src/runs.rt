@@ -57,7 +57,7 @@ pub const KINDS: [&str; 12] = [
 pub struct RunTallies {
     /// How many recordings were lawful up to the error.
     pub runs: Tally,
-    /// Of each kind how many moves were made; those that did nothing are counted as faults.
+    /// How many moves of each kind were made; those that did nothing count as faults.
     pub moves: [Tally; 12],
 }
 

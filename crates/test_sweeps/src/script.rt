@@ -12,8 +12,8 @@ pub enum Step<'a> {
     Read(usize),
 }
 
-/// How the lines for an end begin: those of its calls, which a recording skips, and those of the
-/// pieces that it reads.
+/// How the lines for an end begin: its calls, which are comments in a recording, and the pieces
+/// that it reads.
 #[derive(Clone, Copy)]
 struct Marks {
     call: &'static str,

@@ -39,8 +39,8 @@ fn is_of(kind: Kind, word: &str) -> bool {
     }
 }
 
-/// The place of the first argument whose object is not live at the writer, or is of another
-/// interface than the signature asks for.
+/// The place of the first argument whose object is not live at the writer, or has another interface
+/// than the signature asks for.
 pub fn first_lost(kinds: &[Kind], args: &str, writer: &MeantEnd) -> Option<usize> {
     let words = args.split_whitespace();
     for (place, (kind, word)) in kinds.iter().zip(words).enumerate() {
