@@ -7,7 +7,7 @@ use Rattle.std.proofs.Common.{inl, inr, zero}
 use Rattle.std.proofs.lemmas.Bool.{cases_lt}
 use Rattle.std.proofs.lemmas.List.{drop_all, get_or-set_other, get_or_default}
 use Rattle.std.proofs.lemmas.Option.{unwrap_or-slice_get}
-use Rattle.wl_server.specs.State.{Global, Registry, mark_of, with_mark}
+use Rattle.wl_server.specs.State.{Global, Registry, has_name, with_name}
 use Rattle.wl_server.specs.Announcing.{Owing, Removal, Telling, owings, owes_removal, owes_telling, marked}
 
 -- the first name is owed nothing
@@ -71,24 +71,24 @@ owings-same test other owing n (x ∷ globals) h =
     (h n x (omega arith))
     ∙ ap (λ (l : List Owing). if other n x then owing n x ∷ l else l) more
 
--- the mark of one name is no other's
-mark-other : (marks : List Bool) (n k : ℕ) → 0 < n → n < k → mark_of (with_mark marks n) k ≡ mark_of marks k
-mark-other marks n k p l =
+-- adding a name adds no other
+name-other : (names : List Bool) (n k : ℕ) → 0 < n → n < k → has_name (with_name names n) k ≡ has_name names k
+name-other names n k p l =
     let other : k - 1 ≢ n - 1 = λ e. omega (arith, e) in
-    unwrap_or-slice_get (with_mark marks n) (k - 1) false
-    ∙ (get_or-set_other marks (n - 1) (k - 1) true false other ∙ sym (unwrap_or-slice_get marks (k - 1) false))
+    unwrap_or-slice_get (with_name names n) (k - 1) false
+    ∙ (get_or-set_other names (n - 1) (k - 1) true false other ∙ sym (unwrap_or-slice_get names (k - 1) false))
 
--- marking a name changes nothing for the names after it
+-- adding a name changes nothing for the names after it
 pub removals-behind : (r : Registry) (owing : ℕ → Global → Owing) (n m : ℕ) (globals : List Global) → 0 < n → n < m
     → owings (owes_removal r) owing m globals ≡ owings (owes_removal (marked (Removal n) r)) owing m globals
 removals-behind r owing n m globals p l =
     owings-same (owes_removal r) (owes_removal (marked (Removal n) r)) owing m globals
-    (λ k x h. ap (λ (b : Bool). (mark_of r.told k && not x.present) && not b)
-    (sym (mark-other r.removed n k p (omega (arith, h)))))
+    (λ k x h. ap (λ (b : Bool). (has_name r.told k && not x.present) && not b)
+    (sym (name-other r.removed n k p (omega (arith, h)))))
 
 pub tellings-behind : (r : Registry) (x : Global) (owing : ℕ → Global → Owing) (n m : ℕ) (globals : List Global) → 0 < n
     → n < m
     → owings (owes_telling r) owing m globals ≡ owings (owes_telling (marked (Telling n x) r)) owing m globals
 tellings-behind r x owing n m globals p l =
     owings-same (owes_telling r) (owes_telling (marked (Telling n x) r)) owing m globals
-    (λ k y h. ap (λ (b : Bool). y.present && not b) (sym (mark-other r.told n k p (omega (arith, h)))))
+    (λ k y h. ap (λ (b : Bool). y.present && not b) (sym (name-other r.told n k p (omega (arith, h)))))

@@ -5,7 +5,7 @@ use Rattle.std.specs.Prelude.{not, ◌&&◌, if◌then◌else◌, map}
 use Rattle.std.proofs.lemmas.List.{get_or-set_other, get_or_default}
 use Rattle.std.proofs.lemmas.Option.{unwrap_or-slice_get}
 use Rattle.wl_message.proofs.Steps.{side}
-use Rattle.wl_server.specs.State.{Global, Registry, mark_of, with_mark}
+use Rattle.wl_server.specs.State.{Global, Registry, has_name, with_name}
 use Rattle.wl_server.specs.Announcing.{Owing, Removal, Telling, due_to, owings, owes_removal}
 use Rattle.wl_server.specs.Announcing.{owes_telling, marked}
 
@@ -67,7 +67,7 @@ nothing-due globals r n m l d h k =
     (λ i. all-none (owes_removal r) (λ name _. Removal name) globals n l h i
     ++ all-none (owes_telling r) Telling globals m d k i)
 
--- ---- a name is marked
+-- ---- a name is added
 
 and-no : (b : Bool) → (b && false) ≡ false
 and-no true = refl
@@ -77,40 +77,40 @@ first-true : (b c : Bool) → (b && c) ≡ true → b ≡ true
 first-true true c e = refl
 first-true false c e = e
 
--- the mark of one name is no other's
-pub mark-apart : (marks : List Bool) (n k : ℕ) → 0 < n → 0 < k → k ≢ n → mark_of (with_mark marks n) k ≡ mark_of marks k
-mark-apart marks n k p q ne =
+-- adding a name adds no other
+pub name-apart : (names : List Bool) (n k : ℕ) → 0 < n → 0 < k → k ≢ n → has_name (with_name names n) k ≡ has_name names k
+name-apart names n k p q ne =
     let other : k - 1 ≢ n - 1 = λ e. ne (omega (arith, e, p, q)) in
-    unwrap_or-slice_get (with_mark marks n) (k - 1) false
-    ∙ (get_or-set_other marks (n - 1) (k - 1) true false other ∙ sym (unwrap_or-slice_get marks (k - 1) false))
+    unwrap_or-slice_get (with_name names n) (k - 1) false
+    ∙ (get_or-set_other names (n - 1) (k - 1) true false other ∙ sym (unwrap_or-slice_get names (k - 1) false))
 
 removed-kept : (r : Registry) (n k : ℕ) (y : Global) → k ≢ n → owes_removal r (k + 1) y ≡ false
     → owes_removal (marked (Removal (n + 1)) r) (k + 1) y ≡ false
 removed-kept r n k y ne h =
-    ap (λ (b : Bool). (mark_of r.told (k + 1) && not y.present) && not b)
-    (mark-apart r.removed (n + 1) (k + 1) (omega arith) (omega arith) (λ e. ne (omega (arith, e)))) ∙ h
+    ap (λ (b : Bool). (has_name r.told (k + 1) && not y.present) && not b)
+    (name-apart r.removed (n + 1) (k + 1) (omega arith) (omega arith) (λ e. ne (omega (arith, e)))) ∙ h
 
 -- after the removal of a name is sent, that of the next is next
 pub removal-settled : (r : Registry) (globals : List Global) (n : ℕ) (x : Global)
     → NoneOf (owes_removal r) globals n → n < length globals → x ≡ get_or globals n x
-    → mark_of (with_mark r.removed (n + 1)) (n + 1) ≡ true
+    → has_name (with_name r.removed (n + 1)) (n + 1) ≡ true
     → NoneOf (owes_removal (marked (Removal (n + 1)) r)) globals (n + 1)
 removal-settled r globals n x h here e is =
     none-next (owes_removal r) (owes_removal (marked (Removal (n + 1)) r)) globals n x
     (λ k y l f. removed-kept r n k y (λ same. omega (arith, same, l)) f) h here e
-    (ap (λ (b : Bool). (mark_of r.told (n + 1) && not x.present) && not b) is
-    ∙ and-no (mark_of r.told (n + 1) && not x.present))
+    (ap (λ (b : Bool). (has_name r.told (n + 1) && not x.present) && not b) is
+    ∙ and-no (has_name r.told (n + 1) && not x.present))
 
 told-kept : (r : Registry) (n k : ℕ) (x y : Global) → k ≢ n → owes_telling r (k + 1) y ≡ false
     → owes_telling (marked (Telling (n + 1) x) r) (k + 1) y ≡ false
 told-kept r n k x y ne h =
     ap (λ (b : Bool). y.present && not b)
-    (mark-apart r.told (n + 1) (k + 1) (omega arith) (omega arith) (λ e. ne (omega (arith, e)))) ∙ h
+    (name-apart r.told (n + 1) (k + 1) (omega arith) (omega arith) (λ e. ne (omega (arith, e)))) ∙ h
 
 -- and so for the telling of a name
 pub telling-settled : (r : Registry) (globals : List Global) (n : ℕ) (x : Global)
     → NoneOf (owes_telling r) globals n → n < length globals → x ≡ get_or globals n x
-    → mark_of (with_mark r.told (n + 1)) (n + 1) ≡ true
+    → has_name (with_name r.told (n + 1)) (n + 1) ≡ true
     → NoneOf (owes_telling (marked (Telling (n + 1) x) r)) globals (n + 1)
 telling-settled r globals n x h here e is =
     none-next (owes_telling r) (owes_telling (marked (Telling (n + 1) x) r)) globals n x
@@ -133,13 +133,13 @@ pub removals-stay : (r : Registry) (globals : List Global) (n m : ℕ) (x : Glob
 removals-stay r globals n m x h here e is k y l there d = elim (same_or_apart k n) [
   | inl same ↦ (
       let present : y.present ≡ true = ap (λ (g : Global). g.present) (same-global globals k n x y same here e d)
-      ∙ first-true x.present (not (mark_of r.told (n + 1))) is in
-      ap (λ (b : Bool). (mark_of (with_mark r.told (n + 1)) (k + 1) && not b) && not (mark_of r.removed (k + 1)))
+      ∙ first-true x.present (not (has_name r.told (n + 1))) is in
+      ap (λ (b : Bool). (has_name (with_name r.told (n + 1)) (k + 1) && not b) && not (has_name r.removed (k + 1)))
       present
-      ∙ ap (λ (b : Bool). b && not (mark_of r.removed (k + 1)))
-      (and-no (mark_of (with_mark r.told (n + 1)) (k + 1))))
+      ∙ ap (λ (b : Bool). b && not (has_name r.removed (k + 1)))
+      (and-no (has_name (with_name r.told (n + 1)) (k + 1))))
   | inr ne ↦
-      ap (λ (b : Bool). (b && not y.present) && not (mark_of r.removed (k + 1)))
-      (mark-apart r.told (n + 1) (k + 1) (omega arith) (omega arith) (λ f. ne (omega (arith, f))))
+      ap (λ (b : Bool). (b && not y.present) && not (has_name r.removed (k + 1)))
+      (name-apart r.told (n + 1) (k + 1) (omega arith) (omega arith) (λ f. ne (omega (arith, f))))
       ∙ h k y l there d
 ]

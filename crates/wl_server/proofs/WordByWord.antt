@@ -1,4 +1,4 @@
--- The marks of 64 names at a time.
+-- Sets of names, 64 names at a time.
 use Rattle.std.proofs.Common.{◌≡◌, ◌≢◌, ℕ, zero, suc, ◌+◌, ◌-◌, ◌*◌, ◌/◌, ◌%◌, ◌^◌, ◌<◌, ◌≤◌, ◌==◌, Bool, true, false}
 use Rattle.std.proofs.Common.{List, length, get_or, refl, sym, ap, ◌∙◌, arith}
 use Rattle.std.specs.Prelude.{not, ◌&&◌, max, min, replicate, slice_get, unwrap_or, Option}
@@ -7,14 +7,14 @@ use lib.Bits.{bit_and}
 use Rattle.std.proofs.lemmas.Bool.{eqb-true, eqb-false}
 use Rattle.std.proofs.lemmas.Nat.Bits.{bit_at_and, bit_at_not, bit_at-lt}
 use Rattle.wl_server.specs.Bits.{bits}
-use Rattle.wl_server.specs.State.{Global, Registry, mark_of}
+use Rattle.wl_server.specs.State.{Global, Registry, has_name}
 use Rattle.wl_server.specs.Announcing.{owes_removal, owes_telling}
 use Rattle.wl_server.specs.Words.{AreWithdrawn, OwesNoRemoval, OwesNoTelling}
 use Rattle.wl_server.proofs.Words.{bits_get}
 
-pub word-mark : (ws : List ℕ) (word k : ℕ) → word < 16 → k < 64
-    → (bit_at (get_or ws word 0) k == 1) ≡ mark_of (bits 1024 0 ws) (64 * word + k + 1)
-word-mark ws word k h l =
+pub word-name : (ws : List ℕ) (word k : ℕ) → word < 16 → k < 64
+    → (bit_at (get_or ws word 0) k == 1) ≡ has_name (bits 1024 0 ws) (64 * word + k + 1)
+word-name ws word k h l =
     let place = 64 * word + k in
     let at : 64 * word + k + 1 - 1 ≡ place = omega arith in
     let there : (0 + place) / 64 ≡ word = omega (arith, l) in
@@ -94,7 +94,7 @@ pub removal-none : (r : Registry) (globals : List Global) (withdrawn : List Bool
     → AreWithdrawn globals withdrawn → OwesNoRemoval r withdrawn place next → (k : ℕ) (x : Global) → place + 1 ≤ k
     → k < next → k < length globals → x ≡ get_or globals k x → owes_removal r (k + 1) x ≡ false
 removal-none r globals withdrawn place next are none k x least less there e =
-    ap (λ (b : Bool). (mark_of r.told (k + 1) && b) && not (mark_of r.removed (k + 1))) (sym (are k x there e))
+    ap (λ (b : Bool). (has_name r.told (k + 1) && b) && not (has_name r.removed (k + 1))) (sym (are k x there e))
     ∙ none k (omega (arith, least)) less
 
 twice-not : (b : Bool) → not (not b) ≡ b
@@ -106,6 +106,6 @@ pub telling-none : (r : Registry) (globals : List Global) (withdrawn : List Bool
     → AreWithdrawn globals withdrawn → OwesNoTelling r withdrawn place next → (k : ℕ) (x : Global) → place + 1 ≤ k
     → k < next → k < length globals → x ≡ get_or globals k x → owes_telling r (k + 1) x ≡ false
 telling-none r globals withdrawn place next are none k x least less there e =
-    let present : x.present ≡ not (mark_of withdrawn (k + 1)) =
+    let present : x.present ≡ not (has_name withdrawn (k + 1)) =
     sym (twice-not x.present) ∙ ap not (sym (are k x there e)) in
-    ap (λ (b : Bool). b && not (mark_of r.told (k + 1))) present ∙ none k (omega (arith, least)) less
+    ap (λ (b : Bool). b && not (has_name r.told (k + 1))) present ∙ none k (omega (arith, least)) less

@@ -10,7 +10,7 @@ use Rattle.wl_objects.specs.Writing.{message_len}
 use Rattle.wl_message.specs.Outgoing.{room_of}
 use Rattle.wl_connection.specs.Core.{Core}
 use Rattle.wl_connection.specs.Sending.{with_sent}
-use Rattle.wl_server.specs.State.{State, Global, Registry, mark_of, with_mark}
+use Rattle.wl_server.specs.State.{State, Global, Registry, has_name, with_name}
 
 -- an event that a registry is owed
 pub data Owing : Type 0 where
@@ -23,11 +23,11 @@ pub data Owing : Type 0 where
 -- that is sent
 abbrev pub owes_removal : Registry → ℕ → Global → Bool
 owes_removal registry name global =
-    (mark_of registry.told name && not global.present) && not (mark_of registry.removed name)
+    (has_name registry.told name && not global.present) && not (has_name registry.removed name)
 
 -- and global of each present name that was not announced to it
 abbrev pub owes_telling : Registry → ℕ → Global → Bool
-owes_telling registry name global = global.present && not (mark_of registry.told name)
+owes_telling registry name global = global.present && not (has_name registry.told name)
 
 -- the owed events, by the test, for the names of these globals, numbered from this name
 abbrev pub owings : (ℕ → Global → Bool) → (ℕ → Global → Owing) → ℕ → List Global → List Owing
@@ -91,10 +91,10 @@ with_dues core (due ∷ dues) =
     with_dues
     (with_sent core due.object.id (owed_opcode due.owing) (values_of core.tables due.owing) []) dues
 
--- a registry with the mark of an event that was sent to it
+-- a registry with the name of an event that was sent to it added
 abbrev pub marked : Owing → Registry → Registry
-marked (Removal name) registry = record registry { removed = with_mark registry.removed name }
-marked (Telling name global) registry = record registry { told = with_mark registry.told name }
+marked (Removal name) registry = record registry { removed = with_name registry.removed name }
+marked (Telling name global) registry = record registry { told = with_name registry.told name }
 
 abbrev pub marked_in : Due → List Registry → List Registry
 marked_in due [] = []

@@ -15,8 +15,7 @@ pub record Global : Type 0 where
   pub version : ℕ
   pub present : Bool
 
--- an open registry, with a mark for each name announced to it, and for each whose removal was sent
--- to it
+-- an open registry, the names announced to it, and those whose removal was sent to it
 pub record Registry : Type 0 where
   pub object : Object
   pub told : List Bool
@@ -40,13 +39,13 @@ abbrev pub global_of : List Global → ℕ → Option Global
 global_of globals zero = None
 global_of globals (suc place) = slice_get globals place
 
--- the mark of a name
-abbrev pub mark_of : List Bool → ℕ → Bool
-mark_of marks name = unwrap_or (slice_get marks (name - 1)) false
+-- whether the set has a name
+abbrev pub has_name : List Bool → ℕ → Bool
+has_name names name = unwrap_or (slice_get names (name - 1)) false
 
--- the marks after a name was marked
-abbrev pub with_mark : List Bool → ℕ → List Bool
-with_mark marks name = slice_set marks (name - 1) true
+-- the set with a name added
+abbrev pub with_name : List Bool → ℕ → List Bool
+with_name names name = slice_set names (name - 1) true
 
 -- a registry to which nothing was announced yet
 abbrev pub untold : Object → Registry

@@ -11,7 +11,7 @@ ghost use Rattle.wl_server.specs.Tellings.{IsAnnounced, IsWritten};
 ghost use Rattle.wl_server.specs.Words.{AreWithdrawn};
 
 use crate::globals::Advertised;
-use crate::marks::Marks;
+use crate::name_set::NameSet;
 use crate::registry::OpenRegistry;
 use crate::server::Server;
 use wl_connection::Core;
@@ -80,7 +80,7 @@ fn write_global<T: Table>(
 pub(crate) fn announce_to<T: Table>(
     core: &mut Core<'_, T>,
     globals: &[Advertised],
-    withdrawn: &Marks,
+    withdrawn: &NameSet,
     registry: &mut OpenRegistry,
 ) -> Announced
     requires few { length globals.now ≤ max_globals }

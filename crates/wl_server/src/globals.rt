@@ -7,7 +7,7 @@ ghost use Rattle.wl_server.specs.Calls.{add_answer, after_withdraw, can_be_globa
 ghost use Rattle.wl_server.specs.Calls.{with_global, withdraw_refusal};
 ghost use Rattle.wl_server.specs.Words.{AreWithdrawn};
 
-use crate::marks::Marks;
+use crate::name_set::NameSet;
 use crate::server::Server;
 use std::error::Error;
 use std::fmt::{self, Display, Formatter};
@@ -150,11 +150,11 @@ pub(crate) fn global_of(globals: &[Advertised], name: u32) -> Option<Advertised>
 }
 
 /// The names of the withdrawn globals among these.
-pub(crate) fn withdrawn_names(globals: &[Advertised]) -> Marks
+pub(crate) fn withdrawn_names(globals: &[Advertised]) -> NameSet
     requires { length globals.now ≤ max_globals }
     ensures { AreWithdrawn globals.now result }
 {
-    let mut withdrawn = Marks::new();
+    let mut withdrawn = NameSet::new();
     'places: for (place, global) in globals.iter().enumerate() {
         if !global.present {
             withdrawn.set(place as u32 + 1);

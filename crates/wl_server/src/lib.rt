@@ -8,7 +8,7 @@ mod end;
 mod faults;
 mod globals;
 mod laws;
-mod marks;
+mod name_set;
 mod open_registries;
 mod outline;
 mod pending;

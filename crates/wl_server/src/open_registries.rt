@@ -12,7 +12,7 @@ ghost use Rattle.wl_server.specs.Words.{AreWithdrawn};
 
 use crate::announce::{Announced, announce_to};
 use crate::globals::{Advertised, withdrawn_names};
-use crate::marks::Marks;
+use crate::name_set::NameSet;
 use crate::registry::{OpenRegistry, Slot};
 use std::alloc::{AllocError, Allocator};
 use std::marker::Model;
@@ -65,7 +65,7 @@ fn count_open(slots: &[Slot]) -> usize
 fn announce_from<T: Table>(
     core: &mut Core<'_, T>,
     globals: &[Advertised],
-    withdrawn: &Marks,
+    withdrawn: &NameSet,
     slots: &mut [Slot],
     settled: &mut usize,
 ) -> Announced

@@ -1,22 +1,21 @@
 //! The open registries of a server's client, and which globals were announced to each.
 ghost use Rattle.std.specs.Prelude.{◌≡◌, ◌≤◌, ◌<◌, true};
 ghost use Rattle.wl_connection.specs.Core.{max_globals};
-ghost use Rattle.wl_server.specs.State.{mark_of, untold, with_mark};
+ghost use Rattle.wl_server.specs.State.{has_name, untold, with_name};
 ghost use Rattle.wl_server.specs.Announcing.{owes_removal, owes_telling};
 ghost use Rattle.wl_server.specs.Words.{OwesNoRemoval, OwesNoTelling};
 
 use crate::globals::Advertised;
-use crate::marks::{Marks, WORD_LEN, next_in};
+use crate::name_set::{NameSet, WORD_LEN, next_in};
 use std::marker::Model;
 use wl_objects::Object;
 
-/// An open registry, with a mark for each name announced to it, and for each whose removal was sent
-/// to it.
+/// An open registry, the names announced to it, and those whose removal was sent to it.
 #[derive(Debug, Drop)]
 pub(crate) struct OpenRegistry {
     pub(crate) object: Object,
-    pub(crate) told: Marks,
-    pub(crate) removed: Marks,
+    pub(crate) told: NameSet,
+    pub(crate) removed: NameSet,
 }
 
 impl Model for OpenRegistry {
@@ -34,8 +33,8 @@ impl OpenRegistry {
     {
         OpenRegistry {
             object,
-            told: Marks::new(),
-            removed: Marks::new(),
+            told: NameSet::new(),
+            removed: NameSet::new(),
         }
     }
 
@@ -56,8 +55,8 @@ impl OpenRegistry {
     }
 
     /// The next place after this one whose name may need global_remove; the names between need
-    /// none. `withdrawn` marks the names of withdrawn globals.
-    pub(crate) fn next_removal(&self, withdrawn: &Marks, place: usize) -> usize
+    /// none. `withdrawn` has the names of withdrawn globals.
+    pub(crate) fn next_removal(&self, withdrawn: &NameSet, place: usize) -> usize
         requires { place < max_globals }
         ensures behind { place < result }
         ensures none { OwesNoRemoval self.now withdrawn.now place result }
@@ -68,7 +67,7 @@ impl OpenRegistry {
     }
 
     /// The next place after this one whose name may need global; the names between need none.
-    pub(crate) fn next_telling(&self, withdrawn: &Marks, place: usize) -> usize
+    pub(crate) fn next_telling(&self, withdrawn: &NameSet, place: usize) -> usize
         requires { place < max_globals }
         ensures behind { place < result }
         ensures none { OwesNoTelling self.now withdrawn.now place result }
@@ -78,20 +77,20 @@ impl OpenRegistry {
         next_in(owed, place)
     }
 
-    /// Marks the removal of a name as sent.
+    /// Adds a name to those whose removal was sent.
     pub(crate) fn mark_removed(&mut self, name: u32)
         requires { (0 < name) × (name ≤ max_globals) }
-        ensures set { self.new ≡ record self.old { removed = with_mark self.old.removed name } }
-        ensures marked { mark_of self.new.removed name ≡ true }
+        ensures set { self.new ≡ record self.old { removed = with_name self.old.removed name } }
+        ensures marked { has_name self.new.removed name ≡ true }
     {
         self.removed.set(name);
     }
 
-    /// Marks a name as announced.
+    /// Adds a name to those that were announced.
     pub(crate) fn mark_told(&mut self, name: u32)
         requires { (0 < name) × (name ≤ max_globals) }
-        ensures set { self.new ≡ record self.old { told = with_mark self.old.told name } }
-        ensures marked { mark_of self.new.told name ≡ true }
+        ensures set { self.new ≡ record self.old { told = with_name self.old.told name } }
+        ensures marked { has_name self.new.told name ≡ true }
     {
         self.told.set(name);
     }

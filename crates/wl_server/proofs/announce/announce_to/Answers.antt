@@ -2,7 +2,7 @@ use Rattle.std.proofs.Common.{◌≡◌, ◌+◌, ℕ, true, List, [], ◌∷◌
 use Rattle.std.proofs.Common.{◌∙◌, arith}
 use Rattle.wl_object_map.specs.declared.object.Object.{Object}
 use Rattle.wl_connection.specs.Core.{Core}
-use Rattle.wl_server.specs.State.{Registry, mark_of}
+use Rattle.wl_server.specs.State.{Registry, has_name}
 use Rattle.wl_server.specs.Announcing.{Owing, marked, Removal, Telling, due_to, owings, owes_removal, owes_telling}
 use Rattle.wl_server.specs.Tellings.{IsWritten, Progress, dues_for}
 use Rattle.wl_server.proofs.TellingGoesOn.{begun, count-small}
@@ -79,7 +79,7 @@ removals-preserved g c =
                 (sym (w.registry-is ∙ w.mark_removed.ensures.set))
                 (removal-settled c.removals.registry globals place
                 c.index-globals-place.result c.removals.invariant.clear c.removals-test.true c.index-globals-place.is
-                (ap (λ (r : Registry). mark_of r.removed (place + 1)) (sym w.mark_removed.ensures.set)
+                (ap (λ (r : Registry). has_name r.removed (place + 1)) (sym w.mark_removed.ensures.set)
                 ∙ w.mark_removed.ensures.marked)),
           ))
       | else-owes_removal w ↦ (
@@ -189,7 +189,7 @@ tellings-preserved g c =
                 (telling-settled c.tellings.registry globals place
                 c.index-globals-place-in-tellings.result c.tellings.invariant.told c.tellings-test.true
                 c.index-globals-place-in-tellings.is
-                (ap (λ (r : Registry). mark_of r.told (place + 1)) (sym w.mark_told.ensures.set)
+                (ap (λ (r : Registry). has_name r.told (place + 1)) (sym w.mark_told.ensures.set)
                 ∙ w.mark_told.ensures.marked)),
           ))
       | else-owes_telling w ↦ (

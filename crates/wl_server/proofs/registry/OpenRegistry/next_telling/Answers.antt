@@ -1,6 +1,6 @@
 use Rattle.std.proofs.Common.{◌≡◌, ◌+◌, ◌-◌, ◌*◌, ◌/◌, ◌<◌, ap, sym, ◌∙◌, ℕ, arith}
 use Rattle.std.specs.Prelude.{not, ◌&&◌}
-use Rattle.wl_server.specs.State.{Registry, mark_of}
+use Rattle.wl_server.specs.State.{Registry, has_name}
 use Rattle.wl_server.proofs.WordByWord.{no-telling}
 use Rattle.wl_server.proofs.registry.OpenRegistry.next_telling.Goals as goal
 
@@ -10,9 +10,9 @@ returns-clause-none c k after before =
     let bit : ℕ = k - 64 * word in
     let at : k + 1 ≡ 64 * word + bit + 1 = omega (arith, after) in
     let l : bit < 64 = omega (arith, after, before, c.next_in.ensures.within) in
-    ap (λ (n : ℕ). not (mark_of c.args.withdrawn.now n) && not (mark_of c.args.self.now.told n)) at
+    ap (λ (n : ℕ). not (has_name c.args.withdrawn.now n) && not (has_name c.args.self.now.told n)) at
     ∙ ((λ i. not (sym (c.word-2.ensures bit l) i)
     && not (sym (c.word.ensures bit l
-    ∙ ap (λ (r : Registry). mark_of r.told (64 * word + bit + 1)) c.self.view_is) i))
+    ∙ ap (λ (r : Registry). has_name r.told (64 * word + bit + 1)) c.self.view_is) i))
     ∙ no-telling c.word.result c.word-2.result bit c.word.type_inv c.word-2.type_inv l
     (c.next_in.ensures.none bit (omega (arith, after)) (omega (arith, after, before))))

@@ -1,7 +1,7 @@
 use Rattle.std.proofs.Common.{◌%◌, arith}
 use Rattle.std.proofs.Math.Facts.{Fits-lt-pow}
 use Rattle.wl_server.proofs.Behind.{lowest}
-use Rattle.wl_server.proofs.marks.next_in.Goals as goal
+use Rattle.wl_server.proofs.name_set.next_in.Goals as goal
 
 pub returns-clause-behind : goal.returns-clause-behind
 returns-clause-behind c =

@@ -1,25 +1,25 @@
-//! Marks for the names of globals, one bit each.
+//! Sets of the names of globals.
 ghost use Rattle.std.specs.Prelude.{◌≡◌, ◌≤◌, ◌<◌, ◌+◌, ◌*◌, ◌/◌, ◌%◌, ◌==◌, ℕ, true, false};
 ghost use Rattle.std.specs.Prelude.{replicate};
 ghost use Rattle.std.specs.Int.{bit_at};
 ghost use Rattle.wl_connection.specs.Core.{max_globals};
-ghost use Rattle.wl_server.specs.State.{mark_of, with_mark};
+ghost use Rattle.wl_server.specs.State.{has_name, with_name};
 
 use std::marker::Model;
 
-/// How many marks a word has.
+/// How many names a word has a bit for.
 pub(crate) const WORD_LEN: usize = 64;
 
-/// How many words hold a mark for each of the 1,024 names.
+/// How many words have a bit for each of the 1,024 names.
 const WORD_COUNT: usize = 16;
 
-/// A mark for each of the names 1 to 1,024. The mark of a name is at place `name - 1`.
+/// A set of names from 1 to 1,024, with one bit for each. The bit of a name is at place `name - 1`.
 #[derive(Debug, Drop)]
-pub(crate) struct Marks {
+pub(crate) struct NameSet {
     words: [u64; WORD_COUNT],
 }
 
-impl Model for Marks {
+impl Model for NameSet {
     ghost use Rattle.std.specs.Prelude.{List, Bool};
     ghost use Rattle.wl_connection.specs.Core.{max_globals};
     ghost use Rattle.wl_server.specs.Bits.{bits};
@@ -29,40 +29,40 @@ impl Model for Marks {
     ghost view = { λ m. bits max_globals 0 m.words };
 }
 
-impl Marks {
-    /// No name is marked.
-    pub(crate) fn new() -> Marks
+impl NameSet {
+    /// The empty set.
+    pub(crate) fn new() -> NameSet
         ensures { result ≡ replicate max_globals false }
     {
-        Marks {
+        NameSet {
             words: [0; WORD_COUNT],
         }
     }
 
-    /// Whether a name is marked.
+    /// Whether the set has a name.
     pub(crate) fn has(&self, name: u32) -> bool
         requires { (0 < name) × (name ≤ max_globals) }
-        ensures { result ≡ mark_of self.now name }
+        ensures { result ≡ has_name self.now name }
     {
         let place = name as usize - 1;
         self.words[place / WORD_LEN] >> (place % WORD_LEN) & 1 == 1
     }
 
-    /// Marks a name.
+    /// Adds a name.
     pub(crate) fn set(&mut self, name: u32)
         requires { (0 < name) × (name ≤ max_globals) }
-        ensures set { self.new ≡ with_mark self.old name }
-        ensures marked { mark_of self.new name ≡ true }
+        ensures set { self.new ≡ with_name self.old name }
+        ensures marked { has_name self.new name ≡ true }
     {
         let place = name as usize - 1;
         self.words[place / WORD_LEN] |= 1 << (place % WORD_LEN);
     }
 
-    /// The marks of names `64 * word + 1` to `64 * word + 64`, one bit each, the lowest name in bit
-    /// 0.
+    /// The bits of the names `64 * word + 1` to `64 * word + 64`, the lowest name in bit 0.
     pub(crate) fn word(&self, word: usize) -> u64
         requires { word < 16 }
-        ensures { (k : ℕ) → k < 64 → (bit_at result k == 1) ≡ mark_of self.now (64 * word + k + 1) }
+        ensures { (k : ℕ) → k < 64
+            → (bit_at result k == 1) ≡ has_name self.now (64 * word + k + 1) }
     {
         self.words[word]
     }

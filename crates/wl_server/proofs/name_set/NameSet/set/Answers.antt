@@ -1,6 +1,6 @@
 use Rattle.std.proofs.Common.{◌-◌, arith}
 use Rattle.wl_server.proofs.Words.{bit_is_set, reads_set}
-use Rattle.wl_server.proofs.marks.Marks.set.Goals as goal
+use Rattle.wl_server.proofs.name_set.NameSet.set.Goals as goal
 
 pub returns-clause-set : goal.returns-clause-set
 returns-clause-set c = rw (← c.self.view_is) (bit_is_set c.self.inside.words (c.args.name - 1)
