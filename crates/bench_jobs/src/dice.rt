@@ -9,7 +9,7 @@ pub(crate) struct Dice {
 }
 
 impl Dice {
-    /// Draws from a number; each round and each part of a job has its own draws.
+    /// Draws from a number; each round and each part of a workload has its own draws.
     pub(crate) fn new(seed: u32, round: u32, part: u64) -> Dice {
         let state = u64::from(round).wrapping_mul(4_294_967_296) | u64::from(seed);
         Dice {

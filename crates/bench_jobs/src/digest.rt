@@ -1,4 +1,4 @@
-//! A digest of the results of a job.
+//! A digest of the results of a workload.
 use std::fmt::{self, Display, Formatter};
 
 /// A digest of results: different results give a different one, except with a chance of 1 in 2^64.

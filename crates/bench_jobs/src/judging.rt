@@ -10,7 +10,7 @@ use std::io;
 use wl::{Direction, Inspector, Limit, Tables, Verdict};
 use wl_check::write_verdict;
 
-/// What the jobs call the file of their recording, which they are given open.
+/// The name of the recording in a job; it is never opened by name.
 const RECORDING: &str = "session.rec";
 
 /// A kind of session.
@@ -199,8 +199,8 @@ fn trace_job(alloc: Global) -> Option<Job> {
     })
 }
 
-/// Does the job over a recording's text, as the program does it over a file. None where it does not
-/// print the whole answer.
+/// Does the job over a recording's text, as the program does it over a file. `None` if it does not
+/// print all of its output.
 fn work_on(alloc: Global, command: &mut Command, text: &[u8], digest: &mut Digest) -> Option<()> {
     let mut file = text;
     let none: Vec<TablesFile<'_, io::Empty>> = Vec::new(alloc);

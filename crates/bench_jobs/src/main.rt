@@ -1,9 +1,9 @@
-//! The jobs that a user of waywire waits for, on inputs generated from a number. Prints a digest of
-//! all that the library returned. bench/run times it, and bench/workloads.txt has the words for
+//! Workloads that a user of waywire waits for, on inputs generated from a number. Prints a digest
+//! of all that the library returned. bench/run times it, and bench/workloads.txt has the words for
 //! each.
 //!
-//! The words are the jobs, the number, how large each job is, in percent, and how often it is done,
-//! each time on another input.
+//! The words are the workloads, the number, how large each workload is, in percent, and how often
+//! it is run, each time on another input.
 #![tactic(auto)]
 
 mod dice;
@@ -26,13 +26,13 @@ use std::process::ExitCode;
 use std::{env, io};
 use wl::Tables;
 
-/// How a job is generated, and how much of it is done.
+/// How a workload is generated, and how much of it is run.
 #[derive(Clone, Copy)]
 pub(crate) struct Amount {
     pub seed: u32,
     /// In percent.
     pub parts: u32,
-    /// How often the job was done before.
+    /// How often the workload was run before.
     pub round: u32,
 }
 
@@ -43,21 +43,21 @@ impl Amount {
         u32::try_from(part).unwrap_or(u32::MAX)
     }
 
-    /// The draws of a part of the job.
+    /// The draws of a part of the workload.
     pub(crate) fn dice(self, part: usize) -> Dice {
         Dice::new(self.seed, self.round, part as u64)
     }
 }
 
-/// Does a job. `None` if something went wrong.
+/// Runs a workload. `None` if something went wrong.
 fn run(
     alloc: Global,
-    job: &str,
+    workload: &str,
     tables: &Tables,
     amount: Amount,
     digest: &mut Digest,
 ) -> Option<()> {
-    match job {
+    match workload {
         "messages" => messages::play(alloc, tables, amount, digest),
         "check" => judging::check(alloc, amount, digest),
         "trace" => judging::trace(alloc, amount, digest),
@@ -69,17 +69,17 @@ fn run(
     }
 }
 
-/// Does a job several times.
+/// Runs a workload several times.
 fn run_all(
     alloc: Global,
-    job: &str,
+    workload: &str,
     tables: &Tables,
     rounds: u32,
     amount: Amount,
     digest: &mut Digest,
 ) -> Option<()> {
     for round in 0..rounds {
-        run(alloc, job, tables, Amount { round, ..amount }, digest)?;
+        run(alloc, workload, tables, Amount { round, ..amount }, digest)?;
     }
     Some(())
 }
@@ -100,16 +100,16 @@ fn amount_of(seed: &String, parts: &String, rounds: &String) -> Option<(Amount, 
 
 fn main(rt: HostRuntime) -> io::Result<ExitCode> {
     let words: Vec<String> = env::args(&rt)?.collect(rt.alloc())?;
-    let [_program, jobs @ .., seed, parts, rounds] = words.as_slice() else {
+    let [_program, workloads @ .., seed, parts, rounds] = words.as_slice() else {
         return Ok(ExitCode::from(2));
     };
     let Some((amount, rounds)) = amount_of(seed, parts, rounds) else {
         return Ok(ExitCode::from(2));
     };
     let tables = Tables::core(rt.alloc())?;
-    for job in jobs {
+    for workload in workloads {
         let mut digest = Digest::new();
-        let name = job.as_str();
+        let name = workload.as_str();
         if run_all(rt.alloc(), name, &tables, rounds, amount, &mut digest).is_none() {
             println!(rt; "{name}: did not go well")?;
             return Ok(ExitCode::from(1));

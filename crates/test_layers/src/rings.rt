@@ -12,7 +12,7 @@ const ROUNDS: u16 = 4700;
 
 /// Messages that pass through a queue.
 #[derive(Clone, Copy)]
-struct Messages {
+struct Traffic {
     /// How many bytes each has, with its header.
     size: u16,
     /// How many tokens each has.
@@ -22,28 +22,28 @@ struct Messages {
 }
 
 /// They fill the bytes or the tokens of a ring of 4097 bytes and 23 tokens as far as they can.
-const CASES: [Messages; 5] = [
-    Messages {
+const CASES: [Traffic; 5] = [
+    Traffic {
         size: 8,
         tokens: 0,
         waiting: 511,
     },
-    Messages {
+    Traffic {
         size: 8,
         tokens: 1,
         waiting: 22,
     },
-    Messages {
+    Traffic {
         size: 12,
         tokens: 0,
         waiting: 340,
     },
-    Messages {
+    Traffic {
         size: 12,
         tokens: 3,
         waiting: 6,
     },
-    Messages {
+    Traffic {
         size: 4096,
         tokens: 20,
         waiting: 0,
@@ -126,7 +126,7 @@ fn messages_pass_an_inbox_with_its_seam_at_each_place(rt: HostRuntime) -> Result
     let mut bytes = [0; 4096];
     let mut tokens = [0; 20];
     for messages in CASES {
-        let Messages {
+        let Traffic {
             size,
             tokens: count,
             waiting,
@@ -195,7 +195,7 @@ fn messages_pass_an_outbox_with_its_seam_at_each_place(rt: HostRuntime) -> Resul
     let mut bytes = [0; 4096];
     let mut tokens = [0; 20];
     for messages in CASES {
-        let Messages {
+        let Traffic {
             size,
             tokens: count,
             waiting,

@@ -15,19 +15,19 @@ pub enum Step<'a> {
 /// How the lines for an end begin: its calls, which are comments in a recording, and the pieces
 /// that it reads.
 #[derive(Clone, Copy)]
-struct Marks {
+struct Prefixes {
     call: &'static str,
     piece: &'static str,
 }
 
-/// The marks of the end that reads in this direction.
-fn marks_of(direction: Direction) -> Marks {
+/// The prefixes for the end that reads in this direction.
+fn prefixes_of(direction: Direction) -> Prefixes {
     match direction {
-        Direction::ToServer => Marks {
+        Direction::ToServer => Prefixes {
             call: "#< ",
             piece: "> ",
         },
-        Direction::ToClient => Marks {
+        Direction::ToClient => Prefixes {
             call: "#> ",
             piece: "< ",
         },
@@ -41,12 +41,12 @@ pub fn steps_of(
     text: &str,
     direction: Direction,
 ) -> Result<Vec<Step<'_>>, AllocError> {
-    let marks = marks_of(direction);
+    let prefixes = prefixes_of(direction);
     let mut steps = Vec::new(alloc);
     for line in text.lines() {
-        if let Some(call) = line.strip_prefix(marks.call) {
+        if let Some(call) = line.strip_prefix(prefixes.call) {
             steps.push(Step::Call(call))?;
-        } else if let Some(piece) = line.strip_prefix(marks.piece) {
+        } else if let Some(piece) = line.strip_prefix(prefixes.piece) {
             put_read(&mut steps, len_of(piece))?;
         }
     }
