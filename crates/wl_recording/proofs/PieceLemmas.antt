@@ -141,7 +141,7 @@ skipped_tells_none line p skipped told = elim skipped [
   not_a_sign ToServer e = omega arith
   not_a_sign ToClient e = omega arith
 
--- a fact about `None`
+-- what holds of an option that is never `Some`
 pub at_none : {X P : Type 0} (Q : X → Type 0) (o : Option X) → ((x : X) → o ≡ Some x → ⊥) → MatchOption o P Q → P
 at_none Q None never h = h
 at_none Q (Some x) never h = absurd (never x refl)

@@ -194,7 +194,7 @@ behind_letters word = by (position (λ b. b == 40) word) refl
         let here : get_or word i 0 ≡ 40 = eqb-true _ _ at.1 in
         inr (drop (suc i) word, drop-cons word i 0 lt ∙ ap (λ (b : ℕ). b ∷ drop (suc i) word) here)
 
--- a name in brackets is read from a word
+-- the argument of a kind, with a name in brackets
 abbrev naming : BareKind → List ℕ → WrittenKind
 naming kind name = record { kind = kind; iface = Some name }
 

@@ -72,7 +72,7 @@ text_spelled m bytes f w h z a =
       whole = rw (take-add 4 (padded (m + 1)) bytes, w, short) refl;
     }
 
--- the faults of a string, of which `more` further bytes are part
+-- the faults of a string that `more` further bytes must follow
 abbrev IsTextFault : ℕ → List ℕ → ArgFault → Type 0
 IsTextFault more bytes Short = ⊥
 IsTextFault more bytes NullNotAllowed = HoldsCounted more 0 bytes

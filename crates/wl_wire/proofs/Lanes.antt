@@ -87,7 +87,7 @@ least (x ∷ xs) (y ∷ ys) e =
     ap (λ b. b || has_nul (sel_l (zip2 ltb xs ys) xs ys)) (least_zero x y (ltb x y) refl)
     ∙ ap (λ b. (x == 0 || y == 0) || b) more ∙ or_turn (x == 0) (y == 0) (has_nul xs) (has_nul ys)
 
--- what `simd_min` computes for two adjacent loads of n bytes in all
+-- what `simd_min` computes for two adjacent parts of n bytes each
 pub nul_least : (text xs ys : List ℕ) (at n : ℕ) → length xs ≡ 64 → length ys ≡ 64
     → has_nul xs ≡ has_nul (take n (drop at text)) → has_nul ys ≡ has_nul (take n (drop (at + n) text))
     → has_nul (sel_l (map (top 7) (zip2 (λ a b. cond (ltb a b) (2 ^ 8 - 1) 0) xs ys)) xs ys)

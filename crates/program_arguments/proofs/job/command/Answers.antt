@@ -4,7 +4,7 @@ use Rattle.clap.specs.Words.{App, app_of, with_subcommand}
 use Rattle.program_arguments.specs.Asking.{program}
 use Rattle.program_arguments.proofs.job.command.Goals as goal
 
--- the program's commands have no argument that applies to all of their subcommands
+-- a plain command has no argument that applies to all of its subcommands
 is_local : (a b g r : Bool) → (a && (b && (not g && r))) ≡ true → g ≡ false
 is_local true true false r plain = refl
 is_local true true true r plain = cc
