@@ -1,6 +1,5 @@
 """The crates as crates.txt lists them, their contracts and their definitions."""
 
-import collections
 import glob
 import os
 import re
@@ -88,7 +87,7 @@ class Made(unittest.TestCase):
 
 
 class CoreLists(unittest.TestCase):
-    """The lists of interfaces that tools/dev/core-files makes in the crate wl_sigs."""
+    """The lists of interfaces that tools/dev/core-files makes in the crates wl_rules and wl_sigs."""
 
     def changed(self, old, new):
         """The lists that differ from those of the repository if a line of tools/core.xml is
@@ -295,10 +294,6 @@ class Columns(unittest.TestCase):
 
     PAGE = "crates/wl/src/lib.rt"
 
-    # How many wider lines a crate still has. A new layout has the crate and all above it proved
-    # anew, so these lines go when their crate changes for another reason.
-    LEFT = {"wl_sigs": 17}
-
     def test_width(self):
         paths = [
             it
@@ -312,8 +307,7 @@ class Columns(unittest.TestCase):
             if len(line) > 100 + 4 * (path == self.PAGE) and not self.whole.fullmatch(line)
         ]
         self.assertGreater(len(paths), 300)
-        left = collections.Counter(it.split("/")[1] for it in found)
-        self.assertEqual(left, self.LEFT, "\n".join(found))
+        self.assertEqual(found, [], "\n".join(found))
 
 
 class Functions(unittest.TestCase):

@@ -1,12 +1,13 @@
-"""The lists of the core interfaces that the crate wl_sigs has, as tools/dev/core-files makes them
-from tools/core.xml: the interfaces as definitions and as code, and the opcodes beside the names of
-their messages."""
+"""The lists of the core interfaces that the crates wl_rules and wl_sigs have, as tools/dev/core-files
+makes them from tools/core.xml: the interfaces as definitions and as code, and the opcodes beside the
+names of their messages."""
 
 import itertools
 
 from protocol import BadProtocol
 
-# What every valid table has, in specs/Fixed.antt; the other interfaces are in specs/Core.antt.
+# What every valid table has, in specs/Fixed.antt of wl_rules; the other interfaces are in
+# specs/Core.antt of wl_sigs.
 FIXED = ("wl_display", "wl_registry", "wl_callback", "wl_fixes")
 # What the XML cannot say: a message that destroys an argument, and the place of that argument.
 DESTROYS_ARGUMENT = {("wl_fixes", "destroy_registry"): 0}
@@ -34,7 +35,7 @@ BEGINS = "Generated from tools/core.xml by tools/dev/core-files, down to the nex
 ENDS = "End of what is generated."
 
 
-DESTROYS = "Rattle.wl_sigs.specs.declared.signature.Destroys.TheVariants"
+DESTROYS = "Rattle.wl_sigs.specs.Destroys.TheVariants"
 
 
 def is_fixed(interface):
@@ -283,10 +284,10 @@ def core_code(interfaces):
     return lines
 
 
-SIGS = "crates/wl_sigs"
+SIGS, RULES = "crates/wl_sigs", "crates/wl_rules"
 # Each file of lists with the functions that make its parts, between marks.
 PARTS = {
-    f"{SIGS}/specs/Fixed.antt": [fixed_definitions],
+    f"{RULES}/specs/Fixed.antt": [fixed_definitions],
     f"{SIGS}/specs/Core.antt": [core_definitions],
     f"{SIGS}/specs/Opcodes.antt": [opcode_modules, opcodes_by_name],
     f"{SIGS}/src/core_interfaces.rt": [core_code],

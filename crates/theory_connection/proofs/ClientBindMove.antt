@@ -13,8 +13,8 @@ use Rattle.std.proofs.lemmas.Option.{slice_get_within}
 use Rattle.wl_wire.specs.declared.kind.Iface.{Iface}
 use Rattle.wl_wire.specs.Argument.{Uint, NewNamed}
 use Rattle.wl_wire.specs.Spelling.{IsText}
-use Rattle.wl_sigs.specs.declared.signature.Side.TheVariants.{Request}
-use Rattle.wl_sigs.specs.declared.signature.Destroys.TheVariants.{Nothing}
+use Rattle.wl_sigs.specs.Side.TheVariants.{Request}
+use Rattle.wl_sigs.specs.Destroys.TheVariants.{Nothing}
 use Rattle.wl_sigs.specs.Tables.{Interface, interface_at, signature_at, place_of}
 use Rattle.wl_sigs.specs.Fixed.{registry}
 use Rattle.wl_sigs.specs.Fixed as fixed

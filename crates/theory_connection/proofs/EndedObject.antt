@@ -5,9 +5,9 @@ use Rattle.std.specs.Prelude.{option_map, is_some}
 use Rattle.std.specs.declared.option.Option.{Option}
 use Rattle.std.specs.declared.option.Option.TheVariants.{None, Some}
 use Rattle.wl_wire.specs.Argument.{Int, Uint, Fixed, Str, Obj, New, NewNamed, Array, Fd}
-use Rattle.wl_sigs.specs.declared.signature.Destroys.{Destroys}
-use Rattle.wl_sigs.specs.declared.signature.Destroys.TheVariants.{Nothing, Target, Arg as ends_arg}
-use Rattle.wl_sigs.specs.declared.signature.Side.{Side}
+use Rattle.wl_sigs.specs.Destroys.{Destroys}
+use Rattle.wl_sigs.specs.Destroys.TheVariants.{Nothing, Target, Arg as ends_arg}
+use Rattle.wl_sigs.specs.Side.{Side}
 use Rattle.wl_sigs.specs.Tables.{Interface, MessageSignature as Signature, destroys_one}
 use Rattle.wl_sigs.specs.Fixed as fixed
 use Rattle.wl_sigs.specs.Fixed.{registry}

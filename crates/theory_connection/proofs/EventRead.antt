@@ -9,8 +9,8 @@ use Rattle.std.proofs.lemmas.Bool.{ne_eqb, and_parts}
 use Rattle.wl_wire.specs.declared.kind.Kind.{Kind}
 use Rattle.wl_wire.specs.declared.kind.Kind.TheVariants as kinds
 use Rattle.wl_wire.specs.Argument.{Uint}
-use Rattle.wl_sigs.specs.declared.signature.Side.TheVariants.{Request as request_side, Event as event_side}
-use Rattle.wl_sigs.specs.declared.signature.Destroys.TheVariants.{Nothing}
+use Rattle.wl_sigs.specs.Side.TheVariants.{Request as request_side, Event as event_side}
+use Rattle.wl_sigs.specs.Destroys.TheVariants.{Nothing}
 use Rattle.wl_sigs.specs.Tables.{Interface, signature_at, descriptors}
 use Rattle.wl_sigs.specs.Valid.{Valid}
 use Rattle.wl_sigs.specs.Tables as sigs

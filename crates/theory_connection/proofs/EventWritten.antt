@@ -12,7 +12,7 @@ use Rattle.theory_connection.specs.Stands.{MadePlain}
 use Rattle.theory_connection.proofs.ReadAsMeant.{made_of}
 use Rattle.theory_connection.proofs.RequestRead.{plain_after, plain_event}
 use Rattle.std.proofs.lemmas.List.{append_assoc}
-use Rattle.wl_sigs.specs.declared.signature.Side.TheVariants.{Event as event_side}
+use Rattle.wl_sigs.specs.Side.TheVariants.{Event as event_side}
 use Rattle.wl_objects.specs.Writing.{message_len}
 use Rattle.wl_object_map.specs.Objects.{look, closed}
 use Rattle.wl_connection.specs.Core.{Core}

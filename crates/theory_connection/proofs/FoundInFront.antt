@@ -7,8 +7,8 @@ use Rattle.std.specs.declared.result.Result.TheVariants.{Ok}
 use Rattle.std.proofs.lemmas.List.{take-append-drop}
 use Rattle.wl_wire.specs.declared.kind.Kind.{Kind}
 use Rattle.wl_wire.specs.Argument.{Obj, New, NewNamed}
-use Rattle.wl_sigs.specs.declared.signature.Side.{Side}
-use Rattle.wl_sigs.specs.declared.signature.Side.TheVariants.{Request, Event}
+use Rattle.wl_sigs.specs.Side.{Side}
+use Rattle.wl_sigs.specs.Side.TheVariants.{Request, Event}
 use Rattle.wl_sigs.specs.Tables.{Interface}
 use Rattle.wl_sigs.specs.Tables as sigs
 use Rattle.wl_message.specs.Arrived.{in_front}

@@ -5,7 +5,7 @@ use Rattle.wl_wire.specs.declared.kind.Kind.{Kind}
 use Rattle.wl_wire.specs.declared.kind.Kind.TheVariants as kinds
 use Rattle.wl_wire.specs.Argument.{New, NewNamed}
 use Rattle.wl_wire.specs.Spelling.{Suits}
-use Rattle.wl_sigs.specs.declared.signature.Side.TheVariants.{Event as event_side}
+use Rattle.wl_sigs.specs.Side.TheVariants.{Event as event_side}
 use Rattle.wl_sigs.specs.Tables.{Interface, server_objects, new_objects}
 use Rattle.wl_sigs.specs.Rules.{has_server_objects}
 use Rattle.wl_sigs.specs.Valid.{Valid}

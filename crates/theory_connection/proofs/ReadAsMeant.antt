@@ -17,8 +17,8 @@ use Rattle.wl_wire.specs.Argument.{Argument, reshaped, Int, Uint, Fixed, Str, Ob
 use Rattle.wl_wire.specs.Spelling.{Suits, canonical, spelled_len}
 use Rattle.wl_wire.specs.Reading.{reading}
 use Rattle.wl_wire.proofs.Canonicals.{reading-canonical, canonical-len, header_at-bytes}
-use Rattle.wl_sigs.specs.declared.signature.Side.{Side}
-use Rattle.wl_sigs.specs.declared.signature.Side.TheVariants.{Request, Event}
+use Rattle.wl_sigs.specs.Side.{Side}
+use Rattle.wl_sigs.specs.Side.TheVariants.{Request, Event}
 use Rattle.wl_sigs.specs.Tables.{Interface, signature_at, descriptors, is_descriptor_kind}
 use Rattle.wl_message.specs.Cut.{greatest_limit}
 use Rattle.wl_object_map.specs.declared.object.Object.{Object}

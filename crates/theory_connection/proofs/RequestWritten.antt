@@ -26,7 +26,7 @@ use Rattle.theory_connection.proofs.RowsAfterMessage.{held_row, client_after, ma
 use Rattle.theory_connection.proofs.Stands.{client_message, travel_more}
 use Rattle.theory_connection.proofs.ReadAsMeant.{made_of}
 use Rattle.theory_connection.proofs.RequestRead.{test_of}
-use Rattle.wl_sigs.specs.declared.signature.Side.TheVariants.{Request}
+use Rattle.wl_sigs.specs.Side.TheVariants.{Request}
 use Rattle.theory_connection.proofs.EndedObject.{Mortal, ended_view, ends_have, if_by}
 
 -- ---- any request that fits and whose objects are open

@@ -14,8 +14,8 @@ use Rattle.wl_wire.specs.declared.kind.Kind.{Kind}
 use Rattle.wl_wire.specs.declared.kind.Kind.TheVariants as kinds
 use Rattle.wl_wire.specs.declared.kind.Iface.{Iface}
 use Rattle.wl_wire.specs.Argument.{Obj}
-use Rattle.wl_sigs.specs.declared.signature.Side.{Side}
-use Rattle.wl_sigs.specs.declared.signature.Side.TheVariants.{Request, Event}
+use Rattle.wl_sigs.specs.Side.{Side}
+use Rattle.wl_sigs.specs.Side.TheVariants.{Request, Event}
 use Rattle.wl_sigs.specs.Tables.{MessageSignature, Interface, interface_at, signature_at, messages_of}
 use Rattle.wl_sigs.specs.Tables.{message_of, has_destroying_event, destroys_target}
 use Rattle.wl_sigs.specs.Fixed.{wl_display}

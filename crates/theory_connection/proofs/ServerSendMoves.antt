@@ -7,12 +7,12 @@ use Rattle.std.specs.declared.option.Option.{Option}
 use Rattle.std.specs.declared.option.Option.TheVariants.{None, Some}
 use Rattle.std.specs.declared.result.Result.{Result}
 use Rattle.std.specs.declared.result.Result.TheVariants.{Ok}
-use Rattle.wl_sigs.specs.declared.signature.Side.TheVariants.{Event}
+use Rattle.wl_sigs.specs.Side.TheVariants.{Event}
 use Rattle.wl_sigs.specs.Tables.{Interface, interface_at, signature_at, destroys_target, destroys_one}
 use Rattle.wl_sigs.specs.Valid.{Valid}
 use Rattle.wl_sigs.specs.Tables as sigs
-use Rattle.wl_sigs.specs.declared.signature.Destroys.{Destroys}
-use Rattle.wl_sigs.specs.declared.signature.Destroys.TheVariants.{Nothing, Target, Arg as ends_arg}
+use Rattle.wl_sigs.specs.Destroys.{Destroys}
+use Rattle.wl_sigs.specs.Destroys.TheVariants.{Nothing, Target, Arg as ends_arg}
 use Rattle.wl_sigs.specs.Fixed.{display, registry}
 use Rattle.wl_message.specs.Outgoing.{queued}
 use Rattle.wl_object_map.specs.declared.object.Object.{Object}

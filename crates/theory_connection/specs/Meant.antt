@@ -2,8 +2,8 @@
 use Rattle.std.specs.Prelude.{ℕ, zero, suc, ◌<◌, Bool, true, false, ◌&&◌, nat_eq, List, []}
 use Rattle.std.specs.Prelude.{◌∷◌, ◌++◌, map, Option, Some, None, option_map}
 use Rattle.wl_wire.specs.declared.kind.Iface.{Iface}
-use Rattle.wl_sigs.specs.declared.signature.Destroys.{Destroys}
-use Rattle.wl_sigs.specs.declared.signature.Destroys.TheVariants.{Nothing, Target, Arg as ends_arg}
+use Rattle.wl_sigs.specs.Destroys.{Destroys}
+use Rattle.wl_sigs.specs.Destroys.TheVariants.{Nothing, Target, Arg as ends_arg}
 use Rattle.wl_wire.specs.Argument.{Argument, Shape, reshaped, Uint, Obj, New, NewNamed, Fd}
 use Rattle.wl_object_map.specs.declared.object.Entry.{Entry}
 use Rattle.wl_object_map.specs.declared.object.Maker.{Maker}

@@ -5,7 +5,7 @@ use Rattle.std.specs.Prelude.{Option, Some, None, IsOk}
 use Rattle.std.specs.declared.result.Result.{Result}
 use Rattle.std.specs.declared.result.Result.TheVariants.{Ok, Err}
 use Rattle.wl_wire.specs.declared.kind.Iface.{Iface}
-use Rattle.wl_sigs.specs.declared.signature.Side.TheVariants.{Request, Event}
+use Rattle.wl_sigs.specs.Side.TheVariants.{Request, Event}
 use Rattle.wl_sigs.specs.Tables.{Interface}
 use Rattle.wl_message.specs.declared.amounts.Amounts.{Amounts}
 use Rattle.wl_message.specs.declared.amounts.Sizes.{Sizes}

@@ -1,7 +1,7 @@
 -- A stream has one reading, however it is cut into pieces, at either end.
 use Rattle.std.specs.Prelude.{◌≡◌, ℕ, true, false, List, [], ◌∷◌, length, Option, Some}
 use Rattle.std.specs.declared.result.Result.TheVariants.{Ok}
-use Rattle.wl_sigs.specs.declared.signature.Side.{Side}
+use Rattle.wl_sigs.specs.Side.{Side}
 use Rattle.wl_message.specs.declared.amounts.Amounts.{Amounts}
 use Rattle.wl_message.specs.InStep.{Part, Need, InStep, part_bytes, part_tokens}
 use Rattle.wl_objects.specs.declared.error.NextError.{NextError}

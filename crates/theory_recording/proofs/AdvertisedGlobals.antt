@@ -9,7 +9,7 @@ use Rattle.wl_wire.specs.declared.kind.Kind.{Kind}
 use Rattle.wl_wire.specs.declared.kind.Kind.TheVariants as kinds
 use Rattle.wl_wire.specs.declared.kind.Iface.{Iface}
 use Rattle.wl_wire.specs.Argument.{Uint, NewNamed}
-use Rattle.wl_sigs.specs.declared.signature.Side.TheVariants.{Request}
+use Rattle.wl_sigs.specs.Side.TheVariants.{Request}
 use Rattle.wl_sigs.specs.Tables.{Interface, interface_at, place_of}
 use Rattle.wl_sigs.specs.Fixed.{display, registry}
 use Rattle.wl_sigs.specs.Valid.{Valid}

@@ -12,8 +12,8 @@ use Rattle.wl_check.specs.Rules.{reader_by, if_open}
 use Rattle.theory_connection.specs.Meant.{Known, Arg, new_object_in, made_in}
 use Rattle.theory_connection.specs.World.{Row, Open, Ending, Each, IfThere}
 use Rattle.std.specs.declared.option.Option.{Option}
-use Rattle.wl_sigs.specs.declared.signature.Side.{Side}
-use Rattle.wl_sigs.specs.declared.signature.Side.TheVariants.{Request, Event}
+use Rattle.wl_sigs.specs.Side.{Side}
+use Rattle.wl_sigs.specs.Side.TheVariants.{Request, Event}
 use Rattle.wl_object_map.specs.declared.object.Maker.{Maker}
 use Rattle.wl_object_map.specs.Ranges.{first_server_id, max_server_id}
 use Rattle.wl_object_map.specs.ObjectsLaws.{is_from}

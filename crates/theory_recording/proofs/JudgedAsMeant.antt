@@ -25,7 +25,7 @@ use Rattle.wl_check.specs.Rules.{reader_by, called, judged, judged_message, is_d
 use Rattle.theory_connection.specs.Meant.{Known, Message, Arg, objects, new_object_in, wire, tokens, spelled_meant}
 use Rattle.theory_connection.specs.World.{Each, IfThere}
 use Rattle.theory_connection.specs.Stands.{FitsSignature}
-use Rattle.wl_sigs.specs.declared.signature.Side.{Side}
+use Rattle.wl_sigs.specs.Side.{Side}
 use Rattle.theory_connection.proofs.MadeFor.{MadeFor}
 use Rattle.theory_connection.proofs.ReadAsMeant.{HasObject, Finds, new_id_for, received_by_any, parted}
 

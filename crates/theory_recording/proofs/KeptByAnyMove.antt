@@ -5,7 +5,7 @@ use Rattle.std.specs.declared.option.Option.{Option}
 use Rattle.std.specs.declared.option.Option.TheVariants.{None, Some}
 use Rattle.std.specs.declared.result.Result.{Result}
 use Rattle.std.specs.declared.result.Result.TheVariants.{Ok, Err}
-use Rattle.wl_sigs.specs.declared.signature.Side.TheVariants.{Event as event_side}
+use Rattle.wl_sigs.specs.Side.TheVariants.{Event as event_side}
 use Rattle.wl_sigs.specs.Tables.{Interface}
 use Rattle.wl_sigs.specs.Tables as sigs
 use Rattle.wl_object_map.specs.declared.object.Object.{Object}

@@ -8,9 +8,9 @@ use Rattle.wl_wire.specs.declared.kind.Iface.{Iface}
 use Rattle.wl_wire.specs.declared.kind.Kind.{Kind}
 use Rattle.wl_wire.specs.declared.kind.Kind.TheVariants as kinds
 use Rattle.wl_wire.specs.Argument.{New, NewNamed}
-use Rattle.wl_sigs.specs.declared.signature.Side.TheVariants.{Event as event_side}
-use Rattle.wl_sigs.specs.declared.signature.Destroys.{Destroys}
-use Rattle.wl_sigs.specs.declared.signature.Destroys.TheVariants.{Nothing}
+use Rattle.wl_sigs.specs.Side.TheVariants.{Event as event_side}
+use Rattle.wl_sigs.specs.Destroys.{Destroys}
+use Rattle.wl_sigs.specs.Destroys.TheVariants.{Nothing}
 use Rattle.wl_sigs.specs.Tables as sigs
 use Rattle.wl_sigs.specs.Tables.{Interface, signature_at, destroys_one}
 use Rattle.wl_sigs.specs.Fixed as fixed

@@ -16,7 +16,7 @@ use Rattle.theory_connection.specs.Meant.{Known, Message, Coming, objects, made_
 use Rattle.theory_connection.specs.World.{Row, Each}
 use Rattle.theory_connection.specs.Flight.{Rows, IsHeldInRows}
 use Rattle.theory_connection.specs.Stands.{AsksFitly, IsGlobal}
-use Rattle.wl_sigs.specs.declared.signature.Side.TheVariants.{Request}
+use Rattle.wl_sigs.specs.Side.TheVariants.{Request}
 use Rattle.theory_connection.proofs.MadeFor.{made_for}
 use Rattle.theory_connection.proofs.WholeInFlight.{OpenRow, each_by, client_makes, client_ends}
 use Rattle.theory_connection.proofs.ReadAsMeant.{HasObject, made_of, made_read}

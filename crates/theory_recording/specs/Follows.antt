@@ -6,7 +6,7 @@ use Rattle.std.specs.declared.result.Result.TheVariants.{Ok}
 use Rattle.wl_wire.specs.declared.kind.Iface.{Iface}
 use Rattle.wl_wire.specs.Argument.{Uint, Str}
 use Rattle.wl_sigs.specs.Tables.{Interface, place_of}
-use Rattle.wl_sigs.specs.declared.signature.Side.TheVariants.{Request, Event as event_side}
+use Rattle.wl_sigs.specs.Side.TheVariants.{Request, Event as event_side}
 use Rattle.wl_object_map.specs.declared.object.Entry.{Entry}
 use Rattle.wl_object_map.specs.declared.object.State.TheVariants as states
 use Rattle.wl_objects.specs.Messages.{NewObject, is_bind}

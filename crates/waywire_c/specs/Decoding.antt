@@ -9,7 +9,7 @@ use Rattle.wl_wire.specs.Argument.{Argument, reshaped}
 use Rattle.wl_wire.specs.Faults.{IsFirstFault}
 use Rattle.wl_wire.specs.Word.{header_at}
 use Rattle.wl_message.specs.Cut.{is_size}
-use Rattle.wl_sigs.specs.declared.signature.Side.{Side}
+use Rattle.wl_sigs.specs.Side.{Side}
 use Rattle.wl_sigs.specs.Tables.{Interface, MessageSignature, interface_at, signature_at, max_args}
 use Rattle.wl_object_map.specs.declared.object.Object.{Object}
 use Rattle.wl_objects.specs.declared.argument.Named.{Named}

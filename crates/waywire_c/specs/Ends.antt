@@ -1,8 +1,8 @@
 -- What a handle of an end leads to: the state of a client or of a server. What both have is stated
 -- for either.
 use Rattle.std.specs.Prelude.{◌≡◌, refl, ℕ, Bool, false, not, List}
-use Rattle.wl_sigs.specs.declared.signature.Side.{Side}
-use Rattle.wl_sigs.specs.declared.signature.Side.TheVariants.{Request, Event}
+use Rattle.wl_sigs.specs.Side.{Side}
+use Rattle.wl_sigs.specs.Side.TheVariants.{Request, Event}
 use Rattle.wl_sigs.specs.Rules.{has_server_objects}
 use Rattle.wl_objects.specs.Reading.{Reported}
 use Rattle.wl_connection.specs.Core.{Core}

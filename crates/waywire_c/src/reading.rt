@@ -1,6 +1,6 @@
 //! An end reads a message, and C gets the report.
 ghost use Rattle.std.specs.Prelude.{◌≡◌, ◌≢◌, length, None, true, false};
-ghost use Rattle.wl_sigs.specs.declared.signature.Side.TheVariants.{Event};
+ghost use Rattle.wl_sigs.specs.Side.TheVariants.{Event};
 ghost use Rattle.wl_sigs.specs.Rules.{has_server_objects};
 ghost use Rattle.wl_connection.specs.Receiving.{found};
 ghost use Rattle.wl_client.specs.Reports.{after_next as after_event, event_opens, next_answer};

@@ -16,7 +16,7 @@ use Rattle.wl_wire.specs.Argument.{Argument, New, NewNamed}
 use Rattle.wl_wire.specs.Word.{header_at}
 use Rattle.wl_message.specs.Cut.{is_size}
 use Rattle.wl_wire.specs.Reading.{reading as value_at}
-use Rattle.wl_sigs.specs.declared.signature.Side.{Side}
+use Rattle.wl_sigs.specs.Side.{Side}
 use Rattle.wl_sigs.specs.Tables.{MessageSignature, Interface, signature_at, place_of, descriptors}
 use Rattle.wl_object_map.specs.declared.object.Entry.{Entry}
 use Rattle.wl_objects.specs.declared.lookup.NewId.{NewId}

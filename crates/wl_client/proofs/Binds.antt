@@ -8,7 +8,7 @@ use Rattle.std.specs.declared.result.Result.TheVariants.{Ok, Err}
 use Rattle.std.proofs.lemmas.Bool.{and_parts}
 use Rattle.std.proofs.lemmas.Slice.Eq.{bytes_eq-Decides}
 use Rattle.wl_wire.specs.declared.kind.Kind.{Kind}
-use Rattle.wl_sigs.specs.declared.signature.Side.TheVariants.{Request}
+use Rattle.wl_sigs.specs.Side.TheVariants.{Request}
 use Rattle.wl_sigs.specs.Tables.{Interface, MessageSignature, interface_at, message_of}
 use Rattle.wl_sigs.specs.Fixed.{uint, new, registry}
 use Rattle.wl_sigs.specs.Valid.{Valid}

@@ -3,7 +3,7 @@ use Rattle.std.proofs.Common.{◌≡◌, ◌≢◌, true, false, List, [], ◌�
 use Rattle.std.specs.Prelude.{not}
 use Rattle.std.specs.declared.option.Option.TheVariants.{Some}
 use Rattle.std.specs.declared.result.Result.TheVariants.{Ok}
-use Rattle.wl_sigs.specs.declared.signature.Side.TheVariants.{Event as event_side}
+use Rattle.wl_sigs.specs.Side.TheVariants.{Event as event_side}
 use Rattle.wl_objects.specs.Reading.{Reported}
 use Rattle.wl_connection.specs.Receiving.{Found, found, is_none}
 use Rattle.wl_client.specs.State.{State}

@@ -1,7 +1,7 @@
 -- What a bind that may be written is known to satisfy.
 use Rattle.std.specs.Prelude.{◌≡◌, ◌<◌, ◌^◌, ◌≤◌, ℕ, List, Option, Some}
 use Rattle.std.specs.declared.result.Result.TheVariants.{Ok}
-use Rattle.wl_sigs.specs.declared.signature.Side.TheVariants.{Request}
+use Rattle.wl_sigs.specs.Side.TheVariants.{Request}
 use Rattle.wl_sigs.specs.Tables.{MessageSignature, signature_at}
 use Rattle.wl_sigs.specs.Valid.{Valid}
 use Rattle.wl_message.specs.Cut.{usual_limit}

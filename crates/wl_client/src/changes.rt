@@ -2,7 +2,7 @@
 //! remembers.
 ghost use Rattle.std.specs.Prelude.{◌≡◌, ◌≢◌, List, [], IsTrue, IfOk, OnErr, OnOk, false, true};
 ghost use Rattle.wl_wire.specs.Argument.{Argument};
-ghost use Rattle.wl_sigs.specs.declared.signature.Side.TheVariants.{Request as request_side};
+ghost use Rattle.wl_sigs.specs.Side.TheVariants.{Request as request_side};
 ghost use Rattle.wl_sigs.specs.Tables.{destroys_argument};
 ghost use Rattle.wl_object_map.specs.Objects.{Objects, is_held, is_live};
 ghost use Rattle.wl_objects.specs.Messages.{destroys, ended_id, opens};

@@ -1,6 +1,6 @@
 //! Laws of what a client reads. These functions do nothing; each is called for what it ensures.
 ghost use Rattle.std.specs.Prelude.{◌≡◌, ◌↔◌, ℕ, true, false, List, Some, Err};
-ghost use Rattle.wl_sigs.specs.declared.signature.Side.TheVariants.{Event as event_side};
+ghost use Rattle.wl_sigs.specs.Side.TheVariants.{Event as event_side};
 ghost use Rattle.theory_cuts.specs.Cuts.{AnyCutReads, HasOneReading, ReadsWhole};
 ghost use Rattle.wl_sigs.specs.Fixed.{registry};
 ghost use Rattle.wl_sigs.specs.Valid.{Valid};

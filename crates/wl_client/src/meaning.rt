@@ -1,7 +1,7 @@
 //! The meaning of a message to a client: its report, and its changes.
 ghost use Rattle.std.specs.Prelude.{◌≡◌, ◌≢◌, ℕ, List, Some, None, true, false};
-ghost use Rattle.wl_sigs.specs.declared.signature.Destroys.TheVariants.{Target};
-ghost use Rattle.wl_sigs.specs.declared.signature.Side.TheVariants.{Event};
+ghost use Rattle.wl_sigs.specs.Destroys.TheVariants.{Target};
+ghost use Rattle.wl_sigs.specs.Side.TheVariants.{Event};
 ghost use Rattle.wl_sigs.specs.Tables.{Interface, destroys_argument, descriptors};
 ghost use Rattle.wl_sigs.specs.Fixed.{display};
 ghost use Rattle.wl_object_map.specs.Objects.{Objects as ObjectsView, look};

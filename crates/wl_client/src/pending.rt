@@ -1,7 +1,7 @@
 //! The message at the front of a client's inbox: an event that was read and not yet taken.
 ghost use Rattle.std.specs.Prelude.{◌≡◌, IfOk};
 ghost use Rattle.wl_wire.specs.Word.{IsHeader};
-ghost use Rattle.wl_sigs.specs.declared.signature.Side.TheVariants.{Event as event_side};
+ghost use Rattle.wl_sigs.specs.Side.TheVariants.{Event as event_side};
 ghost use Rattle.wl_sigs.specs.Valid.{Valid};
 ghost use Rattle.wl_objects.specs.Messages.{reader_of, received};
 ghost use Rattle.wl_connection.specs.Core.{HasDisplay};

@@ -1,6 +1,6 @@
 //! What a client writes.
 ghost use Rattle.std.specs.Prelude.{◌≡◌, OnErr, OnOk};
-ghost use Rattle.wl_sigs.specs.declared.signature.Side.TheVariants.{Request as request_side};
+ghost use Rattle.wl_sigs.specs.Side.TheVariants.{Request as request_side};
 ghost use Rattle.wl_objects.specs.Writing.{given};
 ghost use Rattle.wl_connection.specs.Sending.{IsSendAnswer, after_send};
 ghost use Rattle.wl_client.specs.State.{with_core};

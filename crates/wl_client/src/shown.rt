@@ -1,7 +1,7 @@
 //! Printing what a client has read.
 ghost use Rattle.std.specs.Prelude.{◌≡◌, Some};
 ghost use Rattle.std.specs.Fmt.{WritesOnOk};
-ghost use Rattle.wl_sigs.specs.declared.signature.Side.TheVariants.{Event as event_side};
+ghost use Rattle.wl_sigs.specs.Side.TheVariants.{Event as event_side};
 ghost use Rattle.wl_client.specs.Shown.{error_text, incoming_text, interface_in};
 
 use crate::report::{Incoming, IncomingWithEntry};

@@ -6,9 +6,9 @@ use Rattle.std.specs.declared.option.Option.TheVariants.{None, Some}
 use Rattle.std.specs.declared.result.Result.TheVariants.{Ok, Err}
 use Rattle.std.specs.Prelude.{Option, Result, OnErr, OnOk, ◌↔◌, IsTrue, is_some, option_map, slice_get}
 use Rattle.wl_wire.specs.declared.kind.Iface.{Iface}
-use Rattle.wl_sigs.specs.declared.signature.Side.{Side}
-use Rattle.wl_sigs.specs.declared.signature.Side.TheVariants.{Request, Event}
-use Rattle.wl_sigs.specs.declared.signature.Destroys.TheVariants.{Nothing, Target}
+use Rattle.wl_sigs.specs.Side.{Side}
+use Rattle.wl_sigs.specs.Side.TheVariants.{Request, Event}
+use Rattle.wl_sigs.specs.Destroys.TheVariants.{Nothing, Target}
 use Rattle.wl_sigs.specs.Tables.{Interface, MessageSignature, signature_at, messages_of}
 use Rattle.wl_sigs.specs.Fixed.{wl_display, display}
 use Rattle.wl_sigs.specs.Valid.{Valid}

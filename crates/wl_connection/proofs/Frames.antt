@@ -10,7 +10,7 @@ use Rattle.wl_wire.specs.declared.header.Header.{Header}
 use Rattle.wl_wire.specs.declared.kind.Kind.{Kind}
 use Rattle.wl_wire.specs.Word.{IsHeader, header_at, header_bytes}
 use Rattle.wl_wire.proofs.Canonicals.{header_at-bytes}
-use Rattle.wl_sigs.specs.declared.signature.Side.{Side}
+use Rattle.wl_sigs.specs.Side.{Side}
 use Rattle.wl_message.specs.declared.inbox.Frame.{Frame}
 use Rattle.wl_message.specs.Arrived.{TellsFront, in_front}
 use Rattle.wl_message.specs.Cut.{Front, Whole, message_size}

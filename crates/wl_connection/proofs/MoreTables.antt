@@ -4,8 +4,8 @@ use Rattle.std.specs.Str.Lines.{lines}
 use Rattle.std.proofs.lemmas.List.Elements.{All-contains}
 use Rattle.wl_wire.specs.declared.kind.Kind.TheVariants as kinds
 use Rattle.wl_wire.specs.declared.kind.Iface.{Iface}
-use Rattle.wl_sigs.specs.declared.signature.Side.{Side}
-use Rattle.wl_sigs.specs.declared.signature.Side.TheVariants.{Event}
+use Rattle.wl_sigs.specs.Side.{Side}
+use Rattle.wl_sigs.specs.Side.TheVariants.{Event}
 use Rattle.wl_sigs.specs.Tables.{Interface, MessageSignature, interface_at, signature_at}
 use Rattle.wl_sigs.specs.Rules.{has_server_objects}
 use Rattle.wl_sigs.specs.Broken.{Broken}

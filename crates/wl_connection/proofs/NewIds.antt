@@ -13,7 +13,7 @@ use Rattle.wl_wire.specs.declared.kind.Kind.{Kind}
 use Rattle.wl_wire.specs.declared.kind.Kind.TheVariants as kinds
 use Rattle.wl_wire.specs.Argument.{Argument, New, NewNamed}
 use Rattle.wl_wire.specs.Reading.{reading}
-use Rattle.wl_sigs.specs.declared.signature.Side.TheVariants.{Request, Event}
+use Rattle.wl_sigs.specs.Side.TheVariants.{Request, Event}
 use Rattle.wl_sigs.specs.Tables.{Interface, place_of, new_objects, server_objects}
 use Rattle.wl_sigs.specs.Valid.{Valid}
 use Rattle.wl_object_map.specs.View.{free_or_next, has_room}

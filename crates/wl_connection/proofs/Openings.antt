@@ -9,8 +9,8 @@ use Rattle.std.specs.Prelude.{is_some, if◌then◌else◌, nat_lt, length}
 use Rattle.wl_wire.specs.declared.kind.Kind.{Kind}
 use Rattle.wl_wire.specs.declared.kind.Kind.TheVariants as kinds
 use Rattle.wl_wire.specs.Argument.{Argument}
-use Rattle.wl_sigs.specs.declared.signature.Side.{Side}
-use Rattle.wl_sigs.specs.declared.signature.Side.TheVariants.{Event}
+use Rattle.wl_sigs.specs.Side.{Side}
+use Rattle.wl_sigs.specs.Side.TheVariants.{Event}
 use Rattle.wl_sigs.specs.Tables.{Interface, MessageSignature, makes, new_objects, made_objects, first, signature_at}
 use Rattle.wl_sigs.specs.Tables.{server_objects}
 use Rattle.wl_sigs.specs.Rules.{has_server_objects}

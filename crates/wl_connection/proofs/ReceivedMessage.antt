@@ -12,7 +12,7 @@ use Rattle.wl_wire.specs.declared.kind.ArgFault.{ArgFault}
 use Rattle.wl_wire.specs.declared.header.Header.{Header}
 use Rattle.wl_wire.specs.Argument.{Argument, Int, Uint, Fixed, Str, Obj, New, NewNamed, Array, Fd}
 use Rattle.wl_wire.specs.Reading.{reading}
-use Rattle.wl_sigs.specs.declared.signature.Side.{Side}
+use Rattle.wl_sigs.specs.Side.{Side}
 use Rattle.wl_sigs.specs.Tables.{MessageSignature, Interface, signature_at, descriptors}
 use Rattle.wl_object_map.specs.declared.object.Entry.{Entry}
 use Rattle.wl_objects.specs.declared.error.Fault.{Fault}

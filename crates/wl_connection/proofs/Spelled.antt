@@ -15,7 +15,7 @@ use Rattle.wl_wire.specs.Word.{header_bytes, header_at, IsHeader}
 use Rattle.wl_wire.specs.Argument.{Argument, Int, Uint, Fixed, Str, Obj, New, NewNamed, Array, Fd}
 use Rattle.wl_wire.proofs.Canonicals.{canonical-spells, header_at-bytes, header_bytes-at}
 use Rattle.wl_wire.proofs.Numbers.{number_at_fits}
-use Rattle.wl_sigs.specs.declared.signature.Side.{Side}
+use Rattle.wl_sigs.specs.Side.{Side}
 use Rattle.wl_sigs.specs.Tables.{Interface, MessageSignature, signature_at, descriptors}
 use Rattle.wl_message.specs.Arrived.{in_front}
 use Rattle.wl_message.specs.Cut.{usual_limit, Front, More, Bad, Whole, IsSize, told_size}

@@ -1,6 +1,6 @@
 -- Tables that an end takes to replace its own.
 use Rattle.std.specs.Prelude.{◌≡◌, ℕ, ◌≤◌, List, Some, Bool, ◌&&◌, not}
-use Rattle.wl_sigs.specs.declared.signature.Side.{Side}
+use Rattle.wl_sigs.specs.Side.{Side}
 use Rattle.wl_sigs.specs.Tables.{Interface, MessageSignature, interface_at, message_of}
 use Rattle.wl_sigs.specs.Rules.{has_server_objects}
 use Rattle.wl_connection.specs.Core.{Core}

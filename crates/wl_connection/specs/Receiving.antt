@@ -5,7 +5,7 @@ use Rattle.std.specs.declared.result.Result.{Result}
 use Rattle.std.specs.declared.result.Result.TheVariants.{Ok, Err}
 use Rattle.wl_wire.specs.declared.header.Header.{Header}
 use Rattle.wl_wire.specs.Reading.{number_at}
-use Rattle.wl_sigs.specs.declared.signature.Side.{Side}
+use Rattle.wl_sigs.specs.Side.{Side}
 use Rattle.wl_message.specs.Arrived.{in_front}
 use Rattle.wl_message.specs.Cut.{Front, More, Bad, Whole}
 use Rattle.wl_sigs.specs.Tables.{descriptors}

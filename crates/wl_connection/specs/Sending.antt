@@ -4,9 +4,9 @@ use Rattle.std.specs.Prelude.{List, [], ◌∷◌, length, map, Option, Some, No
 use Rattle.std.specs.declared.result.Result.{Result}
 use Rattle.std.specs.declared.result.Result.TheVariants.{Ok, Err}
 use Rattle.wl_wire.specs.Argument.{Argument, Uint, Str, Obj}
-use Rattle.wl_sigs.specs.declared.signature.Side.{Side}
-use Rattle.wl_sigs.specs.declared.signature.Side.TheVariants.{Request, Event}
-use Rattle.wl_sigs.specs.declared.signature.Destroys.{Destroys}
+use Rattle.wl_sigs.specs.Side.{Side}
+use Rattle.wl_sigs.specs.Side.TheVariants.{Request, Event}
+use Rattle.wl_sigs.specs.Destroys.{Destroys}
 use Rattle.wl_sigs.specs.Tables.{MessageSignature, destroys_one, makes}
 use Rattle.wl_message.specs.Outgoing.{Outgoing, room_of, token_room_of, with_message, with_error}
 use Rattle.wl_object_map.specs.declared.object.Object.{Object}

@@ -3,7 +3,7 @@ use Rattle.std.specs.Prelude.{◌≡◌, ℕ, true, false, List, Option, Some, I
 use Rattle.std.specs.List.{Contains}
 use Rattle.wl_wire.specs.declared.kind.Kind.TheVariants as kinds
 use Rattle.wl_wire.specs.declared.kind.Iface.{Iface}
-use Rattle.wl_sigs.specs.declared.signature.Side.TheVariants.{Event}
+use Rattle.wl_sigs.specs.Side.TheVariants.{Event}
 use Rattle.wl_sigs.specs.Tables.{Interface, MessageSignature, interface_at, signature_at}
 use Rattle.wl_sigs.specs.Rules.{is_ended_by_event, has_server_objects}
 use Rattle.wl_object_map.specs.declared.object.Entry.{Entry}

@@ -3,7 +3,7 @@ use Rattle.std.specs.Prelude.{◌≡◌, ℕ, zero, suc, ◌<◌, ◌⊎◌, Lis
 use Rattle.std.specs.Prelude.{Some}
 use Rattle.std.specs.List.{concat, AllByRecursion}
 use Rattle.std.specs.declared.result.Result.TheVariants.{Ok}
-use Rattle.wl_sigs.specs.declared.signature.Side.{Side}
+use Rattle.wl_sigs.specs.Side.{Side}
 use Rattle.wl_message.specs.declared.amounts.Amounts.{Amounts}
 use Rattle.wl_message.specs.Cut.{IsMessage}
 use Rattle.wl_message.specs.InStep.{Part, Need}

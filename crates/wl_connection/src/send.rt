@@ -1,7 +1,7 @@
 //! What an end writes.
 ghost use Rattle.std.specs.Prelude.{[], ◌≡◌, ◌≢◌, ◌≤◌, ◌+◌, ℕ, false, true, Some, Ok, IfOk, IfSome};
 ghost use Rattle.std.specs.Prelude.{IsTrue, OnErr, OnOk, is_some, length};
-ghost use Rattle.wl_sigs.specs.declared.signature.Side.TheVariants.{Event as event_side};
+ghost use Rattle.wl_sigs.specs.Side.TheVariants.{Event as event_side};
 ghost use Rattle.wl_sigs.specs.Rules.{has_server_objects};
 ghost use Rattle.wl_sigs.specs.Tables.{destroys_one, makes, max_args};
 ghost use Rattle.wl_sigs.specs.Valid.{Valid};

@@ -15,8 +15,8 @@ use Rattle.wl_wire.specs.Argument.{Argument, Int, Uint, Fixed, Str, Obj, New, Ne
 use Rattle.wl_wire.specs.Word.{header_bytes}
 use Rattle.wl_wire.specs.Spelling.{Suits, canonical, spelled_len, padded}
 use Rattle.wl_wire.proofs.Canonicals.{canonical-spells, canonical-len}
-use Rattle.wl_sigs.specs.declared.signature.Side.{Side}
-use Rattle.wl_sigs.specs.declared.signature.Side.TheVariants.{Request, Event}
+use Rattle.wl_sigs.specs.Side.{Side}
+use Rattle.wl_sigs.specs.Side.TheVariants.{Request, Event}
 use Rattle.wl_sigs.specs.Fixed.{display, registry}
 use Rattle.wl_sigs.specs.Tables.{MessageSignature, Interface, signature_at, descriptors}
 use Rattle.wl_object_map.specs.declared.object.Object.{Object}

@@ -9,10 +9,10 @@ use Rattle.wl_wire.specs.declared.kind.Kind.TheVariants as kinds
 use Rattle.wl_wire.specs.declared.kind.Iface.{Iface}
 use Rattle.wl_wire.specs.declared.header.Header.{Header}
 use Rattle.wl_wire.specs.Argument.{Argument, Obj, New, NewNamed}
-use Rattle.wl_sigs.specs.declared.signature.Side.{Side}
-use Rattle.wl_sigs.specs.declared.signature.Side.TheVariants.{Request, Event}
-use Rattle.wl_sigs.specs.declared.signature.Destroys.{Destroys}
-use Rattle.wl_sigs.specs.declared.signature.Destroys.TheVariants.{Nothing, Target, Arg}
+use Rattle.wl_sigs.specs.Side.{Side}
+use Rattle.wl_sigs.specs.Side.TheVariants.{Request, Event}
+use Rattle.wl_sigs.specs.Destroys.{Destroys}
+use Rattle.wl_sigs.specs.Destroys.TheVariants.{Nothing, Target, Arg}
 use Rattle.wl_sigs.specs.Tables.{MessageSignature, Interface, signature_at, interface_at, place_of}
 use Rattle.wl_sigs.specs.Tables.{descriptors}
 use Rattle.wl_sigs.specs.Fixed.{display, registry}

@@ -4,7 +4,7 @@ ghost use Rattle.std.specs.Prelude.{None, Ok, Err, false, length, map, option_ma
 ghost use Rattle.std.specs.List.{All};
 ghost use Rattle.wl_wire.specs.declared.kind.Kind.{Kind as SpecKind};
 ghost use Rattle.wl_wire.specs.Argument.{Argument, Obj};
-ghost use Rattle.wl_sigs.specs.declared.signature.Side.{Side as SpecSide};
+ghost use Rattle.wl_sigs.specs.Side.{Side as SpecSide};
 ghost use Rattle.wl_sigs.specs.Tables.{Interface, MessageSignature};
 ghost use Rattle.wl_objects.specs.declared.argument.Arg.{Arg as SpecArg};
 ghost use Rattle.wl_objects.specs.declared.error.Fault.{Fault as SpecFault};

@@ -2,7 +2,7 @@
 ghost use Rattle.std.specs.Prelude.{◌≡◌, List, []};
 ghost use Rattle.std.specs.Option.{option_map_or};
 ghost use Rattle.wl_sigs.specs.Tables.{Interface};
-ghost use Rattle.wl_sigs.specs.declared.signature.Side.{Side};
+ghost use Rattle.wl_sigs.specs.Side.{Side};
 ghost use Rattle.wl_objects.specs.Reading.{named_at};
 ghost use Rattle.wl_objects.specs.Messages.{reader_of};
 ghost use Rattle.wl_objects.specs.Seen.{got_values};

@@ -10,9 +10,9 @@ use Rattle.std.proofs.lemmas.Bool.Decides.{nat_tests}
 use Rattle.std.proofs.lemmas.Grind.{common_steps}
 use Rattle.wl_wire.specs.declared.header.Header.{Header}
 use Rattle.wl_wire.specs.declared.kind.Iface.{Iface}
-use Rattle.wl_sigs.specs.declared.signature.Side.TheVariants.{Request as request_side}
-use Rattle.wl_sigs.specs.declared.signature.Destroys.{Destroys}
-use Rattle.wl_sigs.specs.declared.signature.Destroys.TheVariants.{Nothing, Target, Arg}
+use Rattle.wl_sigs.specs.Side.TheVariants.{Request as request_side}
+use Rattle.wl_sigs.specs.Destroys.{Destroys}
+use Rattle.wl_sigs.specs.Destroys.TheVariants.{Nothing, Target, Arg}
 use Rattle.wl_sigs.specs.Tables.{Interface, MessageSignature, signature_at, message_of, destroys_one}
 use Rattle.wl_sigs.specs.Fixed.{wl_display, display}
 use Rattle.wl_sigs.specs.Valid.{Valid}

@@ -10,7 +10,7 @@ use Rattle.wl_wire.specs.Argument.{Argument, Uint, Str}
 use Rattle.wl_wire.specs.Spelling.{IsText}
 use Rattle.wl_wire.specs.declared.kind.Kind.{Kind}
 use Rattle.wl_wire.specs.declared.kind.Iface.{Iface}
-use Rattle.wl_sigs.specs.declared.signature.Side.TheVariants.{Event}
+use Rattle.wl_sigs.specs.Side.TheVariants.{Event}
 use Rattle.wl_sigs.specs.Tables.{Interface, MessageSignature, interface_at, signature_at, message_of}
 use Rattle.wl_sigs.specs.Fixed.{any_object, uint, string}
 use Rattle.wl_sigs.specs.Valid.{Valid, IsNameByte}

@@ -4,10 +4,10 @@ use Rattle.std.specs.Prelude.{if◌then◌else◌, List, [], ◌∷◌, codes, i
 use Rattle.std.specs.declared.result.Result.{Result}
 use Rattle.std.specs.declared.result.Result.TheVariants.{Ok, Err}
 use Rattle.wl_wire.specs.Argument.{Argument, Uint, Obj, NewNamed}
-use Rattle.wl_sigs.specs.declared.signature.Destroys.{Destroys}
-use Rattle.wl_sigs.specs.declared.signature.Destroys.TheVariants.{Nothing, Target, Arg}
-use Rattle.wl_sigs.specs.declared.signature.Side.TheVariants.{Request as request_side}
-use Rattle.wl_sigs.specs.declared.signature.Side.TheVariants.{Event as event_side}
+use Rattle.wl_sigs.specs.Destroys.{Destroys}
+use Rattle.wl_sigs.specs.Destroys.TheVariants.{Nothing, Target, Arg}
+use Rattle.wl_sigs.specs.Side.TheVariants.{Request as request_side}
+use Rattle.wl_sigs.specs.Side.TheVariants.{Event as event_side}
 use Rattle.wl_sigs.specs.Tables.{Interface, interface_at, destroys_one}
 use Rattle.wl_message.specs.Outgoing.{room_of}
 use Rattle.wl_object_map.specs.declared.object.Object.{Object}

@@ -1,6 +1,6 @@
 -- What is printed for a request that a server has read.
 use Rattle.std.specs.Prelude.{ℕ, List, Some}
-use Rattle.wl_sigs.specs.declared.signature.Side.TheVariants.{Request as request_side}
+use Rattle.wl_sigs.specs.Side.TheVariants.{Request as request_side}
 use Rattle.wl_sigs.specs.Tables.{Interface}
 use Rattle.wl_objects.specs.Parsed.{seen_args}
 use Rattle.wl_trace_line.specs.Report.{report_line}

@@ -1,7 +1,7 @@
 -- What a server writes on its own, as spellings by the signatures of its tables.
 use Rattle.std.specs.Prelude.{◌≡◌, ℕ, ◌<◌, ◌^◌, true, List, [], ◌∷◌, Some}
 use Rattle.wl_wire.specs.Argument.{Argument, Uint}
-use Rattle.wl_sigs.specs.declared.signature.Side.TheVariants.{Event}
+use Rattle.wl_sigs.specs.Side.TheVariants.{Event}
 use Rattle.wl_sigs.specs.Tables.{Interface, MessageSignature, signature_at}
 use Rattle.wl_sigs.specs.Valid.{Valid}
 use Rattle.wl_objects.specs.Writing.{error_values, message_bytes}

@@ -1,6 +1,6 @@
 //! Which binds of its client a server accepts.
 ghost use Rattle.std.specs.Prelude.{◌≡◌, ◌&&◌, not};
-ghost use Rattle.wl_sigs.specs.declared.signature.Side.TheVariants.{Request as request_side};
+ghost use Rattle.wl_sigs.specs.Side.TheVariants.{Request as request_side};
 ghost use Rattle.wl_objects.specs.Messages.{is_bind};
 ghost use Rattle.wl_objects.specs.Seen.{received_of};
 ghost use Rattle.wl_server.specs.Requests.{was_advertised, is_good_bind_of};

@@ -1,6 +1,6 @@
 //! Laws of what a server reads. These functions do nothing; each is called for what it ensures.
 ghost use Rattle.std.specs.Prelude.{◌≡◌, ℕ, true, List};
-ghost use Rattle.wl_sigs.specs.declared.signature.Side.TheVariants.{Request as request_side};
+ghost use Rattle.wl_sigs.specs.Side.TheVariants.{Request as request_side};
 ghost use Rattle.theory_cuts.specs.Cuts.{AnyCutReads, HasOneReading, ReadsWhole};
 ghost use Rattle.wl_sigs.specs.Tables.{Interface};
 ghost use Rattle.wl_objects.specs.declared.error.Fault.{Fault};

@@ -1,7 +1,7 @@
 //! The message at the front of a server's inbox: a request that was read and not yet taken.
 ghost use Rattle.std.specs.Prelude.{◌≡◌, ◌&&◌, ℕ, List, Some, IfOk, IfSome, nat_lt};
 ghost use Rattle.wl_wire.specs.Word.{IsHeader};
-ghost use Rattle.wl_sigs.specs.declared.signature.Side.TheVariants.{Request as request_side};
+ghost use Rattle.wl_sigs.specs.Side.TheVariants.{Request as request_side};
 ghost use Rattle.wl_sigs.specs.Valid.{Valid};
 ghost use Rattle.wl_object_map.specs.Objects.{look};
 ghost use Rattle.wl_objects.specs.Messages.{made, reader_of, received};

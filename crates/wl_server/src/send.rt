@@ -1,7 +1,7 @@
 //! What a server writes to its client.
 ghost use Rattle.std.specs.Prelude.{◌≡◌, false, Err, IfOk, OnOk, OnErr};
 ghost use Rattle.wl_sigs.specs.Rules.{has_server_objects};
-ghost use Rattle.wl_sigs.specs.declared.signature.Side.TheVariants.{Event as event_side};
+ghost use Rattle.wl_sigs.specs.Side.TheVariants.{Event as event_side};
 ghost use Rattle.wl_sigs.specs.Valid.{Valid};
 ghost use Rattle.wl_objects.specs.Writing.{given};
 ghost use Rattle.wl_connection.specs.Outcomes.{refusal_in};

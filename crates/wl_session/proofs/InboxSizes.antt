@@ -5,7 +5,7 @@ use Rattle.std.specs.declared.option.Option.TheVariants.{None, Some}
 use Rattle.std.specs.declared.result.Result.{Result}
 use Rattle.std.specs.declared.result.Result.TheVariants.{Ok, Err}
 use Rattle.wl_message.specs.Arrived.{Arrived}
-use Rattle.wl_sigs.specs.declared.signature.Side.{Side}
+use Rattle.wl_sigs.specs.Side.{Side}
 use Rattle.wl_sigs.specs.Tables.{MessageSignature}
 use Rattle.wl_object_map.specs.declared.object.Object.{Object}
 use Rattle.wl_objects.specs.declared.error.SendError.{SendError}
@@ -20,7 +20,7 @@ use Rattle.wl_connection.specs.Receiving.{Found, found}
 use Rattle.wl_connection.specs.Roles.{front_left}
 use Rattle.wl_connection.specs.Outcomes.{unless_memory}
 use Rattle.wl_connection.specs.Sending.{after_send, after_checked, with_following, following, with_sent}
-use Rattle.wl_sigs.specs.declared.signature.Side.TheVariants.{Event as event_side}
+use Rattle.wl_sigs.specs.Side.TheVariants.{Event as event_side}
 use Rattle.wl_client.specs.State as client
 use Rattle.wl_client.specs.Reports as events
 use Rattle.wl_server.specs.State as server

@@ -8,8 +8,8 @@ use Rattle.std.proofs.lemmas.Option.{slice_get-get_or}
 use Rattle.wl_wire.specs.declared.kind.Kind.{Kind}
 use Rattle.wl_wire.specs.declared.kind.Kind.TheVariants as kinds
 use Rattle.wl_wire.specs.declared.kind.Iface.{Iface}
-use Rattle.wl_sigs.specs.declared.signature.Side.{Side}
-use Rattle.wl_sigs.specs.declared.signature.Side.TheVariants.{Request, Event}
+use Rattle.wl_sigs.specs.Side.{Side}
+use Rattle.wl_sigs.specs.Side.TheVariants.{Request, Event}
 use Rattle.wl_sigs.specs.Tables.{MessageSignature, Interface, messages_of, signature_at}
 use Rattle.wl_sigs.specs.Tables.{has_destroying_event, destroys_target}
 use Rattle.wl_text.specs.Text.{WrittenMessage}

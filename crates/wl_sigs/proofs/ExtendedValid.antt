@@ -6,8 +6,8 @@ use Rattle.std.specs.List.{Contains, list_any}
 use Rattle.std.proofs.lemmas.Option.{slice_get_within}
 use Rattle.wl_wire.specs.declared.kind.Kind.TheVariants as kinds
 use Rattle.wl_wire.specs.declared.kind.Iface.{Iface}
-use Rattle.wl_sigs.specs.declared.signature.Side.{Side}
-use Rattle.wl_sigs.specs.declared.signature.Side.TheVariants.{Request, Event}
+use Rattle.wl_sigs.specs.Side.{Side}
+use Rattle.wl_sigs.specs.Side.TheVariants.{Request, Event}
 use Rattle.wl_sigs.specs.Tables.{MessageSignature, Interface, interface_at, message_of, signature_at}
 use Rattle.wl_sigs.specs.Tables.{messages_of, has_destroying_event, destroys_target, named_interface}
 use Rattle.wl_sigs.specs.Valid.{IsBind, IsFixedPlace, Valid}
@@ -30,7 +30,7 @@ use Rattle.wl_sigs.specs.FirstLineBroken.{by_extension}
 use Rattle.wl_sigs.proofs.Lookups.{found, signature_from}
 use Rattle.wl_sigs.proofs.JoinedValid.{joined_valid, any_at}
 use Rattle.wl_sigs.proofs.ValidKeeps.{any_true, valid_unbroken}
-use Rattle.wl_sigs.proofs.FirstBrokenLine.{earlier_none}
+use Rattle.wl_rules.proofs.FirstBrokenLine.{earlier_none}
 use Rattle.wl_sigs.proofs.FirstWords.{some_same, declared_least}
 use Rattle.wl_sigs.proofs.Grown.{length_grown}
 use Rattle.wl_sigs.proofs.GrownStays.{stays, message_stays}

@@ -4,8 +4,8 @@ use Rattle.std.proofs.Common.{[], ◌∷◌, length, map, refl, sym, ap, ◌∙�
 use Rattle.std.proofs.Common.{Bool, slice_get, not, nat_le, nat_lt, ◌<◌, ◌==◌, ◌&&◌, ◌||◌, arith}
 use Rattle.std.proofs.Math.Arith.{lt_of_le-ne}
 use Rattle.std.proofs.lemmas.Bool.{ltb-true, ltb-false, eqb-true, eqb-false}
-use Rattle.wl_sigs.specs.declared.signature.Side.{Side}
-use Rattle.wl_sigs.specs.declared.signature.Side.TheVariants.{Request, Event}
+use Rattle.wl_sigs.specs.Side.{Side}
+use Rattle.wl_sigs.specs.Side.TheVariants.{Request, Event}
 use Rattle.std.specs.List.{list_all, count_by}
 use Rattle.wl_sigs.specs.Rules.{is_name}
 use Rattle.wl_sigs.specs.Tables.{Interface}

@@ -14,7 +14,7 @@ use Rattle.wl_sigs.specs.Broken.{broken_at, earlier}
 use Rattle.wl_sigs.specs.Extended.{Gathered, unsaid, greater, with_extension, extend_first, first_named}
 use Rattle.wl_sigs.specs.Extended.{one_more, gathered_from, gathered}
 use Rattle.wl_sigs.specs.Extending.{is_fixed_name, version_rule, extend_rule, extensions_broken}
-use Rattle.wl_sigs.proofs.FirstBrokenLine.{earlier_none}
+use Rattle.wl_rules.proofs.FirstBrokenLine.{earlier_none}
 
 greater_is : (a b : ℕ) → a ≤ greater a b
 greater_is a b = by_test (nat_lt a b) refl

@@ -1,7 +1,7 @@
 -- What a text leaves as it is of the tables that it extends.
 use Rattle.std.proofs.Common.{◌≡◌, ℕ, ◌≤◌, List, length}
 use Rattle.std.proofs.Common.{map, refl, Some}
-use Rattle.wl_sigs.specs.declared.signature.Side.{Side}
+use Rattle.wl_sigs.specs.Side.{Side}
 use Rattle.wl_sigs.specs.Tables.{MessageSignature, Interface, interface_at, messages_of, message_of}
 use Rattle.wl_sigs.specs.Tables.{signature_at}
 use Rattle.wl_text.specs.Text.{WrittenInterface}

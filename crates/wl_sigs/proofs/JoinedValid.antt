@@ -7,7 +7,7 @@ use Rattle.std.proofs.lemmas.Bool.{leb-true, ltb-true, eqb-true}
 use Rattle.wl_wire.specs.declared.kind.Kind.{Kind}
 use Rattle.wl_wire.specs.declared.kind.Iface.{Iface}
 use Rattle.wl_sigs.specs.Places.{PlacesFit}
-use Rattle.wl_sigs.proofs.FirstPlaces.{first_place-within, first_place-le}
+use Rattle.wl_rules.proofs.FirstPlaces.{first_place-within, first_place-le}
 use Rattle.wl_sigs.proofs.Lookups.{found}
 use Rattle.std.specs.Option.{option_map_or}
 use Rattle.std.specs.Prelude.{option_map, unwrap_or, ◌==◌, not, ◌||◌}
@@ -15,8 +15,8 @@ use Rattle.std.proofs.Math.Path.{fun_ext}
 use Rattle.std.proofs.lemmas.List.{length-map, map-append, map_more}
 use Rattle.std.proofs.lemmas.Option.{slice_get_within, slice_get-get_or, slice_get-map, slice_get_past}
 use Rattle.wl_wire.specs.declared.kind.Kind.TheVariants as kinds
-use Rattle.wl_sigs.specs.declared.signature.Side.{Side}
-use Rattle.wl_sigs.specs.declared.signature.Side.TheVariants.{Request, Event}
+use Rattle.wl_sigs.specs.Side.{Side}
+use Rattle.wl_sigs.specs.Side.TheVariants.{Request, Event}
 use Rattle.wl_sigs.specs.Rules.{is_empty}
 use Rattle.wl_sigs.specs.Tables.{MessageSignature, Interface, interface_at, messages_of, signature_at}
 use Rattle.wl_sigs.specs.Tables.{new_objects, named_interface, has_destroying_event}
@@ -30,7 +30,7 @@ use Rattle.wl_text.specs.Text.{WrittenMessage, WrittenInterface}
 use Rattle.wl_sigs.specs.Joined.{all_names, first_place, kind_placed, destroys_of, interface_placed, joined}
 use Rattle.wl_sigs.specs.Broken.{is_first, ended_of, first_broken}
 use Rattle.wl_sigs.proofs.RulesDecide.{decides_name}
-use Rattle.wl_sigs.proofs.FirstBrokenLine.{each_interface_keeps}
+use Rattle.wl_rules.proofs.FirstBrokenLine.{each_interface_keeps}
 use Rattle.wl_sigs.specs.FirstBroken.{written_of}
 use Rattle.wl_sigs.proofs.Kept.{Keeps, MessageKeeps, kept}
 use Rattle.wl_sigs.proofs.JoinedLookup.{in_front, Brought, either_interface, placing}

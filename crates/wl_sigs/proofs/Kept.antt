@@ -2,8 +2,8 @@
 use Rattle.std.proofs.Common.{◌≡◌, ℕ, ◌+◌, true, false, List, map, refl, Some, None, Option, Bool}
 use Rattle.std.proofs.Common.{nat_le, nat_lt, length, slice_get, not, cond, ◌&&◌, arith}
 use Rattle.std.specs.List.{list_all, count_by}
-use Rattle.wl_sigs.specs.declared.signature.Side.{Side}
-use Rattle.wl_sigs.specs.declared.signature.Side.TheVariants.{Request, Event}
+use Rattle.wl_sigs.specs.Side.{Side}
+use Rattle.wl_sigs.specs.Side.TheVariants.{Request, Event}
 use Rattle.wl_sigs.specs.Rules.{is_name}
 use Rattle.wl_text.specs.Text.{WrittenMessage, WrittenInterface}
 use Rattle.wl_sigs.specs.Joined.{first_place}
@@ -12,7 +12,7 @@ use Rattle.wl_sigs.specs.Broken.{names_objects, is_race_free, interface_rule, me
 use Rattle.wl_sigs.specs.Broken.{broken_at, side_broken, interface_broken, makes_server_object}
 use Rattle.wl_sigs.specs.Broken.{most_by_server, makes_forbidden}
 use Rattle.wl_sigs.specs.FirstBroken.{written_of}
-use Rattle.wl_sigs.proofs.FirstBrokenLine.{earlier_none, each_message_keeps}
+use Rattle.wl_rules.proofs.FirstBrokenLine.{earlier_none, each_message_keeps}
 
 both : (a b : Bool) → a && b ≡ true → (a ≡ true) × (b ≡ true)
 both true true e = (refl, refl)

@@ -1,6 +1,4 @@
 pub mod Lookups
-pub mod FirstPlaces
-pub mod FirstBrokenLine
 mod MessagesNamed
 mod Got
 mod Kept

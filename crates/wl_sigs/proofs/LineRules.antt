@@ -15,7 +15,7 @@ use Rattle.wl_text.specs.declared.written.BareKind.TheVariants as bare
 use Rattle.wl_text.specs.Text.{WrittenKind, needs_interface, takes_interface}
 use Rattle.wl_sigs.specs.Joined.{first_place, iface_named, with_iface}
 use Rattle.wl_sigs.specs.Broken.{is_first, is_new, is_object, is_ended}
-use Rattle.wl_sigs.proofs.FirstPlaces.{first_place-of, first_place-le}
+use Rattle.wl_rules.proofs.FirstPlaces.{first_place-of, first_place-le}
 use Rattle.wl_sigs.proofs.PlacedKinds.{all_placed}
 
 abbrev as_iface : ℕ → Iface

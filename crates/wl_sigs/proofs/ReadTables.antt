@@ -2,7 +2,7 @@
 use Rattle.std.proofs.Common.{◌≡◌, List, Some, None, Option, refl, sym, ap, subst, ◌∙◌}
 use Rattle.std.specs.Prelude.{option_map}
 use Rattle.wl_text.specs.Text.{WrittenInterface}
-use Rattle.wl_sigs.specs.declared.rules.BrokenLine.{BrokenLine}
+use Rattle.wl_rules.specs.declared.rules.BrokenLine.{BrokenLine}
 use Rattle.wl_sigs.specs.Tables.{Interface}
 use Rattle.wl_sigs.specs.Valid.{Valid}
 use Rattle.wl_sigs.specs.Broken.{Broken, earlier}

@@ -14,15 +14,13 @@ use Rattle.wl_wire.specs.declared.kind.Iface.{Iface}
 use Rattle.wl_text.specs.declared.written.BareKind.{BareKind}
 use Rattle.wl_text.specs.declared.written.BareKind.TheVariants as bare
 use Rattle.wl_text.specs.Text.{WrittenKind}
-use Rattle.wl_sigs.specs.declared.signature.Side.{Side}
-use Rattle.wl_sigs.specs.declared.signature.Side.TheVariants.{Request, Event}
+use Rattle.wl_sigs.specs.Side.TheVariants.{Request, Event}
 use Rattle.wl_sigs.specs.Tables.{Interface, interface_at, server_objects, has_destroying_event}
 use Rattle.wl_sigs.specs.Valid.{EachMessage, IsFixedPlace, ServerMakesRightly}
 use Rattle.wl_sigs.specs.Rules as test
 use Rattle.wl_sigs.specs.Rules.{is_fixed_place}
 use Rattle.wl_sigs.specs.Joined.{iface_named, with_iface, kind_placed}
 use Rattle.wl_sigs.specs.Broken.{is_made_by_server, makes_server_object, is_ended, is_forbidden}
-use Rattle.wl_sigs.specs.Broken.{makes_forbidden, most_by_server}
 use Rattle.wl_sigs.proofs.TestsDecide.{Decides-le, Decides-empty, Decides-list_all, Decides-both}
 use Rattle.wl_sigs.proofs.TestsDecide.{Decides-message}
 
@@ -148,35 +146,6 @@ count_by_server place past (k ∷ ks) =
     rw (sum_by-cons (λ (x : WrittenKind). cond (makes_server_object x) 1 0) k ks)
     (counted place past k.kind k.iface (map (kind_placed place past) ks) (count_by makes_server_object ks)
     (count_by_server place past ks))
-
--- a message without new objects of the server has none that is forbidden
-none_bad : (place : List ℕ → Option ℕ) (ended : List Bool) (ks : List WrittenKind)
-    → count_by makes_server_object ks ≡ 0 → list_all (λ k. not (makes_forbidden place ended k)) ks ≡ true
-none_bad place ended [] none = refl
-none_bad place ended (k ∷ ks) none =
-    by_test (is_made_by_server k.kind) (option_map_or (λ name. is_forbidden ended (place name)) k.iface false)
-    (count_by makes_server_object ks) (list_all (λ k. not (makes_forbidden place ended k)) ks)
-    (sym (sum_by-cons (λ (x : WrittenKind). cond (makes_server_object x) 1 0) k ks) ∙ none)
-    (none_bad place ended ks)
-  where
-    no_more : (n : ℕ) → 1 + n ≡ 0 → ⊥
-    no_more n e = omega (arith, e)
-
-    by_test : (made bad : Bool) (n : ℕ) (rest : Bool) → cond made 1 0 + n ≡ 0 → (n ≡ 0 → rest ≡ true)
-        → not (made && bad) && rest ≡ true
-    by_test true bad n rest e more = absurd (no_more n e)
-    by_test false bad n rest e more = more (omega (arith, e))
-
-pub none_made : (place : List ℕ → Option ℕ) (ended : List Bool) (side : Side) (ks : List WrittenKind)
-    → count_by makes_server_object ks ≡ 0
-    → true ≡ nat_le (count_by makes_server_object ks) (most_by_server side)
-    && list_all (λ k. not (makes_forbidden place ended k)) ks
-none_made place ended side ks none =
-    rw (none, none_bad place ended ks none) (by_side side)
-  where
-    by_side : (side : Side) → true ≡ nat_le 0 (most_by_server side) && true
-    by_side Request = refl
-    by_side Event = refl
 
 abbrev as_iface : ℕ → Iface
 as_iface place = record { 0 = place }

@@ -4,14 +4,14 @@ use Rattle.std.proofs.Common.{[], ◌∷◌, length, map, refl, sym, ap, ◌∙�
 use Rattle.std.proofs.Common.{Bool, slice_get, not, nat_le, nat_lt, ◌&&◌, ◌||◌, arith}
 use Rattle.std.specs.Prelude.{option_map}
 use Rattle.std.specs.List.{Contains, list_all, count_by}
-use Rattle.std.proofs.lemmas.Bool.{leb-true, ltb-true, leb-false, ltb-false}
+use Rattle.std.proofs.lemmas.Bool.{leb-true, leb-false, ltb-false}
 use Rattle.std.proofs.lemmas.List.{length-map}
 use Rattle.std.proofs.lemmas.Option.{slice_get-map, slice_get_past}
 use Rattle.wl_wire.specs.declared.kind.Kind.{Kind}
 use Rattle.wl_wire.specs.declared.kind.Kind.TheVariants as kinds
 use Rattle.wl_wire.specs.declared.kind.Iface.{Iface}
-use Rattle.wl_sigs.specs.declared.signature.Side.{Side}
-use Rattle.wl_sigs.specs.declared.signature.Side.TheVariants.{Request, Event}
+use Rattle.wl_sigs.specs.Side.{Side}
+use Rattle.wl_sigs.specs.Side.TheVariants.{Request, Event}
 use Rattle.wl_sigs.specs.Rules.{is_name, is_empty}
 use Rattle.wl_sigs.specs.Tables.{MessageSignature, Interface, interface_at, new_objects, named_interface}
 use Rattle.wl_sigs.specs.Tables.{destroys_target, server_objects}
@@ -31,13 +31,14 @@ use Rattle.wl_sigs.specs.FirstBroken.{since_above_version, interface_missing}
 use Rattle.wl_sigs.specs.FirstBroken.{request_has_server_object, event_has_two_server_objects}
 use Rattle.wl_sigs.specs.FirstBroken.{server_object_of_ended, server_object_of_fixed}
 use Rattle.wl_sigs.proofs.RulesDecide.{decides_name}
-use Rattle.wl_sigs.proofs.FirstPlaces.{first_place-within}
+use Rattle.wl_rules.proofs.FirstPlaces.{first_place-within}
 use Rattle.wl_sigs.proofs.JoinedLookup.{mapped_at, placing, placing_message, placed_messages}
 use Rattle.wl_sigs.proofs.JoinedLookup.{length_joined, length_names, names_joined}
 use Rattle.wl_sigs.proofs.JoinedValid.{ended_at}
 use Rattle.wl_sigs.proofs.ValidKeeps.{placed_at, ended_is, name_there}
 use Rattle.wl_sigs.proofs.ServerObjects.{MadeRightly, count_by_server, made_rightly, wrongly_made}
 use Rattle.wl_sigs.proofs.PlacedKinds.{count_placed, not_unnamed, not_any, there, NotEndedIn, not_ended}
+use Rattle.wl_rules.proofs.Extensions.{not_lt}
 use Rattle.wl_sigs.proofs.LineRules.{fails_unless, either_fails, left_fails, right_fails, some_kind}
 use Rattle.wl_sigs.proofs.LineRules.{kinds_fail, unnamed_is, any_is, ended_named, missing_named}
 use Rattle.wl_sigs.proofs.LineRules.{earlier_name, not_first}
@@ -80,9 +81,6 @@ not_name name fails is = let passes = (decides_name name).1 is in let no : false
 
 no_name : (name : List ℕ) → ¬ IsTableName name → is_name name ≡ false
 no_name name never = fails_unless (is_name name) (λ passes. never ((decides_name name).0 passes))
-
-pub not_lt : (a b : ℕ) → b ≤ a → nat_lt a b ≡ false
-not_lt a b le = fails_unless (nat_lt a b) (λ t. let lt = ltb-true a b t in omega (arith, lt, le))
 
 not_le : (a b : ℕ) → b < a → nat_le a b ≡ false
 not_le a b lt = fails_unless (nat_le a b) (λ t. let le = leb-true a b t in omega (arith, lt, le))

@@ -9,8 +9,8 @@ use Rattle.std.proofs.lemmas.List.{length-map}
 use Rattle.std.proofs.lemmas.Option.{slice_get-map, slice_get_within}
 use Rattle.wl_wire.specs.declared.kind.Iface.{Iface}
 use Rattle.wl_wire.specs.declared.kind.Kind.TheVariants as kinds
-use Rattle.wl_sigs.specs.declared.signature.Side.{Side}
-use Rattle.wl_sigs.specs.declared.signature.Side.TheVariants.{Request, Event}
+use Rattle.wl_sigs.specs.Side.{Side}
+use Rattle.wl_sigs.specs.Side.TheVariants.{Request, Event}
 use Rattle.wl_sigs.specs.Rules.{is_empty}
 use Rattle.wl_sigs.specs.Tables.{Interface, interface_at, signature_at, named_interface, has_destroying_event}
 use Rattle.wl_sigs.specs.Valid.{Valid}
@@ -25,7 +25,7 @@ use Rattle.wl_sigs.proofs.RulesDecide.{decides_name}
 use Rattle.wl_sigs.proofs.Lookups.{signature_from}
 use Rattle.wl_sigs.specs.FirstBroken.{written_of}
 use Rattle.wl_sigs.proofs.Kept.{InterfaceKeeps, MessageKeeps}
-use Rattle.wl_sigs.proofs.FirstPlaces.{first_place-of, first_place-within}
+use Rattle.wl_rules.proofs.FirstPlaces.{first_place-of, first_place-within}
 use Rattle.wl_sigs.proofs.JoinedLookup.{mapped_at, placing, placing_message, placed_messages}
 use Rattle.wl_sigs.proofs.JoinedLookup.{length_joined, length_names, names_joined}
 use Rattle.wl_sigs.proofs.JoinedValid.{destroying, ended_joined}

@@ -1,6 +1,6 @@
 -- Messages by their names.
 use Rattle.std.specs.Prelude.{ℕ, List, Option, option_and_then, position, bytes_eq}
-use Rattle.wl_sigs.specs.declared.signature.Side.{Side}
+use Rattle.wl_sigs.specs.Side.{Side}
 use Rattle.wl_sigs.specs.Tables.{Interface, interface_at, messages_of}
 
 -- the opcode of the first message with this name on one side of the interface at an index, if there

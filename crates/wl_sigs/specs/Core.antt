@@ -3,7 +3,7 @@
 -- of its interface that introduced it, the kinds of its arguments, and what it destroys.
 use Rattle.std.specs.Prelude.{List, [], ◌∷◌, codes, Some}
 use Rattle.wl_wire.specs.declared.kind.Iface.{Iface}
-use Rattle.wl_sigs.specs.declared.signature.Destroys.TheVariants.{Nothing, Target}
+use Rattle.wl_sigs.specs.Destroys.TheVariants.{Nothing, Target}
 use Rattle.wl_sigs.specs.Tables.{Interface}
 use Rattle.wl_sigs.specs.Fixed.{message, int, uint, fixed, string, array, fd, object}
 use Rattle.wl_sigs.specs.Fixed.{object_or_null, new, callback, wl_display, wl_registry, wl_callback}

@@ -1,7 +1,7 @@
 -- The constants of the modules `request` and `event`, with the messages' names.
 use Rattle.std.specs.Prelude.{ℕ, ◌+◌, List, [], ◌∷◌, codes, map}
-use Rattle.wl_sigs.specs.declared.signature.Side.{Side}
-use Rattle.wl_sigs.specs.declared.signature.Side.TheVariants.{Request, Event}
+use Rattle.wl_sigs.specs.Side.{Side}
+use Rattle.wl_sigs.specs.Side.TheVariants.{Request, Event}
 -- Generated from tools/core.xml by tools/dev/core-files, down to the next mark.
 use Rattle.wl_sigs.specs.declared.request.wl_display.TheConstants as request_wl_display
 use Rattle.wl_sigs.specs.declared.request.wl_registry.TheConstants as request_wl_registry

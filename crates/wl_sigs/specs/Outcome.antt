@@ -9,7 +9,8 @@ use Rattle.wl_sigs.specs.Broken.{Broken}
 use Rattle.wl_sigs.specs.Extended.{extended}
 use Rattle.wl_sigs.specs.Extending.{first_line_broken}
 
--- the tables extended by a text and followed by its interfaces, or the first line that breaks a rule
+-- the tables extended by a text and followed by its interfaces, or the first line that breaks a
+-- rule
 abbrev pub extended_unless : List Interface → List WrittenInterface → Option Broken
     → Result (List Interface) TableFault
 extended_unless tables written None = Ok (extended tables written)

@@ -4,7 +4,7 @@ use Rattle.wl_text.specs.declared.fault.TableFault.{TableFault}
 use Rattle.wl_sigs.specs.Core.{core_tables}
 use Rattle.wl_sigs.specs.Outcome.{outcome}
 use Rattle.wl_sigs.specs.Tables.{Interface, interface_at, signature_at}
-use Rattle.wl_sigs.specs.declared.signature.Side.{Side}
+use Rattle.wl_sigs.specs.Side.{Side}
 
 -- why a text gives no tables
 abbrev pub fault_in : Result (List Interface) TableFault → Option TableFault

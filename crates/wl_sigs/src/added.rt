@@ -8,15 +8,16 @@ ghost use Rattle.wl_sigs.specs.Extending.{added_broken, has_argument, is_object_
 ghost use Rattle.wl_sigs.specs.Extending.{is_server_object_of};
 ghost use Rattle.wl_sigs.specs.Places.{place_in};
 ghost use Rattle.wl_sigs.specs.Tables.{Interface, interface_at, max_messages, messages_of};
-ghost use Rattle.wl_sigs.specs.declared.signature.Side.{Side};
-ghost use Rattle.wl_sigs.specs.declared.signature.Side.TheVariants.{Request, Event};
+ghost use Rattle.wl_sigs.specs.Side.{Side};
+ghost use Rattle.wl_sigs.specs.Side.TheVariants.{Request, Event};
 
-use crate::hashed::HashedName;
 use crate::interface::Entry;
-use crate::places::{Places, places_of};
-use crate::rules::{BrokenLine, Owner, broken_at, earlier, is_first_name, message_rule};
-use crate::signature::{Side, Signature};
+use crate::signature::Signature;
 use std::alloc::{AllocError, Allocator};
+use wl_rules::{
+    BrokenLine, HashedName, Owner, Places, Side, broken_at, earlier, is_first_name, message_rule,
+    places_of,
+};
 use wl_text::{WrittenInterface, WrittenMessage};
 
 /// What the rules need to know about all interfaces: those of the tables, the first index of each

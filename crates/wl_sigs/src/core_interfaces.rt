@@ -1,6 +1,6 @@
 //! The core interfaces, as the code stores them.
 
-use crate::signature::Destroys;
+use wl_rules::Destroys;
 use wl_wire::Kind::{Array, Fd, Fixed, Int, New, Obj, Str, Uint};
 use wl_wire::{Iface, Kind};
 
@@ -27,13 +27,28 @@ pub(crate) struct CoreInterface {
 // argument at index N names.
 macro_rules! message {
     ($name:literal, $since:literal, [$($kind:expr),*]) => {
-        CoreMessage { name: $name, since: $since, kinds: &[$($kind),*], destroys: Destroys::Nothing }
+        CoreMessage {
+            name: $name,
+            since: $since,
+            kinds: &[$($kind),*],
+            destroys: Destroys::Nothing,
+        }
     };
     ($name:literal, $since:literal, [$($kind:expr),*], destroys) => {
-        CoreMessage { name: $name, since: $since, kinds: &[$($kind),*], destroys: Destroys::Target }
+        CoreMessage {
+            name: $name,
+            since: $since,
+            kinds: &[$($kind),*],
+            destroys: Destroys::Target,
+        }
     };
     ($name:literal, $since:literal, [$($kind:expr),*], destroys $place:literal) => {
-        CoreMessage { name: $name, since: $since, kinds: &[$($kind),*], destroys: Destroys::Arg($place) }
+        CoreMessage {
+            name: $name,
+            since: $since,
+            kinds: &[$($kind),*],
+            destroys: Destroys::Arg($place),
+        }
     };
 }
 

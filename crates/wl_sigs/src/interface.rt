@@ -14,14 +14,12 @@ ghost use Rattle.wl_sigs.specs.Tables.{has_server_object, message_of, messages_o
 ghost use Rattle.wl_sigs.specs.Written.{message_written, interface_written};
 
 use crate::core_interfaces::{CoreInterface, CoreMessage};
-use crate::hash::name_hash;
-use crate::hashed::HashedName;
 use crate::name::Name;
-use crate::places::Places;
-use crate::signature::{Destroys, Side, Signature};
+use crate::signature::Signature;
 use std::alloc::{AllocError, Allocator, Global};
 use std::fmt::{self, Debug, Formatter};
 use std::marker::Model;
+use wl_rules::{Destroys, HashedName, Places, Side, name_hash};
 use wl_text::{WrittenInterface, WrittenMessage};
 
 /// One interface of the tables.

@@ -8,10 +8,10 @@ ghost use Rattle.wl_sigs.specs.Places.{PlacesFit, place_in};
 ghost use Rattle.wl_sigs.specs.Tables.{is_descriptor_kind, is_new_object};
 
 use crate::front::Front;
-use crate::places::{Places, place_in};
 use std::alloc::{AllocError, Allocator, Global};
 use std::fmt::{self, Debug, Formatter};
 use std::mem::size_of;
+use wl_rules::{Places, place_in};
 use wl_text::{BareKind, WrittenKind};
 use wl_wire::{Iface, Kind};
 

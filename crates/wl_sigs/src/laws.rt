@@ -1,7 +1,7 @@
 //! Laws of valid tables. They do nothing: their contracts state facts about the definitions.
 ghost use Rattle.std.specs.Prelude.{◌≡◌, ◌↔◌, ℕ, ◌≤◌, List, Ok, Err, Some, None, true, false};
 ghost use Rattle.std.specs.List.{All};
-ghost use Rattle.wl_sigs.specs.declared.signature.Side.{Side};
+ghost use Rattle.wl_sigs.specs.Side.{Side};
 ghost use Rattle.wl_sigs.specs.Broken.{Broken, first_broken};
 ghost use Rattle.wl_sigs.specs.Core.{core_tables};
 ghost use Rattle.wl_sigs.specs.Extended.{extended};
@@ -70,7 +70,8 @@ pub fn places_and_opcodes_stay()
 /// tables when the text is appended to these, and the rule is the lowest that the line breaks.
 pub fn first_broken_is_first()
     ensures { (tables : List Interface) (written : List WrittenInterface) (broken : Broken)
-        → (first_line_broken tables written ≡ Some broken) ↔ IsFirstBrokenLine tables written broken }
+        → (first_line_broken tables written ≡ Some broken)
+        ↔ IsFirstBrokenLine tables written broken }
 {}
 
 /// The three results of a text that is appended to valid tables. It is read, as the tables extended

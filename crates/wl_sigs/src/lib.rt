@@ -8,17 +8,12 @@
 mod added;
 mod core_interfaces;
 pub mod event;
-mod extending;
 mod front;
-mod hash;
-mod hashed;
 mod interface;
 mod kinds;
 mod laws;
 mod name;
-mod places;
 pub mod request;
-mod rules;
 pub mod samples;
 mod signature;
 mod tables;
@@ -28,7 +23,7 @@ pub use laws::{
     first_broken_is_first, found_by_its_name, opcodes_are_of_their_names, places_and_opcodes_stay,
     texts_are_told, unbroken_where_valid, valid_where_tests_pass, without_extensions,
 };
-pub use rules::MAX_ARGS;
-pub use signature::{Destroys, Side, Signature};
+pub use signature::Signature;
 pub use tables::Tables;
+pub use wl_rules::{Destroys, MAX_ARGS, Side};
 pub use wl_text::TableFault;

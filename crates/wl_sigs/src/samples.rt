@@ -3,7 +3,7 @@
 ghost use Rattle.std.specs.Prelude.{◌≡◌, codes, Some, None};
 ghost use Rattle.wl_text.specs.declared.fault.TableFault.TheVariants.{BadLine, BadTable};
 ghost use Rattle.wl_sigs.specs.Samples.{fault_of_text, version_in_text, message_in_text};
-ghost use Rattle.wl_sigs.specs.declared.signature.Side.TheVariants.{Request};
+ghost use Rattle.wl_sigs.specs.Side.TheVariants.{Request};
 
 /// An event that makes an object, an event that names it, and the request that ends it. Then the
 /// same without the interface's name, and with a new object of the client instead.
@@ -47,7 +47,8 @@ pub fn extensions_out_of_place()
     ensures lower { fault_of_text (codes "extend wl_seat 10\nextend wl_seat 9")
         ≡ Some (BadTable 2 8) }
     ensures unknown { fault_of_text (codes "extend device 2") ≡ Some (BadTable 1 9) }
-    ensures above { fault_of_text (codes "extend device 2\ninterface device 1") ≡ Some (BadTable 1 9) }
+    ensures above { fault_of_text (codes "extend device 2\ninterface device 1")
+        ≡ Some (BadTable 1 9) }
     ensures named_again { fault_of_text (codes "extend wl_seat 10\nrequest release D @10")
         ≡ Some (BadTable 2 1) }
     ensures has_requests { fault_of_text (codes "extend wl_seat 10\nevent gone D @10")

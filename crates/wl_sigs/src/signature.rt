@@ -5,51 +5,19 @@ ghost use Rattle.std.specs.List.{list_any};
 ghost use Rattle.wl_sigs.specs.Extending.{is_object_of, is_server_object_of};
 ghost use Rattle.wl_sigs.specs.Places.{PlacesFit, place_in};
 ghost use Rattle.wl_sigs.specs.Stored.{kinds_listed, name_bytes};
-ghost use Rattle.wl_sigs.specs.Tables.{descriptors, destroys_one, destroys_target};
+ghost use Rattle.wl_sigs.specs.Tables.{descriptors, destroys_target};
 ghost use Rattle.wl_sigs.specs.Tables.{has_new_object, has_server_object};
 ghost use Rattle.wl_sigs.specs.Written.{message_written};
 
 use crate::core_interfaces::CoreMessage;
 use crate::kinds::Kinds;
 use crate::name::Name;
-use crate::places::Places;
 use std::alloc::{AllocError, Allocator, Global};
 use std::fmt::{self, Debug, Formatter};
 use std::marker::Model;
+use wl_rules::{Destroys, Places};
 use wl_text::WrittenMessage;
 use wl_wire::{Iface, Kind};
-
-/// What a message destroys.
-#[derive(Clone, Copy, Debug, PartialEq, Eq)]
-pub enum Destroys {
-    /// No object.
-    Nothing,
-    /// The message's target: the message is a destructor.
-    Target,
-    /// The object that the argument at this index, from 0, names.
-    Arg(usize),
-}
-
-impl Destroys {
-    /// Whether the message destroys an object.
-    pub fn destroys_one(self) -> bool
-        ensures { result ≡ destroys_one self }
-    {
-        match self {
-            Destroys::Nothing => false,
-            Destroys::Target | Destroys::Arg(_) => true,
-        }
-    }
-}
-
-/// Who writes a message: a client writes requests, a server events.
-#[derive(Clone, Copy, Debug, PartialEq, Eq)]
-pub enum Side {
-    /// From the client to the server.
-    Request,
-    /// From the server to the client.
-    Event,
-}
 
 /// The signature of a request or an event.
 #[derive(Drop)]

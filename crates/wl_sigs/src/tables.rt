@@ -1,6 +1,6 @@
 //! Interfaces in order.
-ghost use Rattle.std.specs.Prelude.{◌≡◌, ◌⊎◌, ◌↔◌, ℕ, [], true, Err, Some, None, IfOk, map, slice_get};
-ghost use Rattle.std.specs.Prelude.{option_copied};
+ghost use Rattle.std.specs.Prelude.{◌≡◌, ◌⊎◌, ◌↔◌, ℕ, [], true, Err, Some, None, IfOk, map};
+ghost use Rattle.std.specs.Prelude.{slice_get, option_copied};
 ghost use Rattle.std.specs.Prelude.{option_map, position, bytes_eq, length, IfSome, ◌<◌};
 ghost use Rattle.wl_sigs.specs.Core.{core_tables};
 ghost use Rattle.wl_sigs.specs.ByName.{opcode_of};
@@ -20,14 +20,14 @@ ghost use Rattle.wl_text.specs.declared.fault.TableFault.TheVariants.{Memory};
 
 use crate::added::{Known, added_broken};
 use crate::core_interfaces::{CORE, CoreInterface};
-use crate::extending::{Gathered, gather, none_extends};
-use crate::hashed::HashedName;
 use crate::interface::Entry;
-use crate::places::{Places, places_of};
-use crate::rules::{BrokenLine, MAX_NAME_LEN, earlier, interfaces_broken};
-use crate::signature::{Side, Signature};
+use crate::signature::Signature;
 use std::alloc::{AllocError, Allocator, Global};
 use std::marker::Model;
+use wl_rules::{
+    BrokenLine, Gathered, HashedName, MAX_NAME_LEN, Places, Side, earlier, gather,
+    interfaces_broken, none_extends, places_of,
+};
 use wl_text::{TableFault, WrittenInterface, read_interfaces};
 use wl_wire::Iface;
 

@@ -1,4 +1,4 @@
-use Rattle.wl_sigs.specs.declared.signature.Side.TheVariants.{Event as event_side}
+use Rattle.wl_sigs.specs.Side.TheVariants.{Event as event_side}
 use Rattle.theory_cuts.proofs.AnyCut.{reads_whole}
 use Rattle.wl_client.specs.Streams.{client_reading}
 use Rattle.theory_cuts.proofs.OneReading.{is_reading}

@@ -1,5 +1,5 @@
 use Rattle.std.proofs.Common.{refl}
-use Rattle.wl_sigs.specs.declared.signature.Side.TheVariants.{Event as event_side}
+use Rattle.wl_sigs.specs.Side.TheVariants.{Event as event_side}
 use Rattle.wl_objects.specs.Messages.{reader_of}
 use Rattle.wl_client.proofs.Meanings.{named_first}
 use Rattle.wl_client.proofs.meaning.error_outline.Goals as goal

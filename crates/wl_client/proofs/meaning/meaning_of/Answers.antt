@@ -1,6 +1,6 @@
 use Rattle.std.proofs.Common.{◌≡◌, true, false, sym, ap, ◌∙◌}
 use Rattle.std.specs.Prelude.{nat_eq}
-use Rattle.wl_sigs.specs.declared.signature.Side.TheVariants.{Event}
+use Rattle.wl_sigs.specs.Side.TheVariants.{Event}
 use Rattle.wl_objects.specs.Messages.{is_error, is_delete_id, opens}
 use Rattle.wl_client.specs.declared.changes.Change.{Change}
 use Rattle.wl_client.specs.Reports.{delete_report, is_error_event, is_delete_event}

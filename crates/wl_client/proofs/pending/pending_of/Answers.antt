@@ -1,5 +1,5 @@
 use Rattle.std.proofs.Common.{sym, ◌∙◌}
-use Rattle.wl_sigs.specs.declared.signature.Side.TheVariants.{Event as event_side}
+use Rattle.wl_sigs.specs.Side.TheVariants.{Event as event_side}
 use Rattle.wl_objects.specs.Messages.{reader_of}
 use Rattle.wl_connection.proofs.Displays.{ends-another}
 use Rattle.wl_connection.proofs.Ends.{ends_no_argument}

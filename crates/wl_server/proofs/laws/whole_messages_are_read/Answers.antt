@@ -1,4 +1,4 @@
-use Rattle.wl_sigs.specs.declared.signature.Side.TheVariants.{Request as request_side}
+use Rattle.wl_sigs.specs.Side.TheVariants.{Request as request_side}
 use Rattle.theory_cuts.proofs.AnyCut.{reads_whole}
 use Rattle.wl_server.specs.Streams.{server_reading}
 use Rattle.theory_cuts.proofs.OneReading.{is_reading}

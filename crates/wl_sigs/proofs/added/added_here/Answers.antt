@@ -1,4 +1,4 @@
-use Rattle.wl_sigs.specs.declared.signature.Side.TheVariants.{Request, Event}
+use Rattle.wl_sigs.specs.Side.TheVariants.{Request, Event}
 use Rattle.wl_sigs.proofs.added.added_here.Goals as goal
 
 pub added_side_broken-requires : goal.added_side_broken-requires

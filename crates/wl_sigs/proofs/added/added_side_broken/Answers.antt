@@ -2,7 +2,7 @@ use Rattle.std.proofs.Common.{◌≡◌, ℕ, ◌+◌, List, Option, length, map
 use Rattle.std.specs.Prelude.{◌&&◌}
 use Rattle.std.proofs.Math.Path.{fun_ext, ap₂}
 use Rattle.wl_text.specs.Text.{WrittenMessage}
-use Rattle.wl_sigs.specs.declared.signature.Side.{Side}
+use Rattle.wl_sigs.specs.Side.{Side}
 use Rattle.wl_sigs.specs.Joined.{first_place}
 use Rattle.wl_sigs.specs.Rules.{is_name}
 use Rattle.wl_sigs.specs.Broken.{Broken, earlier, broken_at, is_first, message_rule}

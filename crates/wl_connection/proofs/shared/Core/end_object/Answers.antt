@@ -1,4 +1,4 @@
-use Rattle.wl_sigs.specs.declared.signature.Side.TheVariants.{Event}
+use Rattle.wl_sigs.specs.Side.TheVariants.{Event}
 use Rattle.wl_connection.proofs.Ends.{ends_by}
 use Rattle.wl_connection.proofs.shared.Core.end_object.Goals as goal
 

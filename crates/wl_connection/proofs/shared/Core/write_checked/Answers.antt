@@ -3,7 +3,7 @@ use Rattle.std.specs.Prelude.{Option, is_some}
 use Rattle.std.proofs.Common.{Ok, Err}
 use Rattle.std.proofs.lemmas.Result.{err_from_is_err_and}
 use Rattle.wl_wire.specs.declared.kind.Iface.{Iface}
-use Rattle.wl_sigs.specs.declared.signature.Destroys.{Destroys}
+use Rattle.wl_sigs.specs.Destroys.{Destroys}
 use Rattle.wl_sigs.specs.Tables.{destroys_one}
 use Rattle.wl_objects.specs.declared.error.SendError.TheVariants as refusals
 use Rattle.wl_object_map.specs.Objects.{is_live}

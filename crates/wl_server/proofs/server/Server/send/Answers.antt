@@ -2,7 +2,7 @@ use Rattle.std.proofs.Common.{◌≡◌, ◌≤◌, sym, subst}
 use Rattle.std.specs.Prelude.{Result, IfOk, OnOk, OnErr}
 use Rattle.std.specs.declared.result.Result.TheVariants.{Ok, Err}
 use Rattle.wl_sigs.specs.Valid.{Valid}
-use Rattle.wl_sigs.specs.declared.signature.Side.TheVariants.{Event}
+use Rattle.wl_sigs.specs.Side.TheVariants.{Event}
 use Rattle.wl_objects.specs.Writing.{given}
 use Rattle.wl_object_map.specs.Objects.{ObjectsAreSound}
 use Rattle.wl_connection.specs.Core.{Core}

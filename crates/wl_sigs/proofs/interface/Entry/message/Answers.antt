@@ -1,5 +1,5 @@
 use Rattle.std.proofs.Common.{List, sym, ap, ◌∙◌, slice_get}
-use Rattle.wl_sigs.specs.declared.signature.Side.{Side}
+use Rattle.wl_sigs.specs.Side.{Side}
 use Rattle.wl_sigs.specs.Tables.{MessageSignature, Interface, message_of}
 use Rattle.wl_sigs.proofs.Got.{got}
 use Rattle.wl_sigs.proofs.interface.Entry.message.Goals as goal

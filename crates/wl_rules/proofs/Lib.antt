@@ -1,0 +1,4 @@
+pub mod FirstPlaces
+pub mod FirstBrokenLine
+mod NoneMade
+pub mod Extensions

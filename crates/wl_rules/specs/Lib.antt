@@ -1,0 +1,13 @@
+pub mod Tables
+pub mod Fixed
+pub mod Valid
+pub mod Rules
+pub mod Joined
+pub mod Broken
+pub mod Places
+pub mod BrokenLines
+pub mod FirstBroken
+pub mod Extended
+pub mod Extending
+pub mod FirstLineBroken
+pub mod NameHash
