@@ -1,13 +1,17 @@
 //! What a client keeps besides its endpoint, and how it reads an event with it.
-ghost use Rattle.std.specs.Prelude.{◌≡◌};
+ghost use Rattle.std.specs.Prelude.{◌≡◌, [], OnErr, OnOk, true};
+ghost use Rattle.wl_objects.specs.Messages.{opens};
+ghost use Rattle.wl_connection.specs.Core.{with_view};
+ghost use Rattle.wl_client.specs.Reports.{object_made, object_replaced, opens_row};
+ghost use Rattle.wl_client.specs.Steps.{CanOpen};
 
 use crate::changes::{apply_object_change, open_made, replaced_by};
 use crate::globals::Remembered;
 use crate::pending::{PendingEvent, find};
 use crate::report::OwnedIncoming;
 use std::alloc::{AllocError, Allocator};
-use wl_connection::{Endpoint, Role};
-use wl_objects::{NextError, Object, Table};
+use wl_connection::{Core, Endpoint, Role};
+use wl_objects::{NewObject, NextError, Object, Table};
 
 /// What a client keeps besides its endpoint.
 #[derive(Drop)]
@@ -18,6 +22,40 @@ pub(crate) struct Kept<A: Allocator> {
     pub(crate) made: Option<Object>,
     /// The live object that this one replaced.
     pub(crate) replaced: Option<Object>,
+}
+
+impl<A: Allocator> Kept<A> {
+    /// Opens the object that a message makes, if it makes one, and keeps it and the live object
+    /// that it replaces. Without memory nothing changes.
+    #[inline(always)]
+    fn open_made<T: Table>(
+        &mut self,
+        core: &mut Core<'_, T>,
+        made: Option<NewObject>,
+    ) -> Result<(), AllocError>
+        requires can { CanOpen core.old.tables core.old.view made }
+        requires frees_none { core.old.view.server.freed ≡ [] }
+        ensures globals { self.new.globals ≡ self.old.globals }
+        ensures ok { OnOk result (core.new ≡ with_view core.old (opens core.old.view made)) }
+        ensures made { OnOk result (self.new.made ≡ object_made core.old.view made) }
+        ensures replaced { OnOk result (self.new.replaced ≡ object_replaced core.old.view made) }
+        ensures err { OnErr result (core.new ≡ core.old) }
+        ensures kept { OnErr result (self.new ≡ self.old) }
+        ensures wants { OnErr result (opens_row core.old.view made ≡ true) }
+    {
+        match made {
+            None => {
+                self.made = None;
+                self.replaced = None;
+            }
+            Some(_) => {
+                let replaced = replaced_by(core, made);
+                self.made = open_made(core, made)?;
+                self.replaced = replaced;
+            }
+        }
+        Ok(())
+    }
 }
 
 impl<T: Table> Role<T> for Kept<T::Alloc> {
@@ -78,9 +116,7 @@ impl<T: Table> Role<T> for Kept<T::Alloc> {
     }
 
     fn take(&mut self, end: &mut Endpoint<'_, T>, event: &PendingEvent) -> Result<(), AllocError> {
-        let replaced = replaced_by(&end.core, event.change.made);
-        self.made = open_made(&mut end.core, event.change.made)?;
-        self.replaced = replaced;
+        self.open_made(&mut end.core, event.change.made)?;
         // Nothing is allocated from here on.
         end.core.pass(event.size, event.tokens);
         apply_object_change(&mut end.core, event.change.objects);

@@ -31,6 +31,7 @@ impl<'t, T: Table> Core<'t, T> {
     }
 
     /// Takes out the first message, of `size` bytes, and this many of the first tokens.
+    #[inline(always)]
     pub fn pass(&mut self, size: u16, tokens: usize)
         requires message { in_front self.old.inbox ≡ Whole size }
         requires tokens { tokens ≤ length self.old.inbox.tokens }

@@ -198,6 +198,7 @@ impl<'t, T: Table> Core<'t, T> {
     }
 
     /// Writes the message made from a call; this number of tokens goes with it. It must fit.
+    #[inline(always)]
     pub fn write_call(&mut self, message: &CallMessage<'_>, tokens: usize)
         requires fits { CallFits message.now }
         requires few { length message.now.args.now ≤ max_args }

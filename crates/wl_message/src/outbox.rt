@@ -178,6 +178,7 @@ impl<A: Allocator> Outbox<A> {
     }
 
     /// As `push_fitting`, for a message that is first written to the front of `store`.
+    #[inline(always)]
     pub fn push_encoded<E: Encode>(&mut self, message: &E, tokens: &[u32], store: &mut [u8])
         requires fits { E.fits message.now }
         requires whole { IsMessage self.old.limit.bytes (E.message message.now) }

@@ -31,6 +31,7 @@ pub(crate) fn fill<T: Copy + Drop, A: Allocator>(
 }
 
 /// Appends a message, for which there must be room. It is first written to the front of `store`.
+#[inline(always)]
 pub(crate) fn append_encoded<E: Encode, A: Allocator>(
     ring: &mut HeapCircularBuffer<u8, A>,
     message: &E,

@@ -192,6 +192,7 @@ pub(crate) struct Parser<'a, L: Lookup> {
 impl<'a, L: Lookup> Parser<'a, L> {
     /// Parses the arguments at the front of the body, one of each kind, over those parsed before,
     /// and returns the bytes after them; or the first fault. Each object is looked up once.
+    #[inline(always)]
     pub fn parse_body(&self, kinds: &[Kind], args: &mut ParsedArgs) -> Result<&'a [u8], Fault>
         requires few { length kinds.now ≤ max_args }
         ensures answer { whole_in self.now.body.now args.new result
@@ -212,6 +213,7 @@ impl<'a, L: Lookup> Parser<'a, L> {
 
     /// Parses the arguments at the front of the body into the front of an array, and returns where
     /// they end.
+    #[inline(always)]
     fn parse(&self, kinds: &[Kind], items: &mut [ParsedArg; MAX_ARGS]) -> Result<usize, Fault>
         requires few { length kinds.now ≤ max_args }
         ensures end { IfOk result (λ end. end ≤ length self.now.body.now) }
@@ -242,6 +244,7 @@ impl<'a, L: Lookup> Parser<'a, L> {
     }
 
     /// The argument that starts here, with its length; `descriptors` come before it.
+    #[inline(always)]
     fn parse_at(
         &self,
         place: usize,

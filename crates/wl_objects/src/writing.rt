@@ -78,6 +78,7 @@ impl<'a> Encode for CallMessage<'a> {
         self.len
     }
 
+    #[inline(always)]
     fn encode(&self, out: &mut [u8]) {
         write_header(out, self.object, self.len, self.opcode);
         write_args(&mut out[HEADER_LEN..], self.args, self.new_id);
@@ -152,6 +153,7 @@ fn write_header(out: &mut [u8], object: u32, size: usize, opcode: u16)
 }
 
 /// Writes arguments over these bytes, which are exactly as long.
+#[inline(always)]
 fn write_args(out: &mut [u8], args: &[Arg<'_>], new_id: u32)
     requires fits { EachFits (on_wire new_id args.now) }
     requires len { length out.old + 8 ≡ message_len (on_wire new_id args.now) }

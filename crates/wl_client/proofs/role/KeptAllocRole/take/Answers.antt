@@ -12,12 +12,12 @@ returns-clause-sound g c =
     let core = c.args.end.now.core in
     let change = c.args.event.now.change in
     let can = c.requires.ahead.ahead.can_take in
-    let opened : IsSound c.open_made.new.core =
-    subst IsSound (sym c.in_ok-self.ensures.ok) (sound_opened core change.made can.lasting can.by_some c.requires.sound) in
+    let opened : IsSound c.open_made.new.core = subst IsSound (sym c.in_ok-open_made.ensures.ok)
+    (sound_opened core change.made can.lasting can.by_some c.requires.sound) in
     let passed : IsSound c.pass.new.self = sound_by c.open_made.new.core c.pass.new.self
     (ap (λ (k : Core). k.tables) c.pass.ensures) (ap (λ (k : Core). k.view) c.pass.ensures) opened in
     let view : c.pass.new.self.view ≡ opens core.view change.made =
-    ap (λ (k : Core). k.view) c.pass.ensures ∙ ap (λ (k : Core). k.view) c.in_ok-self.ensures.ok in
+    ap (λ (k : Core). k.view) c.pass.ensures ∙ ap (λ (k : Core). k.view) c.in_ok-open_made.ensures.ok in
     let changed : IsSound c.apply_object_change.new.core = subst IsSound (sym c.apply_object_change.ensures)
     (sound_changed c.pass.new.self change.objects
     (subst (λ (v : Objects). CanChange v change.objects) (sym view) can.change) passed) in
