@@ -20,7 +20,7 @@ use std::net::Shutdown;
 use std::ops::{Deref, DerefMut};
 use std::os::fd::{AsFd, BorrowedFd, OwnedFd};
 use std::os::unix::net::UnixStream;
-use std::path::Path;
+use std::path::{Path, PathBuf};
 use std::time::{Duration, Instant};
 
 /// The most descriptors that an end passes at once. libwayland has the same limit.
@@ -28,14 +28,16 @@ pub const MOST_DESCRIPTORS: usize = sys::SOCKET_DESCRIPTORS as usize;
 
 /// Connects to a compositor, as `wl_display_connect` does.
 ///
-/// A name that begins with a slash is a path; any other is looked up in the folder `XDG_RUNTIME_DIR`.
-/// `None` is that of `WAYLAND_DISPLAY`, and if that is not set, `wayland-0`. If `WAYLAND_SOCKET` is set,
-/// it is the number of a socket that is connected already, which this process was started with. A
-/// duplicate of that is returned then, and the variable is removed. The environment is read and written:
-/// connect before other threads use it.
+/// A name that begins with a slash is a path, and any other name is one in the folder `XDG_RUNTIME_DIR`.
+/// `None` connects to the name in `WAYLAND_DISPLAY`, and if that is not set, to `wayland-0`. If that
+/// fails, the error has a [`ConnectError`] in it, which names the path.
 ///
-/// The number itself stays open, since no call can know whether it belongs to something else in this
-/// process. Dropping the [`Link`] ends the connection all the same.
+/// If `WAYLAND_SOCKET` is set, it is the number of a socket that is already connected, which this process
+/// was started with. The call then returns a duplicate of that socket, removes the variable, and does not
+/// look at `name`. The number itself stays open, since no call can know whether it belongs to something
+/// else in this process. Dropping the [`Link`] ends the connection all the same.
+///
+/// The call reads and changes the environment, so connect before other threads use it.
 pub fn connect(name: Option<&Path>) -> io::Result<UnixStream> {
     const VARIABLE: &str = "WAYLAND_SOCKET";
     let socket = match env::var_os(VARIABLE) {
@@ -44,9 +46,45 @@ pub fn connect(name: Option<&Path>) -> io::Result<UnixStream> {
             env::remove_var(VARIABLE);
             socket
         }
-        None => sys::connect(name.map(Path::as_os_str))?,
+        None => sys::connect(name.map(Path::as_os_str)).map_err(|it| unconnected(name, it))?,
     };
     Ok(socket.into())
+}
+
+/// The path at which [`connect`] found no compositor, and the error of the system. It is inside the
+/// [`io::Error`] of `connect`, which has the same kind as `error`.
+#[derive(Debug)]
+pub struct ConnectError {
+    /// Relative if `XDG_RUNTIME_DIR` is not set to an absolute path: then there is no folder to look in.
+    pub path: PathBuf,
+    /// What the system said.
+    pub error: io::Error,
+}
+
+impl fmt::Display for ConnectError {
+    fn fmt(&self, f: &mut fmt::Formatter<'_>) -> fmt::Result {
+        write!(f, "cannot connect to {}: ", self.path.display())?;
+        if self.path.is_absolute() {
+            self.error.fmt(f)
+        } else {
+            f.write_str("XDG_RUNTIME_DIR is not set to an absolute path")
+        }
+    }
+}
+
+impl std::error::Error for ConnectError {
+    fn source(&self) -> Option<&(dyn std::error::Error + 'static)> {
+        Some(&self.error)
+    }
+}
+
+fn unconnected(name: Option<&Path>, error: io::Error) -> io::Error {
+    let asked =
+        name.map(PathBuf::from).or_else(|| env::var_os("WAYLAND_DISPLAY").map(PathBuf::from));
+    let name = asked.unwrap_or_else(|| "wayland-0".into());
+    let folder = env::var_os("XDG_RUNTIME_DIR").map(PathBuf::from).filter(|it| it.is_absolute());
+    let path = folder.unwrap_or_default().join(name);
+    io::Error::new(error.kind(), ConnectError { path, error })
 }
 
 fn inherited(number: &OsStr) -> io::Result<OwnedFd> {

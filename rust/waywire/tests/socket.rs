@@ -7,10 +7,10 @@ use common::{number_of, numbered};
 use std::io::{ErrorKind, Read};
 use std::os::fd::{AsFd, AsRawFd, OwnedFd};
 use std::os::unix::net::UnixStream;
-use std::path::PathBuf;
+use std::path::{Path, PathBuf};
 use std::time::{Duration, Instant};
 use std::{env, fs, thread};
-use waywire::socket::{self, has_gone, Came, Link, Listener, PostedError};
+use waywire::socket::{self, has_gone, Came, ConnectError, Link, Listener, PostedError};
 use waywire::wayland::wl_callback::{self, WlCallback};
 use waywire::wayland::wl_display::{self, WlDisplay};
 use waywire::wayland::wl_registry::{self, WlRegistry};
@@ -260,6 +260,32 @@ fn folder() -> PathBuf {
     folder
 }
 
+/// What is said if no compositor is there names the path that was tried.
+fn no_compositor_is_there() {
+    let error = |name: Option<&str>| socket::connect(name.map(Path::new)).unwrap_err();
+    let missing = "No such file or directory (os error 2)";
+    env::set_var("XDG_RUNTIME_DIR", "/nowhere");
+    env::remove_var("WAYLAND_DISPLAY");
+    assert_eq!(error(None).to_string(), format!("cannot connect to /nowhere/wayland-0: {missing}"));
+    env::set_var("WAYLAND_DISPLAY", "wayland-7");
+    assert_eq!(error(None).to_string(), format!("cannot connect to /nowhere/wayland-7: {missing}"));
+    assert_eq!(error(Some("it")).to_string(), format!("cannot connect to /nowhere/it: {missing}"));
+    assert_eq!(error(Some("/a/b")).to_string(), format!("cannot connect to /a/b: {missing}"));
+    let named = error(Some("/a/b"));
+    assert_eq!(named.kind(), ErrorKind::NotFound);
+    let named: &ConnectError = named.get_ref().unwrap().downcast_ref().unwrap();
+    assert_eq!((named.path.to_str(), named.error.raw_os_error()), (Some("/a/b"), Some(2)));
+    for folder in [Some("nowhere"), None] {
+        folder.map_or_else(
+            || env::remove_var("XDG_RUNTIME_DIR"),
+            |it| env::set_var("XDG_RUNTIME_DIR", it),
+        );
+        let said = "cannot connect to wayland-7: XDG_RUNTIME_DIR is not set to an absolute path";
+        assert_eq!(error(None).to_string(), said);
+        assert_eq!(error(Some("/a/b")).to_string(), format!("cannot connect to /a/b: {missing}"));
+    }
+}
+
 /// One test of all names, since it changes the environment.
 #[test]
 fn sockets_have_names() {
@@ -276,6 +302,7 @@ fn sockets_have_names() {
     assert_eq!(fs::read_dir(folder()).unwrap().count(), 0);
     assert_eq!(socket::connect(Some(&path)).unwrap_err().kind(), ErrorKind::NotFound);
     fs::remove_dir(folder()).unwrap();
+    no_compositor_is_there();
 
     // The socket that a parent has opened. Its number still belongs to `its` here.
     let (its, mut other) = UnixStream::pair().unwrap();
