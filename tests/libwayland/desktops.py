@@ -1,5 +1,5 @@
-"""A compositor without a screen, with a keyboard and a text in the clipboard, for programs of the
-distribution that run over one library or another."""
+"""A compositor without a screen, with a keyboard and a text in the clipboard. Programs of the distribution run
+at it, over one library or the other."""
 
 import contextlib
 import json
@@ -161,6 +161,14 @@ def end_group(process):
         process.wait(10)
     signal_group(process, signal.SIGKILL)
     process.wait()
+
+
+def own_home(room):
+    """The environment of a program that finds nothing kept by an earlier run, such as the state of its
+    window. Only the cache is that of the other programs."""
+    home = tempfile.mkdtemp(dir=f"{room}/home")
+    os.mkdir(f"{home}/.config")
+    return {"HOME": home, "XDG_CONFIG_HOME": f"{home}/.config", "XDG_DATA_HOME": f"{home}/.local"}
 
 
 def environment(room):

@@ -13,6 +13,7 @@ import unittest
 
 import checks
 from checks import LONG, TOP, Failed, Skipped, module_of, need, read, run
+from libwayland import programs
 import protocol
 
 OURS = f"{TOP}/c/libwayland"
@@ -88,7 +89,7 @@ class Interfaces(unittest.TestCase):
             run([sys.executable, f"{TESTS}/interfaces.py", ours, system])
 
     def test_data_device(self):
-        """Its messages are those of the text of tables, and of libwayland's own file."""
+        """Its messages are those of the table text, and of libwayland's own file."""
         path = f"{TOP}/tools/data-device.xml"
         made = run([f"{TOP}/tools/tables-from-xml", path])
         stored = read("examples/tables/data-device.tables")
@@ -145,6 +146,26 @@ class Lists(unittest.TestCase):
             env = {**os.environ, "LD_LIBRARY_PATH": part_of_library(room)}
             self.assertEqual(run([tried], env=env), run([tried]))
             run([tried, "overflow"], env=env)
+
+
+class Programs(unittest.TestCase):
+    """When runs of a program over two libraries count as different."""
+
+    def differ(self, theirs, ours):
+        return programs.always_differ(*([programs.Ran(True, how, 0, frozenset(kinds)) for how, kinds in runs]
+                                        for runs in (theirs, ours)))
+
+    def test_what_only_some_runs_have(self):
+        """Runs of one library may differ from each other."""
+        closed, stopped = "by its window", "by SIGTERM"
+        self.assertFalse(self.differ([(closed, "ab"), (closed, "abc")], [(closed, "abd"), (closed, "ab")]))
+        self.assertFalse(self.differ([(closed, "a"), (stopped, "ab")], [(closed, "ab"), (closed, "ab")]))
+
+    def test_what_one_library_alone_has(self):
+        closed, stopped = "by its window", "by SIGTERM"
+        for ours in ([(closed, "a"), (closed, "a")], [(closed, "abd"), (closed, "abcd")],
+                     [(stopped, "ab"), (stopped, "abc")]):
+            self.assertTrue(self.differ([(closed, "ab"), (closed, "abc")], ours))
 
 
 class Run(unittest.TestCase):
