@@ -1,5 +1,5 @@
 #!/usr/bin/env python3
-"""Writes the largest text of tables: 1,024 interfaces with those of the core, each of 256 requests that
+"""Writes the largest table text: 1,024 interfaces with those of the core, each of 256 requests that
 make an object of one interface and name one of another."""
 
 CORE = 19

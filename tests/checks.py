@@ -170,7 +170,7 @@ def has_client(path, beside=0):
 
 
 def protocols():
-    """The installed protocol files, by the name of the text of tables that is made of each."""
+    """The installed protocol files, by the name of the table text that is made of each."""
     found = protocol_files.found()
     if not found:
         raise Skipped("wayland-protocols is not installed")

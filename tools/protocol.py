@@ -25,7 +25,7 @@ PARENTS = {
     "arg": ("request", "event"),
     "entry": ("enum",),
 }
-# The first line of a text of tables that says something.
+# The first line of a table text that says something.
 TEXT_OF_TABLES = re.compile(rb"(?:[ \t]*(?:#.*)?\r?\n)*(?:interface|extend) \S+ [0-9]+\s")
 
 
@@ -242,7 +242,7 @@ def root_of(path):
 
 
 def is_text_of_tables(path):
-    """Whether a file is a text of tables, by its first lines; false where it cannot be read."""
+    """Whether a file is a table text, by its first lines; false where it cannot be read."""
     try:
         with open(path, "rb") as file:
             return TEXT_OF_TABLES.match(file.read(65536)) is not None
@@ -268,7 +268,7 @@ def read(path):
         return protocol_of(root_of(path))
     except expat.ExpatError as error:
         if is_text_of_tables(path):
-            raise BadProtocol(f"{path} is a text of tables, not the XML of a protocol") from error
+            raise BadProtocol(f"{path} is a table text, not the XML of a protocol") from error
         raise BadProtocol(f"{path}: {error}") from error
     except (OSError, BadProtocol) as error:
         raise BadProtocol(f"{path}: {error}") from error

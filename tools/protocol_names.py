@@ -1,4 +1,4 @@
-"""The names that a text of tables lacks: those of arguments, and of the values of enums.
+"""The names that a table text lacks: those of arguments, and of the values of enums.
 
 A line for each message that has arguments, and for each enum:
 

@@ -377,7 +377,7 @@ class Module:
                  "#![allow(clippy::module_inception, clippy::new_ret_no_self, clippy::too_many_arguments)]",
                  "#![allow(clippy::wrong_self_convention)]")
         if self.tables:
-            self.say("", "/// The text of the protocol's tables, for [`waywire::Tables::read`].",
+            self.say("", "/// The protocol's table text, for [`waywire::Tables::read`].",
                      'pub const TABLES: &[u8] = b"\\', *(f"    {it}\\n\\" for it in self.tables))
             self.lines[-1] = self.lines[-1].removesuffix("\\") + '";'
         for it in self.interfaces:

@@ -12,7 +12,7 @@ LARGEST = 2**32 - 1
 
 
 class BadLine(Exception):
-    """The line, counted from 1, is of no form of a text of tables (TB1) or of a recording (RP1)."""
+    """The line, counted from 1, is of no form of a table text (TB1) or of a recording (RP1)."""
 
     def __init__(self, line):
         super().__init__(f"line {line}: bad line")

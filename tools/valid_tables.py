@@ -1,4 +1,4 @@
-"""The interfaces of Wayland protocol files as valid tables: what a text of tables may have of them."""
+"""The interfaces of Wayland protocol files as valid tables: what a table text may have of them."""
 
 from dataclasses import replace
 from typing import NamedTuple
@@ -85,7 +85,7 @@ def interfaces_of(path, is_checked=True):
 
 
 def interfaces_named(path):
-    """The interfaces of a file that others may name: a protocol's XML, or a text of tables."""
+    """The interfaces of a file that others may name: a protocol's XML, or a table text."""
     if not protocol.is_text_of_tables(path):
         return interfaces_of(path)
     with open(path, "rb") as file:

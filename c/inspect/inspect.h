@@ -97,7 +97,7 @@ void known_read(struct known *known, const struct options *options);
 
 void known_free(struct known *known);
 
-/* A text of tables. */
+/* A table text. */
 struct source {
 	char *path;
 	char *bytes; /* ends with a line feed, where it is not empty; null where it is left out */

@@ -15,48 +15,56 @@ static const char help[] =
 	"Usage: waywire-inspect [OPTION].. [COMMAND [WORD]..]\n"
 	"       waywire-inspect --read FILE [OPTION]..\n"
 	"\n"
-	"COMMAND is run with a socket of the tool as its WAYLAND_DISPLAY. Without one the\n"
-	"name of the socket is printed, for clients that are started by hand.\n"
+	"Runs COMMAND with the tool's own socket as its WAYLAND_DISPLAY. Without COMMAND,\n"
+	"prints the name of the socket, and waits for clients that you start by hand.\n"
 	"\n"
 	"What is read and written:\n"
-	"  --tables FILE          Knows the interfaces of FILE too, a text of tables or a\n"
-	"                         protocol's XML, in place of installed ones of the same\n"
-	"                         names; may be given several times\n"
+	"  --tables FILE          Adds the interfaces of FILE, a table text or the XML of a\n"
+	"                         protocol; they replace installed ones of the same names.\n"
+	"                         May be given several times\n"
 	"  --no-tables            Does not read the installed tables and protocols\n"
-	"  --limit N              The most bytes of a message [default: 4096]\n"
-	"  --record FILE          Writes what passes to FILE, of further clients to FILE.2, ..,\n"
-	"                         and the tables to FILE.tables\n"
-	"  --record-last          Where FILE is full, keeps the last part of the session too,\n"
-	"                         in FILE.last\n"
-	"  --read FILE            Prints and judges a recording, by FILE.tables if it is there\n"
-	"  --output FILE          Prints to FILE\n"
-	"  --picture FILE.html    Makes a page of the session at its end\n"
+	"  --limit N              The length of the longest message in bytes [default: 4096]\n"
+	"  --record FILE          Writes the session of the first client to FILE, that of the\n"
+	"                         second to FILE.2, and so on. The tables are written once,\n"
+	"                         to FILE.tables: they serve all of these files\n"
+	"  --record-last          If FILE is full (16 MiB), continues in FILE.last, which\n"
+	"                         keeps the end of the session. Needs --record\n"
+	"  --read FILE            Prints and judges a recording, with the tables in\n"
+	"                         FILE.tables if that exists; FILE.2 uses FILE.tables too\n"
+	"  --output FILE          Prints to FILE instead of standard output\n"
+	"  --picture FILE.html    Makes a page of each session when the tool ends; that of the\n"
+	"                         second client is FILE.2.html, and so on\n"
 	"\n"
 	"What is printed:\n"
-	"  --only NAME[,..]       Messages of this INTERFACE, or that make or name an object\n"
-	"                         of it, or this INTERFACE.MESSAGE, and no others\n"
-	"  --except NAME[,..]     All but the messages of this INTERFACE, or this\n"
-	"                         INTERFACE.MESSAGE. * and ? in names: 'xdg_*', '*.configure'\n"
-	"  --time[=delta|=clock]  In front of each line the seconds since the first client\n"
-	"                         connected, or since the line before; or the local time\n"
-	"  --json                 A JSON object in each line. Without --output what COMMAND\n"
+	"  --only NAME[,..]       Only the messages for objects of the interface NAME, or that\n"
+	"                         make or name such an object. NAME may also be\n"
+	"                         INTERFACE.MESSAGE, with * and ? as wildcards: 'xdg_*',\n"
+	"                         '*.configure'. May be given several times\n"
+	"  --except NAME[,..]     All messages except those for objects of the interface NAME,\n"
+	"                         or that are this INTERFACE.MESSAGE\n"
+	"  --time[=delta|=clock]  Before each line, the seconds since the first client\n"
+	"                         connected; with delta, those since the line before; with\n"
+	"                         clock, the local time\n"
+	"  --json                 One JSON object in each line. Without --output, what COMMAND\n"
 	"                         prints goes to standard error\n"
 	"  --no-names             Lines as waywire trace prints them, without the names of\n"
-	"                         values and what arrays hold\n"
-	"  --stats                At the end of each session what it consisted of, and what\n"
-	"                         was not answered\n"
+	"                         values and the contents of arrays\n"
+	"  --stats                At the end of each session, counts of its messages, objects\n"
+	"                         and round trips, and what was not answered\n"
 	"  --color WHEN           Colours: auto, always or never [default: auto]\n"
-	"  --verbose              Says who connects, and which installed XML is read\n"
-	"  --help, --version      This; the version\n"
+	"  --verbose              Which process each client is, and which installed XML is\n"
+	"                         read or skipped, on standard error\n"
+	"  --help, --version      This help; the version\n"
 	"\n"
 	"What is done:\n"
-	"  --stop-when-broken     Closes a client's connection where a message breaks a rule\n";
+	"  --stop-when-broken     Closes a client's connection after the first message that\n"
+	"                         breaks a rule\n";
 
 enum { TABLES = 1, LIMIT, RECORD, READ, OUTPUT, PICTURE, ONLY, EXCEPT, TIME, COLOUR, HELP, VERSION };
 
 static struct options options = { .limit = 4096 };
 
-/* Those that have no value are set as they are found. */
+/* Options without a value are set when they are found. */
 static const struct option known_options[] = {
 	{ "tables", required_argument, NULL, TABLES },
 	{ "no-tables", no_argument, &options.no_tables, true },
@@ -80,14 +88,14 @@ static const struct option known_options[] = {
 	{ NULL, 0, NULL, 0 },
 };
 
-/* The words of options that need the tables first. */
+/* The words of options that are read only once the tables are there. */
 struct later {
 	char **only, **except;
 	size_t only_count, except_count;
 	const char *colour;
 };
 
-/* Prints a text in place of all else. */
+/* Prints a text, and ends the tool. */
 static void print_alone(const char *text)
 {
 	if (fputs(text, stdout) < 0 || fflush(stdout))
@@ -95,7 +103,7 @@ static void print_alone(const char *text)
 	exit(0);
 }
 
-/* The limit of a message that these digits name. */
+/* The value of --limit. */
 static uint32_t limit_of(const char *digits)
 {
 	size_t length = strspn(digits, "0123456789");
@@ -144,7 +152,7 @@ static void take_option(struct later *later, int option, char *word)
 	}
 }
 
-/* Opens what a caller left closed, so that no socket gets the number of standard output. */
+/* Opens the standard files that the caller left closed, so that no socket gets the number of standard output. */
 static void open_standard_files(void)
 {
 	int opened;
@@ -155,7 +163,7 @@ static void open_standard_files(void)
 		close(opened);
 }
 
-/* Memory for as many words as the command line has. */
+/* An array for all words of the command line, ended by null. */
 static char **words_of(int count)
 {
 	char **made = calloc((size_t)count + 1, sizeof *made);
@@ -164,13 +172,13 @@ static char **words_of(int count)
 	return made;
 }
 
-/* What is against the options that were given. */
+/* Fails if the options do not go together. */
 static void check_options(void)
 {
 	if (options.read && (options.command || options.record || options.picture))
-		fail("--read stands without COMMAND, --record and --picture");
+		fail("--read cannot be used with COMMAND, --record or --picture");
 	if (options.record_last && !options.record)
-		fail("--record-last stands with --record");
+		fail("--record-last needs --record");
 	if (options.output && options.record && !strcmp(options.output, options.record))
 		fail("--output and --record name the same file");
 }

@@ -1,4 +1,4 @@
-/* The XML of protocols that the system has installed: what no text of tables has is made a text. */
+/* The XML of protocols that the system has installed: what no table text has is made a text. */
 #define _GNU_SOURCE
 #include "inspect.h"
 

@@ -190,7 +190,7 @@ void known_read(struct known *known, const struct options *options)
 	*known = (struct known){ read_sources(core, &sources), { NULL, 0, 0 }, { NULL, 0, 0 } };
 	waywire_tables_free(core);
 	text_add(&known->names, "core");
-	text_add(&known->joined, "# The texts of tables that waywire-inspect read, joined.\n");
+	text_add(&known->joined, "# The table texts that waywire-inspect read, joined.\n");
 	for (size_t each = 0; each < sources.count; each++)
 		note(known, &sources.of[each]);
 	free_sources(&sources, paths, count);

@@ -131,7 +131,7 @@ void source_read(struct source *source)
 	else
 		read_file(source->path, &text);
 	if (has_tags(&text))
-		fail("%s is XML, not a text of tables; the name of a protocol's XML ends with .xml", source->path);
+		fail("%s is XML, not a table text; the name of a protocol's XML ends with .xml", source->path);
 	source_take(source, &text);
 }
 

@@ -267,7 +267,7 @@ bool agrees_with_tables(struct wl_display *display, const struct wl_interface *i
 	return true;
 }
 
-/* ---- a text of tables */
+/* ---- a table text */
 
 struct text {
 	char *bytes;

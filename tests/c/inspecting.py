@@ -666,7 +666,7 @@ class Judging(Inspected):
             (["--only", "wl_surface.draw", "true"],
              "--only wl_surface.draw: wl_surface has no such message"),
             (["--read", "a", "--record", "b"],
-             "--read stands without COMMAND, --record and --picture"),
+             "--read cannot be used with COMMAND, --record or --picture"),
             (["--tables", bad, "true"], f"{bad} line 3: bad line"),
             (["--tables", self.folder, "true"], f"cannot read {self.folder}: Is a directory"),
             (["--record", f"{self.folder}/none/a", "true"],

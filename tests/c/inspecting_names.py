@@ -79,7 +79,7 @@ class Names(Talking):
         self.assertEqual(shm, {"kind": "uint", "name": "format", "value": 7, "enum": "wl_shm.format", "names": []})
 
     def test_what_an_xml_says(self):
-        """An XML stands in place of what is installed; a text of tables has FILE.names beside it, or no names."""
+        """An XML stands in place of what is installed; a table text has FILE.names beside it, or no names."""
         xml, tables = f"{self.folder}/own.xml", f"{self.folder}/own.tables"
         with open(xml, "w", encoding="ascii") as file:
             file.write("""<?xml version="1.0"?><protocol name="own"><interface name="wp_viewporter" version="1">

@@ -324,7 +324,7 @@ class LastPart(Talking):
 
     def test_words(self):
         self.assertEqual(self.ran("--record-last", "true", status=125)[1],
-                         "waywire-inspect: --record-last stands with --record\n")
+                         "waywire-inspect: --record-last needs --record\n")
 
 
 class Costs(Inspected):

@@ -511,10 +511,10 @@ class Tables(Talking):
     def test_xml_as_a_text(self):
         """XML whose name does not say so is called XML, and a text whose name says XML is called a text."""
         xml = self.written("own.tables", self.OWN.format(1, "own_thing", "int"))
-        said = f"{xml} is XML, not a text of tables; the name of a protocol's XML ends with .xml"
+        said = f"{xml} is XML, not a table text; the name of a protocol's XML ends with .xml"
         self.assertEqual(self.ran("--tables", xml, "true", status=125), ("", f"waywire-inspect: {said}\n"))
         text = self.written("own.xml", "interface own_thing 1\n")
-        self.assertIn(f"{text} is a text of tables, not the XML of a protocol\n",
+        self.assertIn(f"{text} is a table text, not the XML of a protocol\n",
                       self.ran("--tables", text, "true", status=125)[1])
 
     def test_no_tables(self):

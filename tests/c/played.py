@@ -441,7 +441,7 @@ class Play:
 
 
 def session(tables, seed, steps):
-    """The session of a seed, and the text of the tables that are known of it."""
+    """The session of a seed, and the table text that are known of it."""
     chance = random.Random(seed)
     part = part_of(tables, chance)
     return Play(tables, chance, steps), part

@@ -237,7 +237,7 @@ static void misspelled(void)
 	waywire_end_free(other.end);
 }
 
-/* A text of tables: read, with a bad line, and with a line that breaks a rule. */
+/* A table text: read, with a bad line, and with a line that breaks a rule. */
 static void more_tables(void)
 {
 	static const char good[] = "interface wp_thing 2\nrequest destroy D\nrequest set_name s @2\n";

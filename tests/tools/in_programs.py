@@ -49,7 +49,7 @@ class Program:
         return self.data[place : self.data.index(b"\0", place)].decode("latin-1")
 
     def kinds(self, signature, types):
-        """The kinds of the arguments, as a text of tables has them; `n` also where that has `N`."""
+        """The kinds of the arguments, as a table text has them; `n` also where that has `N`."""
         letters = re.findall(r"\??[iufsonah]", signature)
         for at, kind in enumerate(letters):
             there = self.pointers.get(types + 8 * at) if isinstance(types, int) else None

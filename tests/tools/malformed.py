@@ -159,12 +159,12 @@ class Malformed(unittest.TestCase):
         self.assertIsNone(self.refusal(of_interface("<other>" * 100_000 + "</other>" * 100_000)))
 
     def test_a_text_of_tables(self):
-        """A text of tables that is given as XML is called one."""
-        said = f"{self.path} is a text of tables, not the XML of a protocol"
+        """A table text that is given as XML is called one."""
+        said = f"{self.path} is a table text, not the XML of a protocol"
         for text in ("interface a 1\n", "# from a\r\n\n#\nextend wl_seat 10\nrequest r\n"):
             self.assertEqual(self.refusal(text), said)
         self.assertIn("not well-formed", self.refusal("# Waywire\n"))
         for tool in ("tables-from-xml", "stubs-from-xml"):
             words = [f"{TOP}/tools/{tool}", f"{TOP}/examples/tables/viewporter.tables"]
-            wanted = f"{tool}: {words[1]} is a text of tables, not the XML of a protocol\n"
+            wanted = f"{tool}: {words[1]} is a table text, not the XML of a protocol\n"
             self.assertEqual(run(words, status=1, with_error=True), wanted)

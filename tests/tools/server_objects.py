@@ -1,4 +1,4 @@
-"""Objects that the server makes: their kind in a text of tables, and sessions in which it makes some."""
+"""Objects that the server makes: their kind in a table text, and sessions in which it makes some."""
 
 import random
 import re
@@ -17,7 +17,7 @@ def tables_of(text):
 
 
 class NewByServer(unittest.TestCase):
-    """The kind `N(name)` in a text of tables, and V11."""
+    """The kind `N(name)` in a table text, and V11."""
 
     def verdict(self, text):
         try:

@@ -65,7 +65,7 @@ BROKEN = (
 
 
 class TextOfTables(unittest.TestCase):
-    """The grammar of a text of tables and the rules of valid tables, as `table_text` has them."""
+    """The grammar of a table text and the rules of valid tables, as `table_text` has them."""
 
     def verdict(self, text):
         """The number of interfaces of an accepted text, or what is wrong with it. `/` ends a line."""
@@ -397,7 +397,7 @@ class TablesFromXml(unittest.TestCase):
         self.assertEqual((printed, said), ([], ["a: left out, it breaks V1"]))
 
     def test_with_a_text(self):
-        """A text of tables has interfaces to name, too."""
+        """A table text has interfaces to name, too."""
         naming = """<interface name="b" version="1"><request name="r">
             <arg name="x" type="object" interface="xdg_popup"/></request></interface>"""
         text = f"{TOP}/examples/tables/xdg-shell.tables"

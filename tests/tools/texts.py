@@ -1,4 +1,4 @@
-"""The texts of tables in examples/tables, beside their page and the files that they are made of."""
+"""The table texts in examples/tables, beside their page and the files that they are made of."""
 
 import contextlib
 import glob

@@ -120,7 +120,7 @@ WITHOUT_TEXT = {
 
 
 class Text(NamedTuple):
-    """A text of tables: the package of its file, where the file is below the package's folder, and the texts
+    """A table text: the package of its file, where the file is below the package's folder, and the texts
     that have interfaces which it names."""
 
     package: str
