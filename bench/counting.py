@@ -1,7 +1,7 @@
 """What the measurements share: programs in C, instructions counted by valgrind, and processor time.
 
-Instructions are those in user code under callgrind. What one message takes is the difference of two
-runs, of which one sends more messages."""
+Instructions are counted in user code under callgrind. The figure for one message is the difference of two
+runs that send different numbers of messages."""
 
 import os
 import re
@@ -9,13 +9,13 @@ import resource
 import statistics
 import subprocess
 
-# Valgrind counts each byte of a string instruction, so copies are made without them.
+# Valgrind counts each byte of a string instruction as one instruction, so copies are made without them.
 WHOLE_COPIES = "glibc.cpu.x86_rep_stosb_threshold=1000000000:glibc.cpu.x86_rep_movsb_threshold=1000000000"
 
 
 def under_valgrind(tool, words, **env):
-    """Runs a program under a tool of valgrind, with these words in its environment. Returns what the
-    tool says."""
+    """Runs a program under a tool of valgrind, with these variables in its environment. Returns the output of
+    the tool."""
     ran = subprocess.run(
         ["valgrind", f"--tool={tool}", *words],
         capture_output=True,
@@ -35,7 +35,7 @@ def instructions(words, **env):
 
 
 def processor_time(words):
-    """The processor time of a run in nanoseconds: in user code, and with the kernel's."""
+    """The processor time of a run in nanoseconds: in user code alone, and with the kernel."""
     before = resource.getrusage(resource.RUSAGE_CHILDREN)
     subprocess.run(words, check=True, stdout=subprocess.DEVNULL)
     after = resource.getrusage(resource.RUSAGE_CHILDREN)
@@ -44,7 +44,7 @@ def processor_time(words):
 
 
 def time_of_one(words, batch, messages, sample, turns=5):
-    """The nanoseconds of one message, in user code and with the kernel's: the medians of some turns."""
+    """Nanoseconds per message, in user code alone and with the kernel: the medians of the turns."""
     first, more = rounds(batch, sample)
     turned = []
     for _ in range(turns):
@@ -61,12 +61,13 @@ def processor():
 
 
 def rounds(batch, sample):
-    """How many batches the shorter of two runs sends, and how many more the longer."""
+    """How many batches the shorter of two runs sends, and how many more the longer one sends."""
     return sample // 4 // batch + 1, max(sample // batch, 1)
 
 
 def of_one(measure, words, batch, messages, sample):
-    """What one message takes. A run's last word says how often a batch of so many times so many messages is sent."""
+    """The figure for one message. The last word of a run says how often it sends a batch; a batch has `batch` times
+    `messages` messages."""
     first, more = rounds(batch, sample)
     taken = measure([*words, str(first + more)]) - measure([*words, str(first)])
     return taken / (more * batch * messages)

@@ -1,4 +1,4 @@
-"""Programs of measurements, proved and built in a folder of their own, so the gate does not see them."""
+"""Proves and builds the programs of measurements in a folder of their own, so the gate does not see them."""
 
 import os
 import shutil
@@ -11,8 +11,7 @@ import toolchain  # noqa: E402
 
 
 def build(folder, program, source, over, words):
-    """Proves and builds a program over these crates, which is run once with these words. Returns its
-    path."""
+    """Proves and builds a program that uses these crates, runs it once with these words, and returns its path."""
     clone = toolchain.Clone(TOP)
     below = {low for it in over for low in clone.below(it)}
     names = [it for it in clone.crates if it in below]

@@ -1,13 +1,17 @@
 #!/usr/bin/env python3
-"""Writes a recording of just under 16 MiB to standard output: one long lawful session, of the kind
-that the one word names.
+"""Writes a recording of just under 16 MiB to standard output: one long lawful session, of one of these kinds.
 
-surfaces: a client makes a surface, attaches nothing, commits and destroys it, again and again; each
-time the server frees its id. callbacks: one request, its event and the freeing of its id, again and
-again. objects: callbacks that are never answered, so that all stay. server_objects: the server makes an
-object, and the client ends none of them, so that all stay; the tables are examples/tables/data-device.tables.
-server_ids: the server makes an object, names it and makes it again once the client has destroyed it; by the
-same tables. bytes: as callbacks, but each byte is a piece of its own.
+    bench/recording.py KIND
+
+surfaces        a client makes a surface, attaches nothing, commits it and destroys it, again and again; each
+                time the server frees its id
+callbacks       one request, its event and the delete_id for it, again and again
+objects         callbacks that are never answered, so that all of them stay
+server_objects  the server makes objects, and the client destroys none of them, so that all of them stay. The
+                tables are examples/tables/data-device.tables
+server_ids      the server makes an object and names it, and makes it again when the client has destroyed it;
+                with the same tables
+bytes           the same as callbacks, with each byte in a piece of its own
 """
 import struct
 import sys

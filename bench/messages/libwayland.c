@@ -224,7 +224,7 @@ static void open_ends(struct ends *ends)
     to_server(ends);
 }
 
-/* Writes as many messages of the case, and reads them at the other end. */
+/* Writes so many messages of the case, and reads them at the other end. */
 static bool exchange(struct ends *ends, const char *name, uint64_t count, const char *title)
 {
     uint64_t requests = requests_read, events = events_read;

@@ -3,12 +3,12 @@
 //!
 //!     wayland_rs damage|motion|surface|title BATCH TIMES
 //!
-//! BATCH times what the case sends is written, then flushed over a socket pair, then read. Each
-//! handler is a closure that counts, as the dispatcher in C is a function that counts.
+//! The messages of the case are written BATCH times, then flushed over a socket pair, then read.
+//! Each handler is a closure that counts, as the dispatcher in C is a function that counts.
 //!
-//! A server of wayland-rs 0.29 ends a client that has sent more than the 8 KB that it reads at once
-//! where these end within a message, so of titles four at most are flushed before they are read:
-//! what a client's buffer of 4 KB holds.
+//! A server of wayland-rs 0.29 reads 8 KB at once. If a client has sent more, and these 8 KB end
+//! within a message, the server ends the client. So at most four titles are flushed before they are
+//! read: as many as a client's buffer of 4 KB holds.
 
 use std::cell::{Cell, RefCell};
 use std::os::unix::io::IntoRawFd;
@@ -24,7 +24,7 @@ use wayland_server::protocol as served;
 
 const TITLES_AT_ONCE: usize = 4;
 
-/// What both ends have read, and the server's pointer.
+/// How much both ends have read, and the server's pointer.
 #[derive(Clone, Default)]
 struct Seen {
     requests: Rc<Cell<usize>>,
@@ -126,7 +126,7 @@ impl Ends {
     }
 }
 
-/// The objects of which the messages are sent: the client's, and the server's pointer.
+/// The objects that send the messages: the client's, and the server's pointer.
 struct Objects {
     compositor: Main<wl_compositor::WlCompositor>,
     surface: Main<wl_surface::WlSurface>,
@@ -164,7 +164,7 @@ impl Objects {
     }
 }
 
-/// Writes as many messages of the case, and reads them at the other end.
+/// Writes so many messages of the case, and reads them at the other end.
 fn exchange(ends: &mut Ends, objects: &Objects, case: &str, count: usize, title: &str) {
     let (requests, events) = (ends.seen.requests.get(), ends.seen.events.get());
     if case == "motion" {
