@@ -1,4 +1,4 @@
-"""What the programs of this folder share: where things are, how a command is run, and how tests are counted.
+"""What the programs of this folder share: paths, running commands, and counting tests.
 
 It puts tools/ and tools/dev/ on the path, so that a test imports their modules."""
 
@@ -22,7 +22,7 @@ TOOLS = f"{TOP}/tools"
 sys.path[1:1] = [TOOLS, f"{TOOLS}/dev"]
 import protocol_files  # noqa: E402
 VALGRIND = ["valgrind", "-q", "--leak-check=full", "--error-exitcode=9"]
-# Compilers of C and C++, those that the headers are held against.
+# The compilers of C and C++ with which the headers must compile.
 COMPILERS = (["gcc", "-std=c99", "-x", "c"], ["g++", "-std=c++11", "-x", "c++"],
              ["clang", "-std=c99", "-x", "c"], ["clang++", "-std=c++11", "-x", "c++"])
 STRICT = ["-Wall", "-Wextra", "-Wpedantic", "-Wconversion", "-Wshadow", "-Werror", "-fsyntax-only"]
@@ -30,8 +30,8 @@ STRICT = ["-Wall", "-Wextra", "-Wpedantic", "-Wconversion", "-Wshadow", "-Werror
 # In /proc/net/unix, the flag of a socket that listens, and the state of one that is connected.
 ACCEPTS = 0x10000
 CONNECTED = "03"
-# How long a program may take until it is there, and how long anything may take that ends, in
-# seconds: many times what they take on a machine that has much else to do.
+# In seconds: how long a program may take to start, and how long anything may take that ends by itself. Both are
+# many times what is needed on a busy machine.
 COMES_UP = 120
 LONG = 900
 
@@ -45,7 +45,7 @@ class Skipped(unittest.SkipTest):
 
 
 def asked_of_dpkg(*words):
-    """The lines that `dpkg-query` prints, none where the system has no such command."""
+    """The lines that `dpkg-query` prints; none if the system does not have this command."""
     if not shutil.which("dpkg-query"):
         return []
     ran = subprocess.run(["dpkg-query", *words], capture_output=True, text=True, check=False)
@@ -54,16 +54,15 @@ def asked_of_dpkg(*words):
 
 @functools.cache
 def is_whole(package):
-    """Whether a package is not there by half, by dpkg's state of it: where an installation was
-    ended, programs are there that do not run. A package that dpkg does not know is none of
-    dpkg's."""
+    """Whether a package is completely installed, or not at all, according to dpkg. If an installation was
+    interrupted, its programs may be there and not run. A package that dpkg does not know counts as whole."""
     states = asked_of_dpkg("-W", "-f=${db:Status-Abbrev}\n", package)
     return all(it[1:] in ("i ", "n ", "c ") for it in states)
 
 
 @functools.cache
 def is_installed(command):
-    """Whether a program is there, and the package that brought it is whole."""
+    """Whether a program is there, and its package is completely installed."""
     path = shutil.which(command)
     if path is None:
         return False
@@ -72,14 +71,14 @@ def is_installed(command):
 
 
 def need(*commands):
-    """Skips the test where one of the commands is not installed."""
+    """Skips the test if one of the commands is not installed."""
     for command in commands:
         if not is_installed(command):
             raise Skipped(f"{command} is not installed")
 
 
 def can(what, *commands):
-    """Whether the commands are installed that a part of a test needs. Says which is not."""
+    """Whether the commands that a part of a test needs are installed. Prints which one is not."""
     lacking = [it for it in commands if not is_installed(it)]
     if lacking:
         print(f"skipped: {what}: {lacking[0]} is not installed")
@@ -87,7 +86,7 @@ def can(what, *commands):
 
 
 def has_come(test, seconds=COMES_UP):
-    """Waits until something is so, and returns whether it has come within so many seconds."""
+    """Waits until a condition is true, for at most so many seconds. Returns whether it became true."""
     end = time.monotonic() + seconds
     while not test():
         if time.monotonic() > end:
@@ -97,7 +96,7 @@ def has_come(test, seconds=COMES_UP):
 
 
 def end(process):
-    """Ends a process, by force where it has not ended after twenty seconds."""
+    """Ends a process, by force if it has not ended after twenty seconds."""
     process.terminate()
     try:
         process.wait(20)
@@ -107,13 +106,13 @@ def end(process):
 
 
 def ends_of(said):
-    """What a command said, without the middle where that is long."""
+    """The output of a command; if it is long, without the middle."""
     return said if len(said) <= 1600 else f"{said[:400]}\n..\n{said[-1200:]}"
 
 
 def run(words, status=0, with_error=False, **kept):
-    """Runs a command at the top of the repository, and returns its standard output, with its standard error
-    behind it where that is asked for. It must end with this status."""
+    """Runs a command at the top of the repository, and returns its standard output; if `with_error` is set, followed
+    by its standard error. The command must end with this status."""
     kept = {"cwd": TOP, "timeout": LONG, **kept}
     done = subprocess.run(words, capture_output=True, **kept)
     output, error = done.stdout.decode(errors="replace"), done.stderr.decode(errors="replace")
@@ -124,18 +123,18 @@ def run(words, status=0, with_error=False, **kept):
 
 
 def sockets_at(path):
-    """The words of the lines of /proc/net/unix for the sockets at a path."""
+    """The lines of /proc/net/unix for the sockets at a path, as lists of words."""
     with open("/proc/net/unix", encoding="utf-8", errors="surrogateescape") as sockets:
         return [it for it in map(str.split, sockets) if it[-1] == path]
 
 
 def is_listening(path):
-    """Whether a socket listens at a path: one that is bound and does not listen yet refuses a client."""
+    """Whether a socket listens at a path. A socket that is bound and does not listen yet would refuse a client."""
     return any(int(it[3], 16) & ACCEPTS for it in sockets_at(path))
 
 
 def wait_until_listening(started, path):
-    """Waits until a server that was started listens at a path."""
+    """Waits until a started server listens at a path."""
     has_come(lambda: is_listening(path) or started.poll() is not None)
     if started.poll() is not None:
         raise Failed(f"{started.args[0]}: {started.stdout.read().decode()[-800:]}")
@@ -164,8 +163,7 @@ def ended(started, status=0):
 
 
 def has_client(path, beside=0):
-    """Whether a client is connected to a socket that listens at a path, and was accepted, beside so
-    many others."""
+    """Whether the socket that listens at a path has accepted a client, beside so many others."""
     return sum(it[5] == CONNECTED for it in sockets_at(path)) > beside
 
 
@@ -178,7 +176,7 @@ def protocols():
 
 
 def need_protocols():
-    """The examples are over xdg-shell and wl_data_device."""
+    """Skips the test if the protocols of the examples, xdg-shell and wl_data_device, are not installed."""
     for name, package in (("xdg-shell", "wayland-protocols"), ("data-device", "libwayland-dev")):
         if name not in protocols():
             raise Skipped(f"{package} is not installed")
@@ -227,20 +225,20 @@ def joined_tables():
 
 
 def counted(passed, failed):
-    """Prints the last line of a program of tests, and returns its exit status."""
+    """Prints the last line of a test program, and returns its exit status."""
     print(f"{passed} passed, {failed} failed")
     return int(failed > 0)
 
 
 def why_of(error):
-    """What an exception says. Where it is no test's own word, with its name and where it arose."""
+    """The text of an exception. If no test raised it on purpose, also its name and where it was raised."""
     if isinstance(error, (Failed, subprocess.TimeoutExpired)):
         return str(error)
     return f"{type(error).__name__}: {error}\n{traceback.format_exc().rstrip()}"
 
 
 def count_functions(tests, *given):
-    """Runs functions as tests. Says which failed and which were skipped, and why; counts them."""
+    """Runs functions as tests. Prints which failed and which were skipped, and why, and counts them."""
     return counted(*passed_and_failed(tests, *given))
 
 
@@ -256,7 +254,7 @@ def passed_and_failed(tests, *given):
         except Skipped as why:
             print(f"skipped: {name}: {why}")
         except Exception as why:
-            # Whatever ends a test, the others are run, and all are counted.
+            # Whatever ends this test, the others are run, and all are counted.
             print(f"failed: {name}: {why_of(why)}")
             failed += 1
         sys.stdout.flush()
@@ -264,7 +262,7 @@ def passed_and_failed(tests, *given):
 
 
 def count_cases(suite):
-    """Runs the cases of `unittest`. Says which failed and which were skipped, and why; counts them."""
+    """Runs cases of `unittest`. Prints which failed and which were skipped, and why, and counts them."""
     result = unittest.TextTestRunner(stream=sys.stdout, verbosity=1).run(suite)
     wrong = [*result.failures, *result.errors]
     for test, why in wrong:

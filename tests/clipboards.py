@@ -1,5 +1,4 @@
-"""Programs of the distribution that copy and paste at the example compositors in C and in Rust,
-and at sway."""
+"""Programs of the distribution copy and paste at the example compositors in C and in Rust, and at sway."""
 
 import base64
 import contextlib
@@ -42,11 +41,11 @@ class Clipboard:
         return client
 
     def copy(self, text, *options):
-        """A client that offers a text, until another is copied."""
+        """A client that offers a text until another text is copied."""
         return self.start(["wl-copy", "--foreground", *TYPE, *options], text)
 
     def pasted(self):
-        """The text in the clipboard; none where nothing is copied."""
+        """The text in the clipboard; `None` if nothing is copied."""
         done = subprocess.run(["wl-paste", "--no-newline"], env=self.env, capture_output=True,
                               timeout=PASSES, check=False)
         return done.stdout if done.returncode == 0 else None
@@ -115,8 +114,8 @@ def compositor(words, script=None, status=0):
 
 
 def passes_texts(*words):
-    """A small text and one that no pipe holds: each is pasted as it was copied, several times. A
-    client whose text is replaced is told so, and ends. No descriptor stays open."""
+    """A small text, and one that is larger than a pipe, are each pasted several times as they were copied. A client
+    whose text is replaced hears of it, and ends. No descriptor stays open."""
     need("wl-copy", "wl-paste")
     with compositor(words) as board:
         before = board.descriptors()
@@ -137,8 +136,8 @@ def passes_texts(*words):
 
 
 def goes_on_without_a_client(*words):
-    """The client whose text is copied is killed: nothing is copied any more, and another client,
-    which was there all the time, is told of the next text."""
+    """The client that has copied a text is killed: the clipboard is empty then. Another client, which was there all
+    the time, hears of the next text."""
     need("wl-copy", "wl-paste")
     with compositor(words) as board:
         before = board.descriptors()
@@ -165,8 +164,8 @@ def goes_on_without_a_client(*words):
 
 
 def bears_much(program, *words):
-    """Two clients of a program of ours use offers that are gone, write much and read nothing; one
-    breaks a rule, and is ended. Others copy and paste as before."""
+    """Two clients of a program of ours use offers that are gone, write much and read nothing. One breaks a rule, and
+    the compositor ends it. Others copy and paste as before."""
     need("wl-copy", "wl-paste")
     with compositor(words, status=1) as board:
         before = board.descriptors()
@@ -177,8 +176,7 @@ def bears_much(program, *words):
 
 
 def is_there(board, client):
-    """Waits until a client is connected beside that of the test. It is skipped where it does not
-    come up."""
+    """Waits until a client is connected beside that of the test. If none connects, the test is skipped."""
     if not has_come(lambda: has_client(board.path, beside=1) or client.poll() is not None):
         raise Skipped(f"{client.args[0]} has made no connection")
 
@@ -189,11 +187,10 @@ def press(board, *lines):
 
 
 def serves_gtk(paste, *words):
-    """A text of wl-copy is pasted into an entry of GTK, whose text is copied there and pasted by
-    wl-paste: by a wl_data_device what came from a data-control source, and the other way round.
-    What is copied there before the text is in the entry ends the pasting, and all is done again.
-    The client that `paste` starts pastes the text, too: its window takes the focus, and gives it
-    back."""
+    """wl-copy copies a text, which is pasted into a GTK entry. The text of the entry is copied there, and pasted by
+    wl-paste. So a text passes from a data-control source to a wl_data_device, and the other way round. If something is
+    copied in the entry before the text is there, pasting stops, and all is done again. The client that `paste` starts
+    pastes the text too: its window takes the focus, and gives it back."""
     need("wl-copy", "wl-paste", "zenity")
     with compositor(words, "script") as board:
         window = ["zenity", "--entry", "--text=waywire", "--entry-text=old "]
@@ -235,9 +232,8 @@ def serves_foot(*words):
 
 
 def client_pastes(board, paste, checked):
-    """The client that `paste` starts prints what wl-copy has copied, a small text and one that no
-    pipe holds, and says so where nothing is copied. `checked` are words of what runs it when it
-    succeeds."""
+    """The client that `paste` starts prints what wl-copy has copied: a small text, and one that is larger than a pipe.
+    If nothing is copied, it says so. `checked` is a command that runs the client when it is to succeed."""
     def ran(*words):
         done = subprocess.run([*words, *paste], env=board.env, capture_output=True, timeout=PASSES,
                               check=False)

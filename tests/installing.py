@@ -14,8 +14,8 @@ TESTS = os.path.join(TOP, "tests", "c")
 
 
 def installed(program):
-    """An installed library is found by pkg-config and by CMake, and programs are built against it; where
-    `waywire` is built, it has the library's version, and its manual page has no error."""
+    """pkg-config and CMake find an installed library, and programs are built with it. If `waywire` is built, it has
+    the library's version, and its manual page has no error."""
     need("make", "pkg-config")
     with tempfile.TemporaryDirectory() as prefix:
         libraries = os.path.join(prefix, "lib", "here")
@@ -47,7 +47,7 @@ def installed(program):
 
 
 def is_a_manual_page(path):
-    """What reads manual pages finds no error."""
+    """groff finds no error in the manual pages."""
     if can(f"errors of {os.path.basename(path)}", "groff"):
         said = run(["groff", "-man", "-ww", "-z", path], with_error=True)
         if said:
@@ -55,7 +55,7 @@ def is_a_manual_page(path):
 
 
 def has_what_the_header_names(prefix):
-    """Each folder, page, header and tool that waywire.h names is installed, and the licence."""
+    """Each folder, page, header and tool that waywire.h names is installed, and so is the licence."""
     with open(os.path.join(prefix, "include", "waywire.h"), encoding="utf-8") as file:
         text = file.read()
     named = re.findall(r"share/[\w/]*\w", text)
@@ -102,7 +102,7 @@ def found_by_cmake(prefix, libraries, version):
 
 
 def installing_compiles_nothing(_program):
-    """`make install` compiles and links nothing that `make` built; the linker is given LDFLAGS."""
+    """`make install` does not compile or link again what `make` has built. The linker gets LDFLAGS."""
     need("make")
     words = ["make", "-n", "install", "PREFIX=/somewhere", "DATADIR=/data", "LIBDIR=/libraries", "CC=compiler",
              "LD=linker", "AR=archiver"]
@@ -120,7 +120,7 @@ def version_of_the_library():
         return re.search('"(.*)"', file.read())[1]
 
 
-# Asked of a Debian with the package: a program is built against it, and the tools run.
+# Run in a Debian with the package: a program is built with it, and the tools run.
 AT_DEBIAN = """set -e
 cc /tests/c/values.c -I/tests/c $(pkg-config --cflags --libs waywire) -o /tmp/values
 /tmp/values
@@ -131,7 +131,7 @@ waywire-run true
 
 
 def debian_package(program):
-    """The package of Debian has its fields, is the same each time, and serves where it is unpacked."""
+    """The Debian package has its fields, is the same each time, and works where it is unpacked."""
     need("make", "dpkg-deb", "pkg-config")
     built = [f"program={program}"] if program else []
     made = []
@@ -162,7 +162,7 @@ def has_its_fields(path):
 
 
 def serves_unpacked(root):
-    """A program is built against the library in a folder, and the tools run there."""
+    """A program is built with the library in a folder, and the tools run there."""
     usr = os.path.join(root, "usr")
     config = glob.glob(f"{usr}/lib/**/pkgconfig", recursive=True)[0]
     env = {**os.environ, "PKG_CONFIG_PATH": config, "LD_LIBRARY_PATH": os.path.dirname(config)}
@@ -184,7 +184,7 @@ def serves_unpacked(root):
 
 
 def debian_package_at_a_clean_debian(program):
-    """The package is installed into a new Debian: a program is built against it there, and the tools run."""
+    """The package is installed into a new Debian. There a program is built with it, and the tools run."""
     need("make", "dpkg-deb", "debootstrap")
     if os.geteuid():
         raise Skipped("only root can make a Debian")
@@ -207,7 +207,7 @@ def debian_package_at_a_clean_debian(program):
 
 
 def suite():
-    """The name of this Debian, stable where it is none."""
+    """The name of this Debian release; `stable` if this is no Debian."""
     with open("/etc/os-release", encoding="utf-8") as file:
         found = re.search(r"(?m)^VERSION_CODENAME=(\w+)$", file.read())
     return found[1] if found else "stable"
@@ -234,8 +234,8 @@ def made_package(program):
 
 
 def package(program):
-    """The package is the same each time, and serves where no toolchain is: a program is built against its
-    library, its program and its tools run, and the examples are built and run where xdg-shell is."""
+    """The package is the same each time, and works without the toolchain: a program is built with its library, and its
+    program and its tools run. If xdg-shell is installed, the examples are built and run too."""
     need("make", "pkg-config", "tar")
     if not program or not os.path.exists(program):
         raise Skipped("the program is not built")
@@ -256,7 +256,7 @@ def package(program):
 
 
 def packed_examples(folder, env):
-    """The examples of a package are built, and the client draws at the server."""
+    """The examples of a package are built, and the client shows a window at the server."""
     run(["make", "-s", "-C", folder], env=env)
     socket = os.path.join(folder, "wayland-test")
     server = start_and_wait([os.path.join(folder, "server"), socket], socket, env=env)
@@ -290,7 +290,8 @@ def inspector_is_installed(_program):
 
 
 def knows_installed_tables(tool, folder):
-    """The tool reads the installed texts and names, makes a text of XML, and makes a page, without a word on standard error."""
+    """The tool reads the installed texts and names, makes a text from XML, and makes a page. It prints nothing to
+    standard error."""
     recording = os.path.join(folder, "session.rec")
     shutil.copy(os.path.join(TOP, "examples", "drm_lease.rec"), recording)
     said = run([tool, "--read", recording], with_error=True)
