@@ -11,7 +11,7 @@ use std::slice;
 pub struct Fixed(i32);
 
 impl Fixed {
-    /// So many 256ths.
+    /// The number of this many 256ths.
     pub fn from_raw(raw: i32) -> Fixed {
         Fixed(raw)
     }
@@ -29,7 +29,7 @@ impl From<Fixed> for f64 {
     }
 }
 
-/// The nearest of the numbers that are there.
+/// The nearest number that can be represented.
 impl From<f64> for Fixed {
     #[inline]
     fn from(number: f64) -> Fixed {
@@ -57,11 +57,11 @@ pub enum Arg<'a> {
     Str(Option<&'a [u8]>),
     /// An object, or null.
     Object(Option<Object>),
-    /// The place of the object that the message makes.
+    /// Stands for the object that the message makes.
     NewId,
     /// Bytes.
     Array(&'a [u8]),
-    /// A file descriptor. The end sends a duplicate of it, and closes that once it has gone.
+    /// A file descriptor. The end sends a duplicate of it, and closes the duplicate once it was sent.
     Fd(BorrowedFd<'a>),
 }
 
@@ -86,8 +86,8 @@ impl From<Object> for Arg<'_> {
     }
 }
 
-/// An argument of a message that was read. `D` is how its file descriptor comes: a [`BorrowedFd`] where
-/// the message lends it, an [`OwnedFd`] where it is taken out of the message.
+/// An argument of a message that was read. `D` is the type of a file descriptor: a [`BorrowedFd`] if the
+/// message lends it, an [`OwnedFd`] if it is taken out of the message.
 #[derive(Clone, Copy, Debug)]
 pub enum Value<'a, D = BorrowedFd<'a>> {
     /// A signed number.
@@ -119,7 +119,7 @@ pub enum Value<'a, D = BorrowedFd<'a>> {
     Fd(Option<D>),
 }
 
-/// Descriptors are equal if they have one number.
+/// Descriptors are equal if they have the same number.
 impl<D: AsRawFd> PartialEq for Value<'_, D> {
     fn eq(&self, other: &Self) -> bool {
         let number = |it: &Option<D>| it.as_ref().map(AsRawFd::as_raw_fd);
@@ -163,8 +163,8 @@ fn value<'a, D>(arg: &ArgOf<'a>, next: impl FnOnce() -> Option<D>) -> Value<'a, 
     }
 }
 
-/// The arguments of a message, in order. An iterator, which can be begun anew from a copy. It lends the
-/// descriptors of the message.
+/// The arguments of a message, in order. It is an iterator that lends the descriptors of the message. A
+/// copy of it can be used to begin again.
 #[derive(Clone)]
 pub struct Args<'a> {
     args: sys::ArgsOf<'a>,

@@ -7,12 +7,12 @@ use crate::report::{Incoming, Replaced};
 use crate::sys;
 use crate::tables::{Object, Tables};
 
-/// The client's end of a connection: its objects, its inbox and outbox, the globals that it was
-/// told. [`Connection`] has the calls that a server has too.
+/// The client's end of a connection: its objects, its inbox and outbox, and the globals that were
+/// announced to it. [`Connection`] has the calls that a server has too.
 pub type Client = Connection<AsClient>;
 
 impl Client {
-    /// A client with wl_display alone, an empty inbox and an empty outbox.
+    /// A client that has only wl_display, with an empty inbox and an empty outbox.
     pub fn new(tables: &Tables, sizes: &Sizes) -> Result<Client, NewError> {
         sys::End::new_client(&tables.0, sizes).map(|end| Connection::of(end, tables))
     }
@@ -28,17 +28,17 @@ impl Client {
         self.end.bind(registry, name, interface, version)
     }
 
-    /// Binds a global that need not have been announced: the server judges the bind. Nothing that was
-    /// announced is asked or changed. So a global that the client does not remember, or that was
-    /// withdrawn, can be bound. The message has this version.
+    /// Binds a global whether or not it was announced, and leaves it to the server to judge the bind. So
+    /// this can bind a global that the client does not remember, or that was withdrawn. What the client
+    /// remembers of globals is not changed. The message has this version.
     ///
     /// At this end the object has the version that the tables have now, so no request and no event in
-    /// them is too new for it. A request that is newer than the bind is written, and the server ends the
-    /// connection. [`SendError::BadBind`] only if the tables have no such interface, or the version is 0
-    /// or above theirs.
+    /// them is too new for it. If you send a request that is newer than the bind, it is written, and the
+    /// server ends the connection. The call returns [`SendError::BadBind`] only if the tables have no
+    /// such interface, or if the version is 0 or above theirs.
     ///
-    /// Prefer [`bind`](Client::bind): what is proved of two ends together does not cover this call,
-    /// since their versions of the object may differ.
+    /// Prefer [`bind`](Client::bind): the proof about two ends does not cover this call, since their
+    /// versions of the object may differ.
     pub fn bind_unannounced(
         &mut self,
         registry: Object,
@@ -49,16 +49,17 @@ impl Client {
         self.end.bind_unannounced(registry, name, interface, version)
     }
 
-    /// Reads a text over the client's own tables, as [`Tables::read`] does, and gives the client the
-    /// tables that come out: [`tables`](Connection::tables) returns them afterwards. Interfaces keep
-    /// their places and messages their opcodes, so objects and globals stay what they are.
+    /// Adds the interfaces of a text to the client's own tables, as [`Tables::read`] does.
+    /// [`tables`](Connection::tables) returns the new tables afterwards. Interfaces keep their places
+    /// and messages their opcodes, so objects and globals stay what they are.
     ///
     /// A global that was announced before its interface was in the tables stays forgotten:
-    /// [`bind_unannounced`](Client::bind_unannounced) binds it. [`TablesError::FirstServerObject`] if
-    /// the text has the first event by which the server makes an object (`N`): a client that is made
-    /// over tables without one has no room for such objects. An error changes nothing.
+    /// [`bind_unannounced`](Client::bind_unannounced) binds it. The error is
+    /// [`TablesError::FirstServerObject`] if the text has the first event by which the server makes an
+    /// object (`N`): a client that was made with tables without such an event has no room for these
+    /// objects. An error changes nothing.
     ///
-    /// What is proved of two ends together is about ends whose tables stay.
+    /// The proof about two ends covers only ends that keep their tables.
     ///
     /// ```
     /// # use waywire::{Client, Sizes, Tables, TablesError};
@@ -79,11 +80,11 @@ impl Client {
         Ok(())
     }
 
-    /// Reads the next message; `None` while none is whole. An event by which the server makes an
-    /// object opens it, and [`made`](Client::made) returns it. If its id is that of a live object,
-    /// that one is gone, and [`replaced`](Client::replaced) returns it. Memory is allocated only
-    /// where the id of the new object is the next that the server has never used, and so never over
-    /// tables without such events.
+    /// Reads the next message; `None` if no message is whole. If an event makes an object of the
+    /// server, the client opens it, and [`made`](Client::made) returns it. If a live object had the
+    /// same id, that object is gone, and [`replaced`](Client::replaced) returns it. Memory is allocated
+    /// only for a new object whose id the server has never used, so never with tables without such
+    /// events.
     // Not an iterator's: what it returns is lent from the client.
     #[inline]
     #[allow(clippy::should_implement_trait)]
@@ -92,21 +93,21 @@ impl Client {
         Ok(Incoming::of(&mut self.reading))
     }
 
-    /// The object that the last message read has made: one of the server's, also where its report
-    /// was [`Incoming::Discarded`], so that it can be destroyed. `None` where that message has made
-    /// none, and before the first. A call that reads no message leaves it.
+    /// The object of the server that the last message made; `None` if it made none, or no message was
+    /// read yet. It is also there if the report was [`Incoming::Discarded`], so that you can destroy
+    /// the object. A call that reads no message does not change it.
     pub fn made(&self) -> Option<Object> {
         self.end.made()
     }
 
-    /// The live object that the last message read has replaced, and what was set for it: its id is
-    /// now that of the object that [`made`](Client::made) returns. The report may have been
-    /// [`Incoming::Discarded`]. `None` if that message has replaced none, and if the last call of
+    /// The live object that the last message replaced, and what was set for it. Its id is now that of
+    /// the object that [`made`](Client::made) returns. The report may have been
+    /// [`Incoming::Discarded`]. `None` if the message replaced no object, or if the last call of
     /// [`next`](Client::next) read no message.
     ///
-    /// Only an object of the server's that no request can end at its version is replaced, such as a
-    /// zwlr_output_head_v1 of version 2: the server destroys it on its own, and uses its id again.
-    /// The object is gone, and no later message names it: drop here what belongs to it. While an
+    /// Only an object of the server that no request of its version destroys can be replaced, such as a
+    /// zwlr_output_head_v1 of version 2: the server destroys it on its own, and uses its id again. The
+    /// old object is gone, and no later message names it, so drop here what belongs to it. While an
     /// event is lent, [`Message::replaced`](crate::Message::replaced) returns the same.
     pub fn replaced(&self) -> Option<Replaced> {
         self.reading.report().replaced()

@@ -44,7 +44,7 @@ use std::os::fd::{BorrowedFd, OwnedFd};
 ///
 /// A descriptor that waits at an end belongs to it. Dropping the end closes what still waits.
 ///
-/// A call that the other end alone has does not compile:
+/// A call that only the other end has does not compile:
 ///
 /// ```compile_fail,E0599
 /// # use waywire::{Server, Sizes, Tables};
@@ -70,13 +70,13 @@ pub enum AsClient {}
 pub enum AsServer {}
 
 impl<R> Connection<R> {
-    /// A new connection, by an end that was made for the role `R`.
+    /// A new connection of an end that was made for the role `R`.
     pub(crate) fn of(end: sys::End, tables: &Tables) -> Connection<R> {
         let reading = Box::new(sys::Reading::nothing());
         Connection { end, reading, tables: tables.clone(), role: PhantomData }
     }
 
-    /// The tables that it has: those for which it was made, or those of
+    /// Its tables: those with which it was made, or those of the last
     /// [`Client::more_tables`](crate::Client::more_tables).
     pub fn tables(&self) -> &Tables {
         &self.tables
@@ -87,7 +87,7 @@ impl<R> Connection<R> {
         self.end.display()
     }
 
-    /// The interface and version of an object that is live, also at a failed end.
+    /// The interface and version of an object, if the object is live; also at a failed end.
     #[inline]
     pub fn live(&self, object: Object) -> Option<(Interface, u32)> {
         self.end.live(object)
@@ -103,20 +103,20 @@ impl<R> Connection<R> {
     /// Sets a number of the caller's own for an object that is live, such as its place in a list; 0
     /// is none. Each message to the object has it ([`Message::user`](crate::Message::user)).
     ///
-    /// At a client, drop what it stands for at [`Incoming::Deleted`](crate::Incoming::Deleted).
+    /// At a client, drop what the number refers to at [`Incoming::Deleted`](crate::Incoming::Deleted).
     /// That does not come for an object that the server made: drop it when you destroy the object,
-    /// and when another replaces it ([`Client::replaced`](crate::Client::replaced)).
+    /// and when another object replaces it ([`Client::replaced`](crate::Client::replaced)).
     pub fn set_user(&mut self, object: Object, user: usize) -> Result<(), SendError> {
         self.end.set_user(object, user)
     }
 
-    /// The number that was set for an object, also once it has ended, as long as none was set for a
-    /// later object with its id; else 0.
+    /// The number that was set for an object; 0 if there is none. It stays after the object has
+    /// ended, until a number is set for a later object with the same id.
     pub fn user(&self, object: Object) -> usize {
         self.end.user(object)
     }
 
-    /// The objects that [`object_count`](Connection::object_count) counts, by their ids.
+    /// The objects that [`object_count`](Connection::object_count) counts, in the order of their ids.
     pub fn objects(&self) -> impl Iterator<Item = Object> + '_ {
         let first = self.end.object_after(0);
         std::iter::successors(first, |last| self.end.object_after(last.id()))
@@ -149,8 +149,8 @@ impl<R> Connection<R> {
     /// that the server made, which is dead until an event makes one with its id. wl_registry.bind
     /// is [`SendError::NoSuchMessage`]: [`Client::bind`](crate::Client::bind) writes it.
     ///
-    /// The end sends a duplicate of each descriptor, and owns that once the message is written. If the
-    /// call is refused, the duplicate is closed. The caller's own descriptor stays open.
+    /// The end sends a duplicate of each descriptor. It owns the duplicate once the message is written;
+    /// if the call is refused, the duplicate is closed. The caller's own descriptor stays open.
     ///
     /// At a server, an event that destroys its object is followed by its delete_id: both are
     /// written, or nothing. The events of wl_display and wl_registry are
@@ -165,9 +165,9 @@ impl<R> Connection<R> {
         self.end.send(target, opcode, args)
     }
 
-    /// Moves what came into the inbox: as many descriptors as fit, and if these are all, as many bytes
-    /// as fit. Those that it takes leave the list; feed the rest again later. An end that has failed
-    /// takes nothing, which is an error.
+    /// Moves received descriptors and bytes into the inbox: first as many descriptors as fit, and then,
+    /// if all of them fitted, as many bytes as fit. The descriptors that it takes are removed from the
+    /// list; feed the rest again later. An end that has failed takes nothing, which is an error.
     #[inline]
     pub fn feed(
         &mut self,
@@ -177,16 +177,16 @@ impl<R> Connection<R> {
         self.end.feed(bytes, descriptors)
     }
 
-    /// How much [`take`](Connection::take) with a slice of this length, and at most so many descriptors,
-    /// would take.
+    /// How much [`take`](Connection::take) would take with a slice of this length, and at most so many
+    /// descriptors.
     #[inline]
     pub fn goes(&self, bytes: usize, tokens: usize) -> Amounts {
         self.end.goes(bytes, tokens)
     }
 
-    /// Moves what waits to be sent into the slice, as much as it holds, and appends at most so many
-    /// descriptors to the list, also at a failed end. The descriptors of a message go with its first
-    /// byte: pass them on with these bytes. One `sendmsg` takes 28 of them, as libwayland does.
+    /// Moves what waits to be sent into the slice, as much as fits, and appends at most so many
+    /// descriptors to the list; also at a failed end. The descriptors of a message go with its first
+    /// byte: send them together with these bytes. libwayland takes 28 with one `sendmsg`.
     #[inline]
     pub fn take(
         &mut self,
@@ -205,15 +205,15 @@ impl<R> Connection<R> {
         Waiting(self.end.peek())
     }
 
-    /// Takes so many bytes out of the outbox, or all that wait where they are fewer, and closes the
-    /// descriptors of the messages that begin in them.
+    /// Removes so many bytes from the outbox, or all bytes if fewer wait, and closes the descriptors of
+    /// the messages that begin in them.
     pub fn sent(&mut self, bytes: usize) -> Amounts {
         self.end.sent(bytes)
     }
 
-    /// Where the free bytes of the inbox lie, for `recvmsg`: the first part is to be filled first.
-    /// The second may be empty, and at a failed end both are. What is written there comes in by
-    /// [`received`](Connection::received).
+    /// The free bytes of the inbox, for `recvmsg`: fill the first part first. The second part may be
+    /// empty; at a failed end both are. [`received`](Connection::received) takes in what was written
+    /// there.
     pub fn space(&mut self) -> [&mut [u8]; 2] {
         self.end.space()
     }
@@ -224,7 +224,7 @@ impl<R> Connection<R> {
     ///
     /// If not all descriptors fit, no byte is taken in, and what was written stays there: read messages
     /// until the other descriptors fit, and then call this with these and the same number of bytes. Once
-    /// bytes were taken in, what was written behind them is lost: call `space` again.
+    /// bytes were taken in, anything written after them is lost: call `space` again.
     pub fn received(
         &mut self,
         bytes: usize,
@@ -233,28 +233,28 @@ impl<R> Connection<R> {
         self.end.received(bytes, descriptors)
     }
 
-    /// Gives the end up, and returns the descriptors that wait in it: first those that were fed and not
-    /// reported, then those that were to be sent. Dropping the end closes these, too.
+    /// Gives up the end, and returns the descriptors that wait in it: first those that were fed and not
+    /// reported, then those that were to be sent. Dropping the end would close them.
     ///
-    /// The end has failed afterwards, and what waited to be sent is dropped: take first what is still to
-    /// be sent. Afterwards, discard what [`take`](Connection::take) returns: the stream has a gap already.
+    /// The end has failed afterwards, and what waited to be sent is dropped, so first take what is still
+    /// to be sent. Afterwards, discard what [`take`](Connection::take) returns: the stream has a gap.
     pub fn take_waiting_tokens(&mut self) -> Vec<OwnedFd> {
         self.end.take_waiting_tokens()
     }
 }
 
-/// What waits at an end and can go at one time.
+/// What waits in an end and can be sent at one time.
 #[derive(Clone, Debug)]
 pub struct Waiting<'a>(sys::Going<'a>);
 
 impl<'a> Waiting<'a> {
-    /// The bytes, in the order in which they go. The second part may be empty.
+    /// The bytes, in order. The second part may be empty.
     pub fn parts(&self) -> [&'a [u8]; 2] {
         self.0.parts
     }
 
-    /// The descriptors that go with the first byte. No message that has descriptors begins behind that,
-    /// so all have gone however few bytes went.
+    /// The descriptors that go with the first byte. No later byte here has descriptors, so all of them
+    /// are sent if only one byte is.
     pub fn descriptors(&self) -> &[BorrowedFd<'a>] {
         self.0.descriptors()
     }

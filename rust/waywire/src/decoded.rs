@@ -1,4 +1,4 @@
-//! One message, taken apart by its signature.
+//! One message, decoded by its signature.
 
 use crate::args::Fixed;
 use crate::error::FaultKind;
@@ -6,10 +6,10 @@ use crate::inspector::Sender;
 use crate::sys;
 use crate::tables::{Interface, Tables};
 
-/// The message that stands at the front of some bytes, taken apart by the signature that tables have of it.
+/// The message at the front of some bytes, decoded by its signature in the tables.
 ///
-/// Nothing is judged: no object is looked up, and a message that breaks a rule of its session is taken apart
-/// as any other.
+/// Nothing is judged: no object is looked up, and a message that breaks a rule of its session is decoded
+/// like any other.
 ///
 /// ```
 /// # use waywire::{Decoded, Sender, Spelled, Tables};
@@ -30,7 +30,7 @@ use crate::tables::{Interface, Tables};
 #[derive(Clone, Debug)]
 pub struct Decoded<'a>(pub(crate) sys::Decoded<'a>);
 
-/// An argument as the bytes spell it, an object by its id alone.
+/// An argument as it is in the bytes; an object is only an id.
 #[derive(Clone, Copy, Debug, PartialEq)]
 pub enum Spelled<'a> {
     /// A signed number.
@@ -45,7 +45,7 @@ pub enum Spelled<'a> {
     Object {
         /// Its id; 0 is null.
         id: u32,
-        /// The interface that the signature asks for, `None` where it takes any.
+        /// The interface that the signature requires; `None` if any will do.
         interface: Option<Interface>,
     },
     /// A new object.
@@ -57,7 +57,7 @@ pub enum Spelled<'a> {
         /// Whether the server makes it.
         by_server: bool,
     },
-    /// The new object of wl_registry.bind, whose interface stands in the bytes.
+    /// The new object of wl_registry.bind, whose interface is named in the bytes.
     Bound {
         /// The name of its interface.
         name: &'a [u8],
@@ -65,7 +65,7 @@ pub enum Spelled<'a> {
         version: u32,
         /// Its id.
         id: u32,
-        /// Its interface, where the tables have one of that name.
+        /// Its interface, if the tables have one of that name.
         interface: Option<Interface>,
     },
     /// Bytes.
@@ -75,9 +75,9 @@ pub enum Spelled<'a> {
 }
 
 impl<'a> Decoded<'a> {
-    /// Takes apart the message at the front of the bytes: a request or an event, depending on the sender, of
-    /// an object of this interface and version; [`u32::MAX`] takes messages of every version. What stands behind
-    /// the message is not looked at. `None` for an interface of other tables, past these.
+    /// Decodes the message at the front of the bytes: a request or an event, depending on the sender, for an
+    /// object of this interface and version. [`u32::MAX`] accepts messages of every version. Bytes after the
+    /// message are ignored. `None` for an interface of larger tables, whose place these tables do not have.
     pub fn of(
         tables: &'a Tables,
         interface: Interface,
@@ -88,33 +88,33 @@ impl<'a> Decoded<'a> {
         sys::Decoded::new(&tables.0, interface.0, version, sender, bytes).map(Decoded)
     }
 
-    /// Why the bytes are no such message, if they are none: [`FaultKind::BadSize`],
-    /// [`FaultKind::UnknownMessage`], [`FaultKind::BadArgument`] or [`FaultKind::TrailingBytes`].
+    /// Why the bytes are no such message: [`FaultKind::BadSize`], [`FaultKind::UnknownMessage`],
+    /// [`FaultKind::BadArgument`] or [`FaultKind::TrailingBytes`]. `None` if they are one.
     pub fn fault(&self) -> Option<FaultKind> {
         self.0.fault()
     }
 
-    /// The id of the object that it is for; 0 where there are fewer than 8 bytes.
+    /// The id of the object that it is for; 0 if there are fewer than 8 bytes.
     pub fn target(&self) -> u32 {
         self.0.target()
     }
 
-    /// Which message of its target's interface it is; 0 where there are fewer than 8 bytes.
+    /// Which message of its target's interface it is; 0 if there are fewer than 8 bytes.
     pub fn opcode(&self) -> u16 {
         self.0.opcode()
     }
 
-    /// The bytes of the whole message, its header counted, as the header says; 0 where there are fewer than 8.
+    /// The length of the whole message, as its header says; 0 if there are fewer than 8 bytes.
     pub fn size(&self) -> u16 {
         self.0.size()
     }
 
-    /// Its name; empty where the interface has no such message.
+    /// Its name; empty if the interface has no such message.
     pub fn name(&self) -> &'a str {
         self.0.name()
     }
 
-    /// Its arguments in order, those before the one at fault if one is.
+    /// Its arguments in order; if one is at fault, those before it.
     pub fn args(&self) -> impl Iterator<Item = Spelled<'a>> + '_ {
         (0..self.0.len()).filter_map(|place| self.0.arg(place))
     }

@@ -1,4 +1,4 @@
-//! Why calls are refused, and what is wrong with messages that came.
+//! Why calls are refused, and what is wrong with received messages.
 
 use crate::sys;
 use std::error::Error;
@@ -9,8 +9,8 @@ use std::io;
 #[derive(Clone, Copy, Debug, PartialEq, Eq)]
 #[non_exhaustive]
 pub enum NewError {
-    /// Sizes that no end can have: see [`Sizes`](crate::Sizes). Or a limit that no message has: see
-    /// [`Inspector::new`](crate::Inspector::new).
+    /// An end cannot have these sizes: see [`Sizes`](crate::Sizes). Or a message cannot have this limit:
+    /// see [`Inspector::new`](crate::Inspector::new).
     BadSizes,
     /// Out of memory.
     NoMemory,
@@ -25,14 +25,14 @@ pub enum TablesError {
         /// The first such line.
         line: usize,
     },
-    /// Every line has a form, and one breaks a rule of tables.
+    /// Every line has one of the forms, and a line breaks a rule of tables.
     BadTable {
         /// The first such line, counted from 1.
         line: usize,
-        /// The least rule that it breaks: 1 to 9 for V1 to V9, 11 for V11.
+        /// The lowest rule that it breaks: 1 to 9 for V1 to V9, 11 for V11.
         rule: u32,
     },
-    /// Of [`Client::more_tables`](crate::Client::more_tables) alone: the text has the first event by
+    /// Only from [`Client::more_tables`](crate::Client::more_tables): the text has the first event by
     /// which the server makes an object, and the client has no room for such objects.
     FirstServerObject,
     /// Out of memory.
@@ -61,13 +61,13 @@ pub enum SendError {
         /// The first such place.
         place: usize,
     },
-    /// No global of this name, interface and version was announced; or, of
-    /// [`Client::bind_unannounced`](crate::Client::bind_unannounced), the tables have no such interface
+    /// No global of this name, interface and version was announced. From
+    /// [`Client::bind_unannounced`](crate::Client::bind_unannounced): the tables have no such interface
     /// and version.
     BadBind,
     /// The message is longer than the end's limit ([`Sizes::limit`](crate::Sizes::limit)).
     TooLong,
-    /// The outbox has no room for it: take, and send again.
+    /// The outbox has no room for it: take, and then send again.
     Full,
     /// No more objects can be opened.
     NoIds,
@@ -75,9 +75,9 @@ pub enum SendError {
     NoMemory,
     /// The interface has no event that destroys its objects.
     NotDroppable,
-    /// A descriptor cannot be duplicated, as if the process has too many of them.
+    /// A descriptor cannot be duplicated, for example because the process has too many.
     NotDuplicated {
-        /// The error of the system, for [`std::io::Error::from_raw_os_error`].
+        /// The number of the system's error, for [`std::io::Error::from_raw_os_error`].
         error: i32,
     },
 }
@@ -88,11 +88,11 @@ pub enum SendError {
 pub enum GlobalError {
     /// The server has failed.
     Failed,
-    /// No interface and version that can be advertised.
+    /// This interface and version cannot be advertised.
     BadGlobal,
-    /// 1,024 globals were added in the server's life.
+    /// The server has added 1,024 globals in its life, the most that it can.
     TooMany,
-    /// The name was never given, or is withdrawn.
+    /// The name was never given to a global, or its global is withdrawn.
     NoSuchGlobal,
     /// Out of memory.
     NoMemory,
@@ -102,15 +102,15 @@ pub enum GlobalError {
 #[derive(Clone, Copy, Debug, PartialEq, Eq)]
 #[non_exhaustive]
 pub enum NextError {
-    /// The message that came is at fault. The end has failed for good; a server has written
-    /// wl_display.error, which is to be taken and sent.
+    /// The received message is at fault. The end has failed for good. A server has written
+    /// wl_display.error: take and send it.
     Fault(Fault),
     /// The end had failed before.
     Failed,
-    /// Out of memory for the object that the message opens. The message stays, and can be read again.
+    /// Out of memory for the object that the message makes. The message stays, and can be read again.
     NoMemory,
-    /// The server's outbox has no room for the delete_id of what the request destroys. The request
-    /// stays: take, and read again.
+    /// The server's outbox has no room for the delete_id of the object that the request destroys. The
+    /// request stays: take, and then read again.
     OutFull,
 }
 
@@ -118,20 +118,20 @@ pub enum NextError {
 #[derive(Clone, Copy, Debug, PartialEq, Eq)]
 pub struct NoMemory;
 
-/// The end has failed, and takes nothing in.
+/// The end has failed, and accepts no more bytes.
 #[derive(Clone, Copy, Debug, PartialEq, Eq)]
 pub struct Failed;
 
-/// What is wrong with a message that came.
+/// What is wrong with a received message.
 #[derive(Clone, Copy, Debug, PartialEq, Eq)]
 pub struct Fault {
     /// What it is.
     pub kind: FaultKind,
-    /// The byte of the stream at which the message begins.
+    /// Where the message begins in the stream, in bytes.
     pub offset: u64,
 }
 
-/// The kinds of faults. A place is that of the argument, counted from 0.
+/// The kinds of faults. `place` is the place of the argument, counted from 0.
 #[derive(Clone, Copy, Debug, PartialEq, Eq)]
 #[non_exhaustive]
 pub enum FaultKind {
@@ -168,7 +168,7 @@ pub enum FaultKind {
     TooManyObjects,
 }
 
-/// A number of the library's `waywire_status`.
+/// A value of the library's `waywire_status`.
 pub(crate) trait Status {
     /// The number, whose text says what is wrong.
     fn status(&self) -> u32;

@@ -1,4 +1,4 @@
-//! A session that others hold, judged while it goes on.
+//! Judges a session between a client and a server while it goes on.
 
 use crate::decoded::Decoded;
 use crate::error::{FaultKind, NewError, NoMemory};
@@ -17,8 +17,8 @@ pub enum Sender {
 
 /// Judges what passes between a client and a server, piece by piece, as it passes.
 ///
-/// It says of the pieces so far what the commands `waywire trace` and `waywire check` say of a
-/// recording of them. Its memory grows with the objects that are open and the bytes of messages that
+/// For the pieces so far, it says the same as the commands `waywire trace` and `waywire check` for a
+/// recording of them. Its memory grows with the number of open objects and the bytes of messages that
 /// are not whole yet, and not with the length of the session.
 ///
 /// ```
@@ -44,7 +44,7 @@ pub enum Sender {
 /// # }
 /// ```
 ///
-/// The lines are lent until the next piece or verdict. To keep them longer does not compile:
+/// The lines are lent until the next piece or verdict. Keeping them longer does not compile:
 ///
 /// ```compile_fail,E0502
 /// # use waywire::{Inspector, Sender, Tables};
@@ -57,10 +57,10 @@ pub enum Sender {
 ///
 /// # Following
 ///
-/// Beside its judging an inspector follows the messages one by one, judged or not: also those behind a
-/// message that breaks a rule, and those of interfaces that the tables lack. Nothing is guessed of
-/// these: an id whose object may be another since a message that could not be read has none that is
-/// known. For each piece call [`pass`](Inspector::pass) and [`follow`](Inspector::follow), and then
+/// Apart from judging, an inspector follows the messages one by one, also those after a message that
+/// breaks a rule, and those of interfaces that the tables lack. It guesses nothing: if a message could
+/// not be read, and may have put another object at an id, nothing is known of that id from then on.
+/// For each piece call [`pass`](Inspector::pass) and [`follow`](Inspector::follow), and then
 /// [`ahead`](Inspector::ahead) and [`go_past`](Inspector::go_past) until no message is in front.
 ///
 /// ```
@@ -88,29 +88,29 @@ pub enum Sender {
 pub struct Inspector(sys::Inspector);
 
 impl Inspector {
-    /// The limit where the two ends have not agreed on another: what a [`Client`](crate::Client) and a
-    /// [`Server`](crate::Server) have.
+    /// The limit unless both ends use another: the default of a [`Client`](crate::Client) and a
+    /// [`Server`](crate::Server).
     pub const USUAL_LIMIT: u32 = sys::USUAL_LIMIT;
 
     /// An inspector that has seen nothing.
     ///
-    /// `limit` is the most bytes that a message may have, its header counted: a multiple of 4 from
-    /// 4,096 to 65,532. Another is [`NewError::BadSizes`].
+    /// `limit` is the length of the longest message in bytes, with its header: a multiple of 4 from
+    /// 4,096 to 65,532. Any other limit is [`NewError::BadSizes`].
     pub fn new(tables: &Tables, limit: u32) -> Result<Inspector, NewError> {
         sys::Inspector::new(&tables.0, limit).map(Inspector)
     }
 
-    /// Judges the messages that a piece completes: bytes as they came from a sender, cut anywhere, and
+    /// Judges the messages that a piece completes. A piece is some bytes of a sender, cut anywhere, and
     /// the number of descriptors that came with them.
     ///
-    /// Behind a message that breaks a rule, and behind a wl_display.error, nothing more is judged and
-    /// no line is printed. Where memory runs out, the piece can be passed again.
+    /// After a message that breaks a rule, or a wl_display.error, nothing more is judged and no line is
+    /// printed. If memory runs out, pass the piece again.
     pub fn pass(&mut self, sender: Sender, bytes: &[u8], tokens: usize) -> Result<(), NoMemory> {
         self.0.pass(sender, bytes, tokens)
     }
 
-    /// The lines of the messages that the last piece completed, each ended by a line feed; none before
-    /// the first piece. A message that breaks a rule has no line.
+    /// The lines of the messages that the last piece completed, each ended by a line feed. Before the
+    /// first piece there are none. A message that breaks a rule has no line.
     pub fn lines(&self) -> &[u8] {
         self.0.lines()
     }
@@ -126,43 +126,44 @@ impl Inspector {
         self.0.judgement()
     }
 
-    /// How many messages were judged: the first so many of those that passed in both directions. All
-    /// of them are lawful.
+    /// How many messages were judged, in both directions. All of them are lawful, and they are the first
+    /// ones that passed.
     pub fn judged_count(&self) -> u64 {
         self.0.judged_count()
     }
 
-    /// Takes the bytes of a piece, behind those of the same sender that are not gone past.
+    /// Takes the bytes of a piece. They follow the bytes of the same sender that
+    /// [`go_past`](Inspector::go_past) has not passed yet.
     pub fn follow(&mut self, sender: Sender, bytes: &[u8]) -> Result<(), NoMemory> {
         self.0.follow(sender, bytes)
     }
 
-    /// The message in front of a sender's bytes, as soon as it is whole, or as its header's size is
-    /// none that a message may have.
+    /// The message in front of a sender's bytes, as soon as it is whole, or its header has a size that
+    /// no message may have.
     pub fn ahead(&self, sender: Sender) -> Option<Followed<'_>> {
         self.0.ahead(sender).map(Followed)
     }
 
     /// Goes past that message, if one is there: what it makes, destroys and frees is known from then
-    /// on. Behind one of a bad size no more messages of its sender are found. Where memory runs out,
+    /// on. After a message of a bad size, no more messages of its sender are found. If memory runs out,
     /// nothing has changed.
     pub fn go_past(&mut self, sender: Sender) -> Result<(), NoMemory> {
         self.0.go_past(sender)
     }
 
-    /// What is known of an id, behind the messages that were gone past.
+    /// What is known of an id, after the messages that [`go_past`](Inspector::go_past) has passed.
     pub fn object(&self, id: u32) -> Option<Known> {
         self.0.object(id)
     }
 
-    /// How many ids there are to ask for: of the client's range those below this number, of the
-    /// server's range so many from 0xff000000 on. No other id is known.
+    /// How many ids of a sender may be known: of the client, the ids below this number; of the server,
+    /// this many ids from 0xff000000 on. No other id is known.
     pub fn id_count(&self, maker: Sender) -> usize {
         self.0.id_count(maker)
     }
 
-    /// The newest version in which a global of this name was announced with this interface; `None`
-    /// stands for every interface that the tables lack.
+    /// The newest version in which a global of this name was announced with this interface; the
+    /// interface `None` stands for all interfaces that the tables lack.
     pub fn announced(&self, name: u32, interface: Option<Interface>) -> Option<u32> {
         Some(self.0.announced(name, interface)).filter(|&version| version != 0)
     }
@@ -175,11 +176,11 @@ pub enum Judgement {
     Lawful {
         /// How many requests were judged.
         requests: usize,
-        /// How many events were.
+        /// How many events were judged.
         events: usize,
-        /// Bytes of the client that are of no message that was judged.
+        /// Bytes of the client after its last judged message.
         left_to_server: usize,
-        /// Bytes of the server that are of none.
+        /// Bytes of the server after its last judged message.
         left_to_client: usize,
     },
     /// A message breaks a rule.
@@ -198,13 +199,13 @@ pub enum Judgement {
 /// What is known of an id.
 #[derive(Clone, Copy, Debug, PartialEq, Eq)]
 pub struct Known {
-    /// The number of the message that made the object; 0 of wl_display.
+    /// The number of the message that made the object; 0 for wl_display.
     pub birth: u64,
     /// The object's interface.
     pub interface: Interface,
     /// Its version.
     pub version: u32,
-    /// Whether it was destroyed, and its id is not free yet.
+    /// Whether it was destroyed while its id is not free yet.
     pub is_ending: bool,
 }
 
@@ -235,7 +236,7 @@ impl<'a> Followed<'a> {
         self.0.number()
     }
 
-    /// Its number among those of its sender, from 1, as a verdict counts.
+    /// Its number among those of its sender, from 1, as in a verdict.
     pub fn index(&self) -> usize {
         self.0.index()
     }
@@ -245,7 +246,7 @@ impl<'a> Followed<'a> {
         self.0.offset()
     }
 
-    /// Its bytes; all that came, if no message has its size.
+    /// Its bytes. If its size is one that no message may have, all bytes that came.
     pub fn bytes(&self) -> &'a [u8] {
         self.0.bytes()
     }
@@ -260,17 +261,17 @@ impl<'a> Followed<'a> {
         self.0.opcode()
     }
 
-    /// The bytes of the whole message, its header counted, as the header says.
+    /// The length of the whole message in bytes, as its header says.
     pub fn size(&self) -> u16 {
         self.0.size()
     }
 
-    /// The object that it is for, as it is known before the message.
+    /// The object that it is for, as known before the message.
     pub fn object(&self) -> Option<Known> {
         self.0.object()
     }
 
-    /// Whether its object is known, the tables have it, and it names no object that is not known.
+    /// Whether its object is known, the tables have the message, and it names only known objects.
     pub fn is_read(&self) -> bool {
         self.0.is_read()
     }
@@ -290,19 +291,19 @@ impl<'a> Followed<'a> {
         self.0.deleted()
     }
 
-    /// How many descriptors a message that was read takes.
+    /// How many descriptors it has, if it was read.
     pub fn descriptor_count(&self) -> usize {
         self.0.descriptor_count()
     }
 
-    /// The message with its name and its arguments, taken apart by the inspector's tables and what is
-    /// known of its object. `None` if nothing is known of that.
+    /// The message with its name and its arguments, decoded with the inspector's tables and what is
+    /// known of its object. `None` if nothing is known of the object.
     pub fn decoded(&self) -> Option<Decoded<'a>> {
         self.0.decoded().map(Decoded)
     }
 }
 
-/// Whether a session breaks a rule, as a text: lent from its inspector.
+/// The verdict on a session as a text, lent from its inspector.
 ///
 /// It is displayed without the line feed.
 #[derive(Clone, Copy, Debug, PartialEq, Eq)]
@@ -317,7 +318,7 @@ impl<'a> Verdict<'a> {
         self.line
     }
 
-    /// Whether a message breaks a rule, which the line names.
+    /// Whether a message breaks a rule; the line names that rule.
     pub fn is_broken(&self) -> bool {
         self.is_broken
     }

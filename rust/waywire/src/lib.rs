@@ -2,11 +2,11 @@
 //!
 //! The ends of libwaywire are proved: whatever requests and events two of them write, in whatever
 //! order, and however the bytes between them are cut, each reads exactly the messages that the other
-//! wrote, and every object in them arrives as the one that its writer meant. This holds of two ends
-//! that begin together and keep their tables, over a transport that keeps order and descriptors in
-//! step, up to the first error that the server posts. What the calls of C add to these ends is proved in part, and this
-//! crate, which gives them Rust's types, is tested. It has no dependency, and looks for the library
-//! by pkg-config or `WAYWIRE_DIR`.
+//! wrote, and every object in them arrives as the one that its writer meant. This holds for two ends
+//! that begin together and keep their tables, with a transport that delivers bytes in order and each
+//! descriptor in time, up to the first error that the server posts. What the C calls add to these ends
+//! is proved in part. This crate adds Rust's types, and is tested. It has no dependency, and finds the
+//! library by pkg-config or `WAYWIRE_DIR`.
 //!
 //! # The loop
 //!
@@ -18,8 +18,8 @@
 //! 3. [`feed`](Connection::feed) takes in what came from the socket, in any cut.
 //! 4. [`next`](Client::next) reads one message, until it returns `None`.
 //!
-//! [`socket`] does 2 and 3 with a Unix socket: a [`socket::Link`] is an end with its socket. The event
-//! loop is yours.
+//! [`socket`] does steps 2 and 3 with a Unix socket: a [`socket::Link`] is an end with its socket. The
+//! event loop is yours.
 //!
 //! ```
 //! use waywire::{Arg, Client, Incoming, Server, Sizes, Tables, Value, event, request};
@@ -38,7 +38,7 @@
 //! server.feed(&bytes[..taken.bytes], &mut descriptors)?;
 //! let asked = server.next()?.expect("a whole request came");
 //! assert_eq!(asked.opcode(), request::wl_display::SYNC);
-//! // Each end names its own objects: this one is the server's, which stands for the client's.
+//! // Each end names its own objects: this one is the server's, for the same object as the client's.
 //! let Some(Value::NewId(made)) = asked.args().next() else { panic!("sync makes an object") };
 //!
 //! server.send(made, event::wl_callback::DONE, &[Arg::Uint(7)])?;
@@ -59,16 +59,16 @@
 //! - **Sent.** A call lends its descriptor ([`Arg::Fd`]; typed calls take `impl AsFd`). The end sends a
 //!   duplicate, and closes that once it has gone, or at once if the call is refused.
 //! - **Received.** A typed handler gets each descriptor as an [`OwnedFd`](std::os::fd::OwnedFd);
-//!   [`Message::take_descriptor`] and [`Message::into_owned`] take them, too. What nobody takes is closed
-//!   when the end reads on, also if that brings no message.
+//!   [`Message::take_descriptor`] and [`Message::into_owned`] take them, too. A descriptor that nobody takes
+//!   is closed at the end's next `next`, whether or not that reads a message.
 //! - **Waiting.** What waits in an end is closed when the end is dropped.
 //!
 //! # Typed calls
 //!
 //! [`wayland`] has a type for the objects of each interface of the core, with a method for each of its
-//! messages; `stubs-from-xml --rust` makes such modules for other protocols. What comes is dispatched to a
-//! handler, the [`Events`](wayland::wl_callback::Events) of an interface at a client and the
-//! [`Requests`](wayland::wl_display::Requests) at a server.
+//! messages; `stubs-from-xml --rust` makes such modules for other protocols. Incoming messages are dispatched
+//! to a handler: to the [`Events`](wayland::wl_callback::Events) of an interface at a client, and to the
+//! [`Requests`](wayland::wl_display::Requests) of an interface at a server.
 //!
 //! ```
 //! use waywire::wayland::wl_callback::{self, WlCallback};
@@ -84,10 +84,10 @@
 //!     }
 //! }
 //!
-//! // By the interface of its object, each request goes to one of these `Requests`.
+//! // Each request goes to the `Requests` of its object's interface.
 //! waywire::request_handler!(['a] Answering<'a>: wl_display);
 //!
-//! /// What the last callback said.
+//! /// The data of the last callback.
 //! struct Told(u32);
 //!
 //! impl wl_callback::Events for Told {
@@ -121,8 +121,8 @@
 //! # }
 //! ```
 //!
-//! A handler's method that is not written does nothing. While `next` lends a message its end cannot be
-//! used; [`Message::into_owned`] copies it, as above, so that it can.
+//! A method that you do not write does nothing. While `next` lends a message, the end cannot be used. To use
+//! it in the handler, dispatch a copy, as above: [`Message::into_owned`].
 //!
 //! # Loans
 //!
@@ -139,8 +139,8 @@
 //!
 //! # Threads
 //!
-//! Any threads use [`Tables`] at once. An end, or an [`Inspector`], may go to another thread ([`Send`]), and
-//! is used by one at a time: it is not [`Sync`].
+//! Any number of threads may use [`Tables`] at the same time. An end or an [`Inspector`] may move to another
+//! thread ([`Send`]), but only one thread at a time uses it: it is not [`Sync`].
 //!
 //! ```
 //! # use waywire::{Client, Sizes, Tables};

@@ -7,14 +7,14 @@ use crate::typed::Readable;
 use std::os::fd::{AsFd, OwnedFd};
 
 /// A message in memory of its own, with its descriptors. While an end lends a message, the end cannot be
-/// used; while this is read, it can. Its descriptors are closed when it is dropped.
+/// used; with an owned message, it can. Its descriptors are closed when it is dropped.
 #[derive(Debug)]
 pub struct OwnedMessage {
     /// The object that it is for.
     pub target: Object,
     /// The interface of that object.
     pub interface: Interface,
-    /// The version that the object has.
+    /// The version of that object.
     pub version: u32,
     /// Which message of the interface it is.
     pub opcode: u16,
@@ -63,7 +63,7 @@ impl OwnedValue {
         })
     }
 
-    /// The same, lent, but for its descriptor, which is taken out.
+    /// The same, lent, except for its descriptor, which is taken out.
     pub(crate) fn taken(&mut self) -> Value<'_, OwnedFd> {
         let fd = match self {
             OwnedValue::Fd(fd) => fd.take(),
@@ -110,7 +110,7 @@ impl From<Value<'_, OwnedFd>> for OwnedValue {
 }
 
 impl Message<'_> {
-    /// The same in memory of its own, with its descriptors, so that the end can be used while it is read.
+    /// A copy in memory of its own, with the descriptors, so that the end can be used while you read it.
     pub fn into_owned(mut self) -> OwnedMessage {
         OwnedMessage {
             target: self.target(),

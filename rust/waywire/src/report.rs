@@ -1,4 +1,4 @@
-//! What ends read.
+//! The messages that an end reads.
 
 use crate::args::Args;
 use crate::inspector::Sender;
@@ -10,7 +10,7 @@ use std::os::fd::{AsFd, BorrowedFd, OwnedFd};
 /// A message that was read: its target, its opcode and its arguments. Lent from the end.
 ///
 /// Its arguments lend its descriptors, and [`take_descriptor`](Message::take_descriptor) takes one out.
-/// Those that nobody takes are closed when the end reads on, or with the end.
+/// Descriptors that nobody takes are closed when the end reads on, or with the end.
 pub struct Message<'a> {
     pub(crate) reading: &'a mut sys::Reading,
 }
@@ -38,13 +38,13 @@ impl<'a> Message<'a> {
         self.report().target()
     }
 
-    /// Its target's interface, also where the message destroyed the target.
+    /// Its target's interface, also if the message destroyed the target.
     #[inline]
     pub fn interface(&self) -> Interface {
         self.report().interface()
     }
 
-    /// The version that its target has.
+    /// The version of its target.
     #[inline]
     pub fn version(&self) -> u32 {
         self.report().version()
@@ -56,15 +56,15 @@ impl<'a> Message<'a> {
         self.report().opcode()
     }
 
-    /// What was set for its target by [`Connection::set_user`](crate::Connection::set_user), also
-    /// where the message destroyed the target; else 0.
+    /// The number that [`Connection::set_user`](crate::Connection::set_user) set for its target, also if
+    /// the message destroyed the target; otherwise 0.
     #[inline]
     pub fn user(&self) -> usize {
         self.report().user()
     }
 
-    /// The live object whose id an event's new object has taken over: [`Client::replaced`](crate::Client::replaced).
-    /// A request has none.
+    /// The live object that the event's new object replaced: [`Client::replaced`](crate::Client::replaced).
+    /// A request replaces none.
     #[inline]
     pub fn replaced(&self) -> Option<Replaced> {
         self.report().replaced()
@@ -85,7 +85,7 @@ impl<'a> Message<'a> {
         Args::of(self.reading)
     }
 
-    /// Its descriptors that were not taken, in order: the same as are in its arguments.
+    /// Those of its descriptors that were not taken, in order: the same as in its arguments.
     pub fn descriptors(&self) -> impl Iterator<Item = BorrowedFd<'_>> {
         self.reading.held().iter().flatten().map(AsFd::as_fd)
     }
@@ -97,8 +97,8 @@ impl<'a> Message<'a> {
 
     /// Its line, as `waywire trace` prints it: `<- wl_surface@4.enter(wl_output@7)`. `sender` is who wrote it.
     ///
-    /// It knows less than a trace: it has `unknown@id` for an object whose interface the signature leaves open,
-    /// and the number of a descriptor.
+    /// It differs from a trace in two ways: an object whose interface the signature leaves open is
+    /// `unknown@id`, and a descriptor has its own number.
     pub fn line(&self, tables: &Tables, sender: Sender) -> String {
         self.report().line(&tables.0, sender)
     }
@@ -116,12 +116,12 @@ impl fmt::Debug for Message<'_> {
     }
 }
 
-/// A live object whose id a new object has taken over. It is gone, and no later message names it.
+/// A live object that a new object with its id has replaced. It is gone, and no later message names it.
 #[derive(Clone, Copy, Debug, PartialEq, Eq)]
 pub struct Replaced {
     /// The object.
     pub object: Object,
-    /// What was set for it by [`Connection::set_user`](crate::Connection::set_user); else 0.
+    /// The number that [`Connection::set_user`](crate::Connection::set_user) set for it; otherwise 0.
     pub user: usize,
 }
 
@@ -131,14 +131,14 @@ pub struct Replaced {
 pub enum Incoming<'a> {
     /// An event for a live object.
     Event(Event<'a>),
-    /// An event for an object that the client has destroyed, without its arguments. If it has made an
-    /// object, that is open: [`Client::made`](crate::Client::made). It may have replaced one:
+    /// An event for an object that the client has destroyed; its arguments are left out. If it made an
+    /// object, that object is open: [`Client::made`](crate::Client::made). It may have replaced one:
     /// [`Client::replaced`](crate::Client::replaced).
     Discarded(Event<'a>),
     /// wl_display.delete_id: the object is gone, and its id is free again.
     Deleted(Object),
-    /// wl_display.delete_id of an id that names no object, of 1, or of one of the server's. Nothing has
-    /// changed.
+    /// wl_display.delete_id for an id that names no object, for 1, or for an id of the server. Nothing
+    /// has changed.
     Stray {
         /// The id.
         id: u32,
@@ -147,14 +147,14 @@ pub enum Incoming<'a> {
     Error(ProtocolError<'a>),
 }
 
-/// What wl_display.error says.
+/// The contents of wl_display.error.
 #[derive(Clone, Copy, Debug, PartialEq, Eq)]
 pub struct ProtocolError<'a> {
     /// The id of the object that it is about.
     pub id: u32,
-    /// That object, where the client knows it.
+    /// That object, if the client knows it.
     pub named: Named,
-    /// A number whose meaning the object's interface gives.
+    /// Its code, whose meaning depends on the object's interface.
     pub code: u32,
     /// The text, which need not be UTF-8.
     pub text: &'a [u8],
@@ -179,7 +179,7 @@ impl fmt::Display for ProtocolError<'_> {
 }
 
 impl<'a> Incoming<'a> {
-    /// What a report says, `None` where no whole message waits.
+    /// What a report says; `None` if no whole message waits.
     #[inline]
     pub(crate) fn of(reading: &'a mut sys::Reading) -> Option<Incoming<'a>> {
         let report = reading.report();

@@ -7,17 +7,17 @@ use crate::report::{Message, Request};
 use crate::sys;
 use crate::tables::{Interface, Object, Tables};
 
-/// The server's end of one connection: its objects, its inbox and outbox, the globals it
+/// The server's end of one connection: its objects, its inbox and outbox, and the globals that it
 /// advertises. [`Connection`] has the calls that a client has too.
 pub type Server = Connection<AsServer>;
 
 impl Server {
-    /// A server with wl_display alone, empty queues and no globals.
+    /// A server that has only wl_display, with an empty inbox, an empty outbox and no globals.
     pub fn new(tables: &Tables, sizes: &Sizes) -> Result<Server, NewError> {
         sys::End::new_server(&tables.0, sizes).map(|end| Connection::of(end, tables))
     }
 
-    /// Adds a global and returns its name. [`announce`](Server::announce) tells it.
+    /// Adds a global and returns its name. [`announce`](Server::announce) writes it to the registries.
     pub fn add_global(&mut self, interface: Interface, version: u32) -> Result<u32, GlobalError> {
         self.end.add_global(interface.0, version)
     }
@@ -27,28 +27,28 @@ impl Server {
         self.end.withdraw(name)
     }
 
-    /// Writes to the open registries what they have not been told yet, as far as it fits, and
-    /// returns how many events that were. Call it after a request has made a registry, after a
-    /// change of the globals, and after a take where not all had fitted.
+    /// Writes to each open registry which globals were added or withdrawn since the last call, as far
+    /// as the events fit, and returns how many events it wrote. Call it after a request has made a
+    /// registry, after a change of the globals, and after a take if not all events had fitted.
     pub fn announce(&mut self) -> Result<usize, SendError> {
         self.end.announce()
     }
 
-    /// Ends an object without its event, as a callback that nobody waits for.
+    /// Ends an object without its event, such as a callback that nobody waits for.
     pub fn drop_object(&mut self, object: Object) -> Result<(), SendError> {
         self.end.drop_object(object)
     }
 
-    /// Ends the connection with wl_display.error about an object. Of the text at most 40 bytes are
-    /// written, and all before a NUL. The server has failed afterwards: take what waits and send
+    /// Ends the connection with wl_display.error about an object. At most 40 bytes of the text are
+    /// written, and nothing from a NUL on. The server has failed afterwards: take what waits, and send
     /// it.
     pub fn post_error(&mut self, object: Object, code: u32, text: &str) -> Result<(), SendError> {
         self.end.post_error(object, code, text)
     }
 
-    /// Reads the next request; `None` while none is whole. An object that it destroys is closed,
-    /// and if the client made it, its delete_id is written at once. It allocates only for an object
-    /// that the request makes.
+    /// Reads the next request; `None` if no request is whole. An object that the request destroys is
+    /// closed; if the client made it, its delete_id is written at once. Memory is allocated only for an
+    /// object that the request makes.
     // Not an iterator's: what it returns is lent from the server.
     #[inline]
     #[allow(clippy::should_implement_trait)]

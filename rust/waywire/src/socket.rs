@@ -1,10 +1,12 @@
 //! A Unix socket for an end: connecting, listening, and the bytes and descriptors of a [`Link`].
 //!
-//! Over the calls of `waywire-socket.h`. Every descriptor that is made here is close-on-exec. No call
-//! makes a signal: a socket whose other end is closed is an error, [`io::ErrorKind::BrokenPipe`]. Only
-//! [`wait`], [`wait_many`], [`Link::wait`], [`Link::dispatch`] and [`Link::round_trip`] wait, each no
-//! longer than it is told; [`Listener::accept_next`] waits for a client, and [`connect`] while the
-//! other end has too many clients that it has not accepted yet.
+//! This module uses the calls of `waywire-socket.h`. Every descriptor that it makes is close-on-exec. No
+//! call raises a signal: if the other end of a socket is closed, the error is
+//! [`io::ErrorKind::BrokenPipe`].
+//!
+//! [`wait`], [`wait_many`], [`Link::wait`], [`Link::dispatch`] and [`Link::round_trip`] wait, each at most
+//! as long as its limit says. [`Listener::accept_next`] waits for a client. [`connect`] waits if the
+//! compositor has too many clients that it has not accepted. No other call waits.
 
 use crate::connection::{AsClient, Connection};
 use crate::report::{Incoming, ProtocolError};
@@ -92,9 +94,9 @@ fn inherited(number: &OsStr) -> io::Result<OwnedFd> {
     sys::inherited(number.ok_or(ErrorKind::InvalidInput)?)
 }
 
-/// Sends bytes, and descriptors with the first of them, which stay open here. Returns how many bytes went.
-/// It does not wait: [`io::ErrorKind::WouldBlock`]. More than 253 descriptors are an error, and an end at
-/// the other side receives no more than [`MOST_DESCRIPTORS`] at once.
+/// Sends bytes, and the descriptors together with the first byte. The descriptors stay open here. Returns
+/// how many bytes were sent. It does not wait: [`io::ErrorKind::WouldBlock`]. More than 253 descriptors are
+/// an error, and an end at the other side receives at most [`MOST_DESCRIPTORS`] at once.
 pub fn send(
     socket: impl AsFd,
     parts: [&[u8]; 2],
@@ -104,7 +106,7 @@ pub fn send(
 }
 
 /// Receives bytes into the parts, and appends the descriptors that came with them, at most
-/// [`MOST_DESCRIPTORS`]. Returns how many bytes came, 0 at the end of the stream. It does not wait:
+/// [`MOST_DESCRIPTORS`]. Returns how many bytes came; 0 is the end of the stream. It does not wait:
 /// [`io::ErrorKind::WouldBlock`]. If the process may open no more descriptors, or more came at once, bytes
 /// and descriptors are lost: close the socket.
 pub fn receive(
@@ -115,10 +117,10 @@ pub fn receive(
     sys::receive(socket.as_fd(), parts, descriptors)
 }
 
-/// Waits until one of these can be read, or, if its flag is set, be written: at most so long, and without
-/// `limit` as long as it takes. Says which of them can.
+/// Waits until one of these sockets can be read or, if its flag is set, be written. Returns which of them
+/// can. It waits at most for `limit`; `None` is no limit.
 ///
-/// A loop over two links: `wait([a.awaited(), b.awaited()], None)`.
+/// For two links: `wait([a.awaited(), b.awaited()], None)`.
 pub fn wait<const N: usize>(
     sockets: [(BorrowedFd<'_>, bool); N],
     limit: Option<Duration>,
@@ -128,7 +130,7 @@ pub fn wait<const N: usize>(
     Ok(polled.map(|it| it.is_ready()))
 }
 
-/// The same for any number of sockets, as those of a server's clients.
+/// The same for any number of sockets, such as those of a server's clients.
 pub fn wait_many<'a>(
     sockets: impl IntoIterator<Item = (BorrowedFd<'a>, bool)>,
     limit: Option<Duration>,
@@ -148,7 +150,7 @@ fn poll(polled: &mut [Pollfd], limit: Option<Duration>) -> io::Result<()> {
     }
 }
 
-/// When waiting ends; `None` is never.
+/// When waiting ends; `None` means never.
 #[derive(Clone, Copy)]
 struct Deadline(Option<Instant>);
 
@@ -178,9 +180,9 @@ impl Deadline {
 pub struct Listener(sys::Listening);
 
 impl Listener {
-    /// Listens under a name, as `wl_display_add_socket` does: a path, if it begins with a slash, else a
-    /// name in `XDG_RUNTIME_DIR`. `None` takes the first of wayland-1 to wayland-32 that is free. A
-    /// socket that was left by a server that is gone is replaced.
+    /// Listens under a name, as `wl_display_add_socket` does. A name that begins with a slash is a path,
+    /// and any other name is one in the folder `XDG_RUNTIME_DIR`. `None` takes the first free name of
+    /// wayland-1 to wayland-32. A socket left behind by a server that is gone is replaced.
     pub fn bind(name: Option<&Path>) -> io::Result<Listener> {
         sys::Listening::new(name.map(Path::as_os_str)).map(Listener)
     }
@@ -214,15 +216,15 @@ impl AsFd for Listener {
     }
 }
 
-/// An end and its socket. It is used as its end is.
+/// An end and its socket. It has all calls of its end.
 ///
-/// Dropping it sends what still waits, as far as the socket takes it at once, ends the connection, and
-/// closes the descriptors that wait.
+/// Dropping it sends what still waits, as far as the socket takes it without waiting. It then ends the
+/// connection, and closes the descriptors that wait.
 ///
-/// For a loop of your own: [`flush`](Link::flush), wait for what [`awaited`](Link::awaited) says,
-/// [`fill`](Link::fill), and read all messages. If a server's `next` is
-/// [`OutFull`](crate::NextError::OutFull), its client does not read: do not fill before a flush has sent
-/// something, or end the client.
+/// For a loop of your own: [`flush`](Link::flush), wait for what [`awaited`](Link::awaited) returns,
+/// [`fill`](Link::fill), and read all messages. If a server's `next` returns
+/// [`OutFull`](crate::NextError::OutFull), its client does not read: end the client, or do not fill before
+/// a flush has sent something.
 #[derive(Debug)]
 pub struct Link<R> {
     end: Connection<R>,
@@ -259,12 +261,12 @@ impl<R> Drop for Link<R> {
     }
 }
 
-/// What came of waiting.
+/// The result of waiting.
 #[derive(Clone, Copy, Debug, PartialEq, Eq)]
 pub enum Came {
     /// Bytes, which may be a whole message.
     Something,
-    /// Nothing in the time.
+    /// Nothing, within the time.
     Nothing,
     /// The other end has closed the connection.
     End,
@@ -277,8 +279,8 @@ pub fn has_gone(error: &io::Error) -> bool {
 }
 
 impl<R> Link<R> {
-    /// An end, and the socket by which it is connected. The inbox of the end needs room for
-    /// [`MOST_DESCRIPTORS`] tokens: nothing is received otherwise.
+    /// A link of an end and its connected socket. The inbox of the end needs room for
+    /// [`MOST_DESCRIPTORS`] tokens; otherwise nothing is received.
     pub fn new(end: Connection<R>, socket: UnixStream) -> Link<R> {
         Link { end, socket }
     }
@@ -288,7 +290,7 @@ impl<R> Link<R> {
         &self.socket
     }
 
-    /// The socket, and whether something waits to be sent: what [`wait`] takes.
+    /// The socket, and whether something waits to be sent: an argument for [`wait`].
     pub fn awaited(&self) -> (BorrowedFd<'_>, bool) {
         (self.as_fd(), self.wants_write())
     }
@@ -298,8 +300,8 @@ impl<R> Link<R> {
         self.end.goes(1, MOST_DESCRIPTORS).bytes > 0
     }
 
-    /// Sends what waits, also at a failed end, and closes the descriptors that went. It does not wait:
-    /// false if the socket takes no more now. What has not gone still waits.
+    /// Sends what waits, also at a failed end, and closes the descriptors that were sent. It does not wait:
+    /// it returns false if the socket takes no more now. What was not sent still waits.
     pub fn flush(&mut self) -> io::Result<bool> {
         match self.end.end.flush(self.socket.as_fd()) {
             Err(error) if error.kind() == ErrorKind::WouldBlock => Ok(false),
@@ -308,9 +310,12 @@ impl<R> Link<R> {
     }
 
     /// Receives once. Read all messages before. It does not wait: [`Came::Nothing`] if nothing is there
-    /// yet. Errors are those of the socket; that the inbox has no room, as if descriptors came that belong
-    /// to no message; and that the end has failed. If the process may open no more descriptors, or more
-    /// than [`MOST_DESCRIPTORS`] came at once, some are lost, and the end has failed afterwards.
+    /// yet.
+    ///
+    /// It returns the errors of the socket, an error if the inbox has no room, for example because
+    /// descriptors came that belong to no message, and an error if the end has failed. If the process may
+    /// open no more descriptors, or more than [`MOST_DESCRIPTORS`] came at once, some are lost, and the end
+    /// has failed afterwards.
     pub fn fill(&mut self) -> io::Result<Came> {
         match self.end.end.fill(self.socket.as_fd()) {
             Ok(0) => Ok(Came::End),
@@ -325,8 +330,8 @@ impl<R> Link<R> {
         }
     }
 
-    /// Sends what the socket takes, and says whether something still waits. If the other end has gone,
-    /// it may have said why, so that is no error here.
+    /// Sends what the socket takes, and returns whether something still waits. It is no error here if the
+    /// other end has gone: what it said before can still be read.
     fn is_stuck(&mut self) -> io::Result<bool> {
         match self.flush() {
             Err(error) if has_gone(&error) => Ok(false),
@@ -334,8 +339,8 @@ impl<R> Link<R> {
         }
     }
 
-    /// Sends what waits, and waits until something comes: at most so long, and without `limit` as long as
-    /// it takes. Read all messages before. What waits goes on being sent meanwhile.
+    /// Sends what waits, and waits until something comes, at most for `limit`; `None` is no limit. Read all
+    /// messages before. While it waits, it goes on sending.
     pub fn wait(&mut self, limit: Option<Duration>) -> io::Result<Came> {
         let until = Deadline::of(limit);
         loop {
@@ -350,15 +355,15 @@ impl<R> Link<R> {
     }
 }
 
-/// What wl_display.error says, by which the compositor has ended the connection. It is inside the
+/// The wl_display.error with which the compositor has ended the connection. It is inside the
 /// [`io::Error`] of [`Link::dispatch`] and [`Link::round_trip`].
 #[derive(Clone, Debug, PartialEq, Eq)]
 pub struct PostedError {
     /// The id of the object that it is about.
     pub id: u32,
-    /// A number whose meaning the object's interface gives.
+    /// Its code, whose meaning depends on the object's interface.
     pub code: u32,
-    /// All of it in English.
+    /// The whole error in words.
     pub text: String,
 }
 
@@ -377,16 +382,15 @@ impl From<ProtocolError<'_>> for PostedError {
 }
 
 impl Link<AsClient> {
-    /// Gives the handler the events that were read. If there are none, waits for some: at most so long,
-    /// and without `limit` as long as it takes. Returns how many messages there were, 0 if the time is
-    /// over.
+    /// Gives the events that were read to the handler. If there are none, it waits for some, at most for
+    /// `limit`; `None` is no limit. Returns how many messages there were, 0 if the time is over.
     ///
-    /// An event that the handler does not take is dropped, with its descriptors closed. An object that
-    /// such an event has made stays open, and so does one of a discarded event. The handler is not told
-    /// which objects end: if you keep data for objects, read with `next` yourself. An error ends the
-    /// connection:
-    /// [`UnexpectedEof`](io::ErrorKind::UnexpectedEof) if the compositor has closed it, [`PostedError`],
-    /// or [`NextError`](crate::NextError).
+    /// If the handler does not take an event, its descriptors are closed. An object that this event has
+    /// made stays open, as does the object of a discarded event. The handler does not learn which objects
+    /// end: if you keep data for objects, read with `next` yourself.
+    ///
+    /// An error ends the connection: [`UnexpectedEof`](io::ErrorKind::UnexpectedEof) if the compositor has
+    /// closed it, [`PostedError`], or [`NextError`](crate::NextError).
     pub fn dispatch(
         &mut self,
         handler: &mut impl EventHandler,
@@ -402,8 +406,10 @@ impl Link<AsClient> {
     }
 
     /// Dispatches until the compositor has read all that was written before (wl_display.sync). The
-    /// handler is not given the event of the sync. [`TimedOut`](io::ErrorKind::TimedOut) if that takes
-    /// longer than `limit`; [`SendError`](crate::SendError) if the sync cannot be written; other errors as
+    /// handler does not get the event of the sync.
+    ///
+    /// The error is [`TimedOut`](io::ErrorKind::TimedOut) if that takes longer than `limit`, and
+    /// [`SendError`](crate::SendError) if the sync cannot be written. The other errors are those of
     /// [`dispatch`](Link::dispatch).
     pub fn round_trip(
         &mut self,
@@ -424,7 +430,7 @@ impl Link<AsClient> {
         Ok(())
     }
 
-    /// Waits until something comes; false if the time is over.
+    /// Waits until something comes. False if the time is over.
     fn waits(&mut self, until: Deadline) -> io::Result<bool> {
         match self.wait(until.left())? {
             Came::Something => Ok(true),

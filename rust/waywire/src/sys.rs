@@ -1,5 +1,5 @@
-//! The calls of waywire.h, and what makes them safe. This module, with those below it, is
-//! the only one with `unsafe` in it.
+//! The calls of waywire.h, and what makes them safe. Only this module, with those below it, has
+//! `unsafe` in it.
 //!
 //! The declarations are those of the header: a test compares sizes, offsets and numbers with what a
 //! program in C says of it. What the header asks of every call is kept by the types here:
@@ -152,7 +152,7 @@ const NO_ARG: RawArg =
     RawArg { kind: 0, i: 0, u: 0, object: Object::NONE, bytes: ptr::null(), length: 0 };
 
 impl RawArg {
-    /// An argument of a call, which is read before its slices end. A descriptor is that of the caller.
+    /// An argument of a call. It must not outlive its slices. A descriptor is the caller's.
     #[inline]
     fn of(arg: &Arg<'_>) -> RawArg {
         let with_bytes = |kind, bytes: &[u8]| RawArg {

@@ -1,16 +1,16 @@
-//! The interfaces that ends know, and the objects that are of them.
+//! The interfaces that ends know, and their objects.
 
 use crate::error::{NewError, TablesError};
 use crate::inspector::Sender;
 use crate::sys;
 use std::fmt;
 
-/// An object: its id, and its birth, which tells it from every other object that ever had this id.
+/// An object: its id and its birth. Only both together identify it, since ids are used again.
 ///
-/// It is a plain value. Every call refuses an object that is gone, so one that is kept too long does
-/// no harm. The client makes objects with ids from 1 on, the server with ids from 0xff000000 on, and
-/// each end counts the births of both ranges apart. Keep an object with its end, since no call can tell
-/// it from an object of another connection.
+/// It is a plain value. Every call refuses an object that is gone, so a value that is kept too long does
+/// no harm. The client makes objects with ids from 1 on, the server with ids from 0xff000000 on, and each
+/// end counts the births of both ranges separately. Keep an object together with its end, since no call
+/// can distinguish it from an object of another connection.
 #[derive(Clone, Copy, PartialEq, Eq, Hash, PartialOrd, Ord)]
 #[repr(C)]
 pub struct Object {
@@ -24,7 +24,7 @@ impl Object {
         self.id
     }
 
-    /// The number of the object among all that its end ever had, wl_display being 0.
+    /// The number of the object among all objects of its range that its end ever had; wl_display is 0.
     pub fn birth(self) -> u64 {
         self.birth
     }
@@ -44,8 +44,8 @@ pub struct Interface(pub(crate) u16);
 
 /// The interfaces, with the signatures of their messages.
 ///
-/// They never change, and any threads use them at once: make them once (some 19 KB) for all ends, which
-/// keep them as long as they need them. A clone is of the same tables.
+/// They never change, and any number of threads may use them at the same time. Make them once (some 19 KB)
+/// for all ends, which keep them as long as they need them. A clone refers to the same tables.
 #[derive(Clone, Debug)]
 pub struct Tables(pub(crate) sys::Tables);
 
@@ -55,9 +55,9 @@ impl Tables {
         sys::Tables::core().map(Tables)
     }
 
-    /// These interfaces, and behind them those that a text declares.
+    /// These interfaces, followed by those that a text declares.
     ///
-    /// `waywire-tables-from-xml` writes such a text of a protocol's XML.
+    /// `waywire-tables-from-xml` makes such a text from the XML of a protocol.
     ///
     /// ```
     /// # use waywire::{Tables, TablesError};
@@ -72,23 +72,24 @@ impl Tables {
         self.0.read(text).map(Tables)
     }
 
-    /// The interface of a name.
+    /// The interface of this name.
     pub fn interface(&self, name: &str) -> Option<Interface> {
         self.0.interface(name).map(Interface)
     }
 
-    /// The name of an interface. `None` for one of other tables, past these.
+    /// The name of an interface. `None` if it is from larger tables, and these do not have its place.
     pub fn name(&self, interface: Interface) -> Option<&str> {
         self.0.name(interface.0)
     }
 
-    /// The newest version of an interface. `None` for one of other tables, past these.
+    /// The newest version of an interface. `None` if it is from larger tables, and these do not have its
+    /// place.
     pub fn version(&self, interface: Interface) -> Option<u32> {
         self.0.version(interface.0)
     }
 
     /// The message of an interface with this opcode: a request or an event, depending on the sender. `None`
-    /// where there is none.
+    /// if there is no such message.
     ///
     /// ```
     /// # use waywire::{request, ArgKind, Destroys, Sender, Tables};
@@ -136,7 +137,7 @@ pub enum Destroys {
     },
 }
 
-/// The kind of an argument. An interface that is `None` stands for any.
+/// The kind of an argument. The interface `None` stands for any interface.
 #[derive(Clone, Copy, Debug, PartialEq, Eq)]
 pub enum ArgKind {
     /// A signed number.

@@ -1,4 +1,4 @@
-//! What typed calls stand on: the modules that `stubs-from-xml --rust` makes, as [`wayland`](crate::wayland).
+//! What typed calls use, in modules of `stubs-from-xml --rust` such as [`wayland`](crate::wayland).
 
 use crate::args::{Arg, Args, Fixed, TakenArgs, Value};
 use crate::client::Client;
@@ -11,8 +11,8 @@ use std::os::fd::OwnedFd;
 
 /// An object whose interface the compiler knows.
 ///
-/// It is a plain value, as [`Object`] is, and may be made of any object: which interface that really has,
-/// the end knows, and it goes by that.
+/// It is a plain value, as [`Object`] is, and can be made from any object. The end knows which interface
+/// the object really has, and checks each call by that.
 pub trait Handle: Copy {
     /// The name of the interface.
     const NAME: &'static str;
@@ -34,7 +34,7 @@ pub trait Readable {
     /// Its target's interface.
     fn interface(&self) -> Interface;
 
-    /// Which message of that it is.
+    /// Which message of that interface it is.
     fn opcode(&self) -> u16;
 
     /// Its arguments, in order. They lend its descriptors.
@@ -94,20 +94,20 @@ impl Readable for OwnedMessage {
     }
 }
 
-/// What is given the events of a client. [`event_handler!`](crate::event_handler) makes a type with the
-/// `Events` of some interfaces such a handler.
+/// A handler for the events that a client reads. [`event_handler!`](crate::event_handler) implements it for
+/// a type that has the `Events` of some interfaces.
 pub trait EventHandler {
-    /// Calls the method for an event, by the interface of its object. False if the handler has no `Events`
-    /// for that interface, or that has no such event with these arguments: nothing is called then.
+    /// Calls the method for an event, by the interface of its object. If the handler has no `Events` for
+    /// that interface, or these have no such event with such arguments, it calls nothing and returns false.
     fn dispatch_event(&mut self, tables: &Tables, event: &mut impl Readable) -> bool;
 }
 
-/// What is given the requests to a server. [`request_handler!`](crate::request_handler) makes a type with
-/// the `Requests` of some interfaces such a handler.
+/// A handler for the requests that a server reads. [`request_handler!`](crate::request_handler) implements
+/// it for a type that has the `Requests` of some interfaces.
 pub trait RequestHandler {
-    /// Calls the method for a request, by the interface of its object. False if the handler has no
-    /// `Requests` for that interface, or that has no such request with these arguments: nothing is called
-    /// then.
+    /// Calls the method for a request, by the interface of its object. If the handler has no `Requests`
+    /// for that interface, or these have no such request with such arguments, it calls nothing and returns
+    /// false.
     fn dispatch_request(&mut self, tables: &Tables, request: &mut impl Readable) -> bool;
 }
 
@@ -125,8 +125,8 @@ impl RequestHandler for () {
     }
 }
 
-/// Makes a type an [`EventHandler`](crate::EventHandler): for the `Events` of these interfaces, which are
-/// named by their modules. Parameters of the type come before it.
+/// Makes a type an [`EventHandler`](crate::EventHandler) for the `Events` of these interfaces. Name each
+/// interface by its module. Parameters of the type come before it.
 ///
 /// ```
 /// use waywire::wayland::{wl_registry, wl_seat};
@@ -164,8 +164,8 @@ macro_rules! event_handler {
     };
 }
 
-/// Makes a type a [`RequestHandler`](crate::RequestHandler): for the `Requests` of these interfaces, which
-/// are named by their modules, as [`event_handler!`](crate::event_handler) does for events.
+/// Makes a type a [`RequestHandler`](crate::RequestHandler) for the `Requests` of these interfaces, as
+/// [`event_handler!`](crate::event_handler) does for events.
 #[macro_export]
 macro_rules! request_handler {
     ([$($parameters:tt)*] $handler:ty: $($($segment:ident)::+),+ $(,)?) => {
@@ -237,8 +237,8 @@ pub fn make_at_server<T: Handle>(
     server.send(target, opcode, args)?.map(T::of).ok_or(SendError::NoSuchMessage)
 }
 
-/// The arguments of a message, read one after the other. Each call is `None` where the next argument is
-/// none of its kind.
+/// The arguments of a message, read one after the other. A call returns `None` if the next argument is of
+/// another kind.
 pub struct Fields<I>(I);
 
 /// The arguments of a message. Each descriptor is taken out of the message as it is read.
@@ -247,7 +247,7 @@ pub fn fields<M: Readable>(message: &mut M) -> Fields<impl Iterator<Item = Value
     Fields(message.take_args())
 }
 
-/// The calls for arguments that come as one kind of value.
+/// The calls for arguments that are one kind of value.
 macro_rules! fields {
     ($($(#[$doc:meta])* $name:ident: $kind:ident -> $result:ty;)*) => {
         $(
@@ -310,7 +310,7 @@ impl<'a, I: Iterator<Item = Value<'a, OwnedFd>>> Fields<I> {
         self.nullable_object()?
     }
 
-    /// The object that wl_registry.bind makes, behind its interface and its version.
+    /// The object that wl_registry.bind makes; its interface and version were read before.
     #[inline]
     pub fn bound(&mut self) -> Option<(&'a [u8], u32, Object)> {
         match self.0.next()? {
