@@ -1,5 +1,5 @@
 # The library for C, the tool `waywire-inspect` over it, and the libwayland-client over it that
-# `waywire-run` puts before the system's. `make` proves and builds the library where it is not built yet,
+# `waywire-run` puts before the system's. `make` proves and builds the library if it is not built yet,
 # over what a run has proved in this clone (tools/toolchain.py). `make install` installs all three, and
 # the program `waywire` with its manual page where that is built (./waywire --build).
 # `make dist` packs all of that for machines that have no toolchain, and `make deb` for Debian. `make check` runs

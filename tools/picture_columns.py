@@ -60,7 +60,7 @@ def readable(text):
 
 
 def microseconds(seconds):
-    """A time in whole microseconds; 0 where there is none. Raises `ValueError`."""
+    """A time in whole microseconds; 0 if there is none. Raises `ValueError`."""
     if seconds is not None and not 0 <= seconds < MOST_SECONDS:
         raise ValueError("a time")
     return round((seconds or 0) * 1_000_000)
@@ -134,7 +134,7 @@ class Columns:
             self.unanswered.append(place)
 
     def place_of(self, number):
-        """The row of the message with a number; -1 where it has none."""
+        """The row of the message with a number; -1 if it has none."""
         place = bisect.bisect_left(self.numbers, number)
         return place if place < len(self.numbers) and self.numbers[place] == number else -1
 
@@ -144,7 +144,7 @@ class Columns:
                       "code": found["code"], "text": found["text"], "names": found.get("names") or []}
 
     def take_broken(self, found):
-        """A message that breaks a rule is a row like others, also where it could not be taken apart."""
+        """A message that breaks a rule is a row like others, also where it could not be decoded."""
         message = found["message"] or {"object": found["object"], "opcode": -1, "message": None,
                                        "arguments": [], "state": "unknown", "text": "", "piece": None}
         own = {it: found[it] for it in ("direction", "offset", "size", "number", "bytes")}

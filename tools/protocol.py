@@ -129,7 +129,7 @@ def summary_of(element):
 
 
 def is_true(element, name):
-    """Whether an attribute says so, false where it is not given."""
+    """Whether an attribute says so, false if it is not given."""
     text = element.get(name, "false")
     if text not in ("true", "false"):
         raise BadProtocol(f"{name} of {element.get('name')} is {text!r}, not true or false")
@@ -242,7 +242,7 @@ def root_of(path):
 
 
 def is_text_of_tables(path):
-    """Whether a file is a table text, by its first lines; false where it cannot be read."""
+    """Whether a file is a table text, by its first lines; false if it cannot be read."""
     try:
         with open(path, "rb") as file:
             return TEXT_OF_TABLES.match(file.read(65536)) is not None

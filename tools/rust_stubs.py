@@ -284,7 +284,7 @@ class Module:
         self.trait(interface, side, messages)
         article = "an" if side == "event" else "a"
         self.say("", *documented([
-            f"Calls the method of {article} {side}. False where the message is for another interface, or the interface "
+            f"Calls the method of {article} {side}. False if the message is for another interface, or the interface "
             f"has no such {side} with these arguments: nothing is called then."], "    "))
         parameters = [f"handler: &mut impl {side.title()}s", "tables: &waywire::Tables",
                       "message: &mut impl waywire::Readable"]

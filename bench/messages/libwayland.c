@@ -4,7 +4,7 @@
  * The words are: how messages are dispatched (`dispatcher`: by wl_dispatcher_func_t; `listener`: by
  * the generated listeners and libffi), the case (`damage`, `motion`, `surface` or `title`), the number
  * of objects that are open beside those of the case, how many messages go by one flush, and how often
- * that is done. The exit status is 0 where every message was read.
+ * that is done. The exit status is 0 if every message was read.
  */
 #include <stdbool.h>
 #include <stdint.h>

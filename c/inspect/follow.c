@@ -45,7 +45,7 @@ static struct object new_object(const struct follower *follower, const struct me
 	return object;
 }
 
-/* ---- a message, taken apart */
+/* ---- a message, decoded */
 
 bool is_message(const struct message *message, const char *interface, int from, uint16_t opcode)
 {

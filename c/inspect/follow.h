@@ -21,9 +21,9 @@ enum state { UNKNOWN, LIVE, ENDING };
 struct object {
 	uint32_t id;
 	uint32_t version;
-	uint64_t birth;      /* the number of the message that made it; 0 of wl_display, and where it is not known */
-	uint16_t interface;  /* its place in the tables; WAYWIRE_ANY_INTERFACE where they lack it */
-	uint8_t state;       /* an ending one was destroyed, and its id is not free yet */
+	uint64_t birth;      /* the number of the message that made it; 0 for wl_display, and if it is not known */
+	uint16_t interface;  /* its place in the tables; WAYWIRE_ANY_INTERFACE if they lack it */
+	uint8_t state;       /* ending: it was destroyed, and its id is not free yet */
 	struct name name;    /* its interface's */
 };
 
@@ -31,23 +31,23 @@ struct object {
 
 /* What the values of an argument mean (names.c). */
 struct meaning {
-	struct name enumeration; /* as wl_shm.format; none where it has none */
-	const char *entries;     /* values and names, with spaces between; null where they are not known */
+	struct name enumeration; /* such as wl_shm.format; none if it has none */
+	const char *entries;     /* values and names, with spaces between; null if they are not known */
 	bool is_bitfield;
-	bool is_numbers;         /* of an array: it has 32-bit numbers */
+	bool is_numbers;         /* an array of 32-bit numbers */
 };
 
 struct argument {
 	waywire_arg value;
-	struct object object; /* that it names, as before the message, or makes */
-	uint64_t descriptor;  /* the number of a descriptor in its direction; 0 where that is not known */
+	struct object object; /* the object that it names, as before the message, or that it makes */
+	uint64_t descriptor;  /* the number of a descriptor in its direction; 0 if that is not known */
 	struct name name;
 	struct meaning meaning;
 };
 
 struct message {
 	int from;
-	uint64_t number;   /* among all of the client, from 1 */
+	uint64_t number;   /* among all messages of the client, from 1 */
 	uint64_t index;    /* among those of its direction, from 1 */
 	uint64_t offset;   /* where it begins, in its direction */
 	uint64_t piece;    /* which piece completes it, from 1 */
@@ -55,28 +55,28 @@ struct message {
 	size_t size;       /* as its header says */
 	bool is_bad_size;  /* no message has that size */
 	const unsigned char *bytes;
-	size_t length;     /* of its bytes that are there */
+	size_t length;     /* how many of its bytes are there */
 	uint16_t opcode;
 	struct object target;     /* as before the message */
-	struct name name;         /* none where the tables have no such message */
+	struct name name;         /* none if the tables have no such message */
 	waywire_message signature;
-	waywire_status status;    /* of taking it apart */
+	waywire_status status;    /* of decoding it */
 	size_t arg_count;
 	struct argument args[WAYWIRE_MAX_ARGS];
 	uint16_t bound;           /* of wl_registry.bind: the place of the interface */
-	struct object made, destroyed, freed; /* with id 0 where there is none */
+	struct object made, destroyed, freed; /* with id 0 if there is none */
 	size_t descriptor_count;
-	uint64_t answers;          /* the number of the message that it answers; 0 where there is none */
+	uint64_t answers;          /* the number of the message that it answers; 0 if there is none */
 	bool is_judged;
 };
 
 /* What the library's inspector was given before the first message of the session (reopen.c). */
 struct given {
-	uint64_t count, counts[2]; /* of messages, and of those of each direction */
+	uint64_t count, counts[2]; /* of messages, in all and in each direction */
 	uint64_t bytes[2];
 };
 
-/* What is counted beside the library's inspector. */
+/* What the tool counts itself, beside the library's inspector. */
 struct follower {
 	const waywire_tables *tables;
 	waywire_inspector *inspector;
@@ -84,7 +84,7 @@ struct follower {
 	uint64_t piece_count;
 	double seconds;           /* of the last piece */
 	uint64_t descriptors[2];  /* that the messages of each direction took */
-	bool is_unnumbered[2];    /* an unknown message may have taken some */
+	bool is_unnumbered[2];    /* an unknown message may have had some */
 	uint64_t behind[2];       /* where the last message of each direction ends */
 	struct given before;
 };
@@ -98,16 +98,16 @@ bool read_message(const struct follower *follower, int from, struct message *mes
 /* Goes past that message. False if memory runs out. */
 bool follow_message(struct follower *follower, const struct message *message);
 
-/* The greatest version in which the global of a bind was announced; 0 where it was not. */
+/* The newest version in which the global of a bind was announced; 0 if it was not announced. */
 uint32_t announced_version(const struct follower *follower, const struct message *bind);
 
-/* Whether a message is this one of wl_display or wl_registry. */
+/* Whether it is this message of wl_display or wl_registry. */
 bool is_message(const struct message *message, const char *interface, int from, uint16_t opcode);
 
 /* Whether it is wl_display.error. */
 bool is_error(const struct message *message);
 
-/* Whether it is wl_registry.bind, taken apart. */
+/* Whether it is wl_registry.bind, decoded. */
 bool is_bind(const struct message *message);
 
 #endif

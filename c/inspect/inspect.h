@@ -21,7 +21,7 @@
 /* The exit status if nothing could be inspected. */
 #define NOTHING_INSPECTED 125
 
-/* What stands in front of a line. */
+/* What a line begins with. */
 enum front { TIME_NONE, TIME_SINCE, TIME_DELTA, TIME_CLOCK };
 
 struct options {
@@ -29,25 +29,25 @@ struct options {
 	size_t table_count;
 	int no_tables; /* the installed ones are not read */
 	uint32_t limit;
-	const char *record;  /* null where nothing is recorded */
-	int record_last;     /* the last part of a long session too */
-	const char *read;    /* the recording that is read; null where there is none */
-	const char *output;  /* null where it is standard output */
-	const char *picture; /* null where none is made */
+	const char *record;  /* null if nothing is recorded */
+	int record_last;     /* also keep the last part of a long session */
+	const char *read;    /* the recording that is read; null if there is none */
+	const char *output;  /* null if it is standard output */
+	const char *picture; /* null if none is made */
 	struct filter only, except;
 	enum front time;
 	int json, stats, stop_when_broken, verbose;
-	int no_names; /* lines stand without the names of values */
+	int no_names; /* lines without the names of values */
 	bool colour;
-	char **command; /* ends with a null; null where there is none */
+	char **command; /* ends with a null; null if there is none */
 };
 
 /* ---- what is said (output.c) */
 
-/* Writes a line to standard error, behind the tool's name. */
+/* Writes a line to standard error, after the tool's name. */
 void notice(const char *format, ...) __attribute__((format(printf, 1, 2)));
 
-/* Writes a line to standard error and ends with the status of nothing inspected. */
+/* Writes a line to standard error, and ends the tool with the status for nothing inspected. */
 void fail(const char *format, ...) __attribute__((format(printf, 1, 2), noreturn));
 
 /* From now on, output goes to a file. Ends the tool if that fails. */
@@ -59,17 +59,17 @@ bool prints_to_terminal(void);
 /* Prints bytes. */
 void print(const char *text, size_t length);
 
-/* Prints the name that a client is to be started with, on standard output, or aside on standard error. */
+/* Prints the name of the socket for clients, on standard output, or aside on standard error. */
 void print_name(const char *display, bool is_aside);
 
-/* Hands on what was printed. */
+/* Flushes what was printed. */
 void print_now(void);
 
-/* The signals that are blocked while standard output takes nothing. After one that is not, it is
+/* The signals that stay blocked while standard output takes nothing. After any other signal, it is
  * waited for a second and no more. */
 void print_waits_with(const sigset_t *signals);
 
-/* From now on standard output is waited for a second at most. */
+/* From now on, standard output is waited for at most a second. */
 void print_briefly(void);
 
 /* ---- where things are (folders.c) */
@@ -88,8 +88,8 @@ void find_tables(char *folder, size_t size);
 /* The tables of the core and of all texts that were read. */
 struct known {
 	waywire_tables *tables;
-	struct text joined; /* the texts, each behind a comment that names it */
-	struct text names;  /* of the texts, with spaces between, the core first */
+	struct text joined; /* the texts, each after a comment that names it */
+	struct text names;  /* the names of the texts, with spaces between, the core first */
 };
 
 /* Reads the texts. Ends the tool if that fails. */
@@ -100,21 +100,21 @@ void known_free(struct known *known);
 /* A table text. */
 struct source {
 	char *path;
-	char *bytes; /* ends with a line feed, where it is not empty; null where it is left out */
+	char *bytes; /* ends with a line feed unless it is empty; null if the text is left out */
 	size_t length, lines;
 	bool is_given; /* by --tables */
 };
 
-/* As much as `waywire` reads of a file. */
+/* The longest file that `waywire` reads. */
 #define LONGEST_FILE 16777216
 
-/* Adds a file to a text, as much as makes it longer than LONGEST_FILE. False with errno set where that fails. */
+/* Adds a file to a text, but stops once the text is longer than LONGEST_FILE. False with errno set if that fails. */
 bool read_bytes(const char *path, struct text *text);
 
-/* Reads a file that is no longer than that. Ends the tool where it fails. */
+/* Reads a file of at most LONGEST_FILE bytes. Ends the tool if that fails. */
 void read_file(const char *path, struct text *text);
 
-/* Reads a text; an XML is handed to waywire-tables-from-xml. */
+/* Reads a text, or an XML, which waywire-tables-from-xml converts. */
 void source_read(struct source *source);
 
 /* Makes a text one of tables; it belongs to the source then. */
@@ -125,20 +125,20 @@ void source_take(struct source *source, struct text *taken);
 bool installed_protocols(struct text *made, const struct source *sources, size_t source_count,
 	const waywire_tables *core, bool is_verbose);
 
-/* What the line at a place declares or extends; of no length where that is nothing. */
+/* The name that the line at a place declares or extends; empty if it does neither. */
 struct name source_names(const struct source *source, size_t at);
 
 /* Whether a text declares an interface; an extension does not. */
 bool source_declares(const struct source *source, struct name name);
 
-/* The line behind the one at a place. */
+/* The line after the one at a place. */
 size_t source_next_line(const struct source *source, size_t at);
 
 /* The paths of the files with this end in the folder of the installed texts, in the order of their names, to be freed.
  * Null with errno set where the folder cannot be read. */
 char **installed_files(const char *end, size_t *count);
 
-/* Takes out of a text the interfaces that another declares, and what is added to them. */
+/* Removes from a text the interfaces that another text declares, and what extends them. */
 void source_without(struct source *source, const struct source *other);
 
 /* Whether a file is a protocol's XML, by its name. */
@@ -148,13 +148,13 @@ bool is_xml(const char *path);
  * are read with the first (names.c). */
 void names_read(const struct options *options);
 
-/* Finds the names of a message's arguments, and what their values mean, as far as that is known. */
+/* Finds the names of a message's arguments, and what their values mean, if that is known. */
 void name_arguments(struct message *message);
 
 void names_free(void);
 
-/* Runs a program to its end. Its standard output is added to `output`, where that is not null; its standard error
- * is dropped where it is to be quiet. Returns its exit status, 127 where it cannot be run. */
+/* Runs a program to its end. Its standard output is added to `output`, unless that is null. If it is to be quiet, its
+ * standard error is dropped. Returns its exit status, 127 if it cannot be run. */
 int run_to_end(char *const *words, struct text *output, bool is_quiet);
 
 /* ---- a recording (recording.c) */
@@ -162,18 +162,18 @@ int run_to_end(char *const *words, struct text *output, bool is_quiet);
 /* Whose session is recorded. */
 struct client {
 	unsigned number;
-	pid_t process; /* 0 where it is not known */
-	char name[64]; /* of its program; empty where it is not known */
+	pid_t process; /* 0 if it is not known */
+	char name[64]; /* the name of its program; empty if it is not known */
 };
 
-/* A file in the form of docs/FORMATS.md, Recordings; `file` is -1 where there is none. */
+/* A file in the form of docs/FORMATS.md, Recordings; `file` is -1 if there is none. */
 struct recording {
 	int file;
 	char *path;
 	off_t length;
-	unsigned parts; /* that were begun of what the first file has no room for */
-	struct text fronts[2]; /* of --record-last: what the last pieces have behind whole messages */
-	uint64_t passed[2];    /* how many bytes of each direction */
+	unsigned parts; /* how many were begun after the first file was full */
+	struct text fronts[2]; /* for --record-last: the bytes after the last whole message of each direction */
+	uint64_t passed[2];    /* how many bytes of each direction have passed */
 	const struct options *options;
 	const struct known *known;
 	struct client client;
@@ -185,17 +185,17 @@ struct client client_at(int socket, unsigned number);
 /* The moment, as `2026-11-26T20:40:00.250Z`; `size` is at least 32. */
 void write_moment(char *text, size_t size);
 
-/* A moment that was written, in seconds since 1970; -1 where it is none. The part of a second may be missing. */
+/* The seconds since 1970 in the text of a moment; -1 if the text is none. The fraction of a second may be missing. */
 double read_moment(const char *text);
 
 /* The moment in seconds since 1970. */
 double moment_now(void);
 
-/* Whether a file can be written, which is left as it is; said where it cannot. */
+/* Whether a file can be written. Leaves it as it is, and reports it if it cannot be. */
 bool can_write(const char *path);
 
-/* Begins the recording of a client: the file of --record, with `.2` behind it for the second, and so on. Beside
- * the first it writes the tables. Where that fails it is said, and nothing is recorded. */
+/* Begins the recording of a client: the file of --record, followed by `.2` for the second client, and so on. With the
+ * first it also writes the tables. If that fails, it is reported, and nothing is recorded. */
 void recording_begin(struct recording *recording, const struct options *options, const struct known *known,
 	const struct client *client);
 
@@ -209,13 +209,13 @@ struct recorded {
 
 /* Adds a piece, with its time. Where the file does not take it, or would be longer than a recording may be, that
  * is said, and the recording ends before it: in the second case with a line that says so. With --record-last it goes
- * on in a second file; `follower` is what the session has come to, null where it is not followed any more. */
+ * on in a second file; `follower` is what the session has come to, null if it is not followed any more. */
 void recording_add(struct recording *recording, const struct follower *follower, const struct recorded *piece);
 
-/* Ends it with the time at which the session ended. */
+/* Ends the recording with the time at which the session ended. */
 void recording_end(struct recording *recording, double seconds);
 
-/* The file of --record for a client, to be freed; null where memory runs out. */
+/* The file of --record for a client, to be freed; null if memory runs out. */
 char *numbered(const char *path, unsigned number);
 
 /* ---- a recording that begins in the middle (part.c) */
@@ -244,7 +244,7 @@ struct reopened {
 /* No more ids than these are used of either range. */
 #define MOST_IDS 1048575
 
-/* Begins, before any message: so many ids of each range may be used from then on. */
+/* To be called before any message: from then on so many ids of each range may be used. */
 void reopen_begin(struct reopening *reopening, struct follower *follower, size_t client_ids, size_t server_ids);
 
 /* Makes an object known, unless the tables have no message that makes or ends it. */
@@ -254,7 +254,7 @@ void reopen_end(struct reopening *reopening);
 
 /* ---- a recording that is read (read.c) */
 
-/* Takes the tables that stand beside the recording, where --tables names none: their path, to be freed. */
+/* Uses the tables beside the recording, unless --tables names others. Returns their path, to be freed. */
 char *tables_beside(struct options *options);
 
 /* Notes each comment of a text, from behind its `#` up to a NUL that stands in place of its end for that long. */
@@ -265,10 +265,10 @@ int read_recording(const struct options *options, const struct known *known);
 
 /* ---- a picture (picture.c) */
 
-/* Prepares --picture: a recording is made in a folder of its own, where --record does not name one. */
+/* Prepares --picture: unless --record names a file, a recording is made in a folder of its own. */
 void picture_begin(struct options *options);
 
-/* Makes the pages of so many clients' recordings. */
+/* Makes the pages of the recordings of so many clients. */
 void picture_end(const struct options *options, unsigned client_count);
 
 /* ---- sockets (sockets.c) */
@@ -280,7 +280,7 @@ waywire_listening_socket *listen_in_runtime_folder(void);
 /* Notes the compositor's path. To be called before WAYLAND_DISPLAY is changed. */
 void find_compositor(void);
 
-/* A socket that is connected to the compositor's path; -1 with a line said. It does not look at
+/* A socket that is connected to the compositor's path; -1 if that fails, which is reported. It does not look at
  * WAYLAND_SOCKET, which can serve one client only. */
 int connect_to_compositor(void);
 
@@ -290,14 +290,14 @@ bool is_at_end(int socket);
 /* Whether both directions of a socket were closed at its other end. */
 bool is_hung_up(int socket);
 
-/* ---- a way: what goes from one socket to another (way.c) */
+/* ---- a way: the bytes from one socket to another (way.c) */
 
-/* At most one piece waits, with the descriptors that came with it. */
+/* At most one piece waits, with its descriptors. */
 struct way {
 	int source, target;
-	bool is_open;  /* its target still takes something, and its source has not ended */
-	bool is_ended; /* its source writes nothing more */
-	bool is_later; /* the kernel had no room for the descriptors: to be tried again soon */
+	bool is_open;  /* the target still accepts bytes, and the source has not ended */
+	bool is_ended; /* the source writes nothing more */
+	bool is_later; /* the kernel had no room for the descriptors: try again soon */
 	size_t from, to;
 	size_t descriptor_count;
 	int descriptors[PIECE_DESCRIPTORS];
@@ -306,10 +306,10 @@ struct way {
 
 enum came { CAME_NOTHING, CAME_PIECE, CAME_END, CAME_TOO_MANY };
 
-/* Reads a piece; CAME_TOO_MANY where this process has no numbers left for its descriptors. */
+/* Reads a piece; CAME_TOO_MANY if this process has no numbers left for its descriptors. */
 enum came way_read(struct way *way);
 
-/* Hands on what waits, as much as the target takes. */
+/* Passes on what waits, as much as the target takes. */
 void way_write(struct way *way);
 
 bool way_waits(const struct way *way);
@@ -322,11 +322,11 @@ void way_close_descriptors(struct way *way);
 struct session {
 	struct session *next;
 	struct client client;
-	char who[128]; /* its program and process; empty where they are not known */
+	char who[128]; /* its program and process; empty if they are not known */
 	bool is_over;
 	int sockets[2];
 	struct way ways[2];
-	double connected; /* in seconds behind the first client */
+	double connected; /* in seconds after the first client */
 	struct judging judging;
 	struct recording recording;
 };
@@ -337,19 +337,19 @@ struct shared {
 	const struct known *known;
 	struct timespec start;  /* when the first client connected */
 	double moment;          /* the same, in seconds since 1970 */
-	sigset_t while_waiting; /* the signals that are blocked while nothing is done */
-	pid_t command;          /* the process of the command; 0 where there is none */
-	unsigned session_count; /* that were begun */
+	sigset_t while_waiting; /* the signals that are blocked while the tool waits */
+	pid_t command;          /* the process of the command; 0 if there is none */
+	unsigned session_count; /* how many were begun */
 	bool is_stopping, any_has_failed;
 };
 
-/* Begins the session of a client, whose sockets it takes over; null where there is no memory. */
+/* Begins the session of a client, and takes over its sockets. Null if memory runs out. */
 struct session *session_new(struct shared *shared, int client, int compositor);
 
-/* What a session waits for, at its two sockets. True where it is to be stepped soon in any case. */
+/* What a session waits for at its two sockets. True if it is to be stepped soon in any case. */
 bool session_wants(const struct session *session, struct pollfd *polled);
 
-/* Does what can be done. */
+/* Moves what can be moved without waiting. */
 void session_step(struct session *session, struct shared *shared, const struct pollfd *polled);
 
 /* Prints the verdict, closes all and frees the session. */
@@ -362,35 +362,35 @@ int run(const struct options *options, const struct known *known);
 
 /* ---- the command and its signals (command.c) */
 
-/* The signals that came since they were last looked at. */
+/* The signals that came since they were last checked. */
 extern volatile sig_atomic_t stopped_by, was_typed, child_ended;
 
-/* Blocks the signals that are waited for, and sets what they do. `before` gets those that were blocked. */
+/* Blocks the signals that the tool waits for, and sets their handlers. `before` gets those that were blocked. */
 void take_signals(sigset_t *before);
 
-/* Starts the command with the tool's socket as its WAYLAND_DISPLAY; what it prints goes aside to standard error where
- * that is asked for. Returns what posix_spawnp does. */
+/* Starts the command with the tool's socket as its WAYLAND_DISPLAY. If `is_aside`, its standard output goes to standard
+ * error. Returns the result of posix_spawnp. */
 int start_command(char **command, const char *display, bool is_aside, const sigset_t *before, pid_t *process);
 
 /* How the command and what it started are doing. */
 struct children {
 	pid_t command;
 	bool is_running;    /* the command */
-	bool has_others;    /* that it left behind */
+	bool has_others;    /* processes that it left behind */
 	int status;         /* of the command, once it has ended */
-	int ended_by;       /* the signal that ended it, 0 where none did */
+	int ended_by;       /* the signal that ended it, 0 if none did */
 };
 
 /* Notes which have ended. */
 void reap(struct children *children);
 
-/* Ends the tool where the system allows fewer open descriptors than a client may need. */
+/* Ends the tool if the system allows fewer open descriptors than a client may need. */
 void check_descriptors(void);
 
 /* Allows as many open descriptors as the system does. */
 void allow_descriptors(void);
 
-/* Whether enough numbers are left behind that of a descriptor for those that pass; said where not. */
+/* Whether enough numbers above this descriptor are left for those that pass. If not, it is reported. */
 bool has_room_behind(int descriptor);
 
 #endif

@@ -5,7 +5,7 @@
 #include <inttypes.h>
 #include <stdio.h>
 
-/* So many bytes of a message that cannot be taken apart are printed. */
+/* So many bytes of a message that cannot be decoded are printed. */
 #define SHOWN_BYTES 64
 
 bool has_failed(const struct judging *judging)
@@ -140,7 +140,7 @@ static void leave_unjudged(struct judging *judging, struct message *message)
 
 /* ---- a message that breaks a rule */
 
-/* Puts the bytes of a message that cannot be taken apart. */
+/* Puts the bytes of a message that cannot be decoded. */
 static void put_bytes(struct text *line, const struct message *message)
 {
 	size_t length = message->length < SHOWN_BYTES ? message->length : SHOWN_BYTES;
@@ -231,7 +231,7 @@ void judge_piece(struct judging *judging, int from, const unsigned char *bytes, 
 
 /* ---- the end */
 
-/* Puts the library's verdict; false where memory runs out. */
+/* Puts the library's verdict; false if memory runs out. */
 static bool put_lawful(struct judging *judging, struct text *words)
 {
 	static const char lawful[] = "lawful";

@@ -8,22 +8,22 @@
 
 struct keyed_place {
 	uint64_t key;
-	void *value; /* null where the place is free */
+	void *value; /* null if the place is free */
 };
 
-/* Its memory grows with the most keys that were in it at once, not with the keys. */
+/* Its memory grows with the largest number of keys that it had at one time, not with the values of the keys. */
 struct keyed {
 	struct keyed_place *places;
 	size_t room, count; /* the room is a power of two, or 0 */
 };
 
-/* The value of a key; null where there is none. */
+/* The value of a key; null if there is none. */
 void *keyed_find(const struct keyed *keyed, uint64_t key);
 
-/* Gives a key a value, which is not null. False where memory runs out. */
+/* Gives a key a value, which is not null. False if memory runs out. */
 bool keyed_put(struct keyed *keyed, uint64_t key, void *value);
 
-/* Takes a key out, if it is there. */
+/* Removes a key, if it is there. */
 void keyed_drop(struct keyed *keyed, uint64_t key);
 
 void keyed_free(struct keyed *keyed);

@@ -47,7 +47,7 @@ void put_printed_argument(struct text *text, const struct argument *argument)
 	}
 }
 
-/* Whether a message could be taken apart, at least in part. */
+/* Whether a message could be decoded, at least in part. */
 static bool has_arguments(const struct message *message)
 {
 	return message->name.bytes && message->status != WAYWIRE_FAULT_UNKNOWN_MESSAGE

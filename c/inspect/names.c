@@ -21,7 +21,7 @@ static bool is_wanted, is_installed_read;
 
 /* The line of a message, by its interface's place, its sender and its opcode. */
 static struct kept {
-	uint64_t key; /* 0 where nothing is kept */
+	uint64_t key; /* 0 if nothing is kept */
 	const char *names;
 } kept[KEPT];
 

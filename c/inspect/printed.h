@@ -28,7 +28,7 @@ bool is_shown(const struct options *options, const struct message *message);
 
 /* ---- words (lines.c) */
 
-/* Puts the line of a message as far as it could be taken apart, as a trace has it. */
+/* Puts the line of a message as far as it could be decoded, as a trace has it. */
 void put_message(struct text *text, const struct message *message);
 
 /* Puts the line of a message up to its arguments. */
@@ -91,7 +91,7 @@ struct stats {
 	struct keyed places; /* of the counts, by their names */
 };
 
-/* Counts a message. Where memory runs out it is left out. */
+/* Counts a message. If memory runs out it is left out. */
 void stats_note(struct stats *stats, const struct message *message);
 
 /* Puts the counts, what was not answered until then, and what was left open. */
@@ -105,7 +105,7 @@ void stats_free(struct stats *stats);
 /* The last messages of a client. */
 struct history;
 
-/* Null where memory runs out: then nothing is noted. */
+/* Null if memory runs out: then nothing is noted. */
 struct history *history_new(void);
 
 void history_free(struct history *history);
@@ -133,15 +133,15 @@ struct shown {
 	const struct options *options;
 	unsigned number;   /* the client's */
 	bool is_numbered;  /* whether lines say so */
-	const char *who;   /* its program and process; null or empty where they are not known */
+	const char *who;   /* its program and process; null or empty if they are not known */
 	struct history *history;
 	double start;      /* when it connected, in seconds behind the first client */
-	double moment;     /* when the first client connected, in seconds since 1970; less than 0 where it is not known */
+	double moment;     /* when the first client connected, in seconds since 1970; less than 0 if it is not known */
 };
 
 /* What is said of a message beside its line. */
 struct beside {
-	const char *note;  /* null where there is none; what an unjudged message is not in */
+	const char *note;  /* null if there is none; what an unjudged message is not in */
 	bool is_marked;    /* it is not judged */
 	bool is_red;
 };
@@ -155,7 +155,7 @@ struct breaking {
 	const struct message *message;
 	const struct text *line, *words, *verdict;
 	struct fault fault;
-	struct object object; /* because of which it does; with id 0 where there is none */
+	struct object object; /* because of which it does; with id 0 if there is none */
 };
 void print_broken(const struct shown *shown, const struct breaking *breaking);
 
@@ -181,7 +181,7 @@ void print_unanswered(const struct shown *shown, const struct questions *questio
 
 /* JSON (json.c): each prints one line. */
 struct head {
-	const char *recording, *started; /* null where there is none */
+	const char *recording, *started; /* null if there is none */
 	char **command;
 	const char *tables;  /* names with spaces between */
 	bool is_timed;

@@ -109,7 +109,7 @@ static void declare(struct search *search, struct name name, uint32_t version, s
 	search->declared[search->declared_count++] = (struct declared){ name, version, protocol };
 }
 
-/* The value of an attribute of a tag; none where it has none. */
+/* The value of an attribute of a tag; none if it has none. */
 static struct name attribute(const char *at, const char *end, const char *name)
 {
 	static const struct name none;

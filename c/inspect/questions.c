@@ -11,7 +11,7 @@
 /* A request that events of the same object answer. */
 struct pair {
 	const char *interface;
-	const char *request; /* null where the message that makes the object asks */
+	const char *request; /* null if the message that makes the object asks */
 	const char *answers[3];
 };
 
@@ -35,7 +35,7 @@ struct role {
 	bool is_known;
 	bool ends_by_event;        /* an event ends its objects */
 	bool has_pong, has_ack;    /* requests that repeat the serial of ping and configure */
-	const struct pair *pairs;  /* null where it has none */
+	const struct pair *pairs;  /* null if it has none */
 	size_t pair_count;
 };
 
@@ -110,7 +110,7 @@ static uint64_t kind_key(uint16_t interface, int from, uint16_t opcode)
 	return (uint64_t)interface << 32 | (uint64_t)from << 16 | opcode;
 }
 
-/* The kind of a message; null where memory runs out. */
+/* The kind of a message; null if memory runs out. */
 static struct question_kind *kind_of(struct questions *questions, const struct message *message)
 {
 	uint64_t key = kind_key(message->target.interface, message->from, message->opcode);

@@ -11,7 +11,7 @@ struct question_kind {
 	struct name interface, message;
 	int from;
 	uint64_t asked, answered, open;
-	double first;               /* when the first was asked, in seconds; -1 where that is not known */
+	double first;               /* when the first was asked, in seconds; -1 if that is not known */
 	double all_waits, longest;  /* how long the answers took, in seconds */
 };
 
@@ -21,7 +21,7 @@ struct question {
 	struct question_kind *kind;
 	uint64_t key;
 	uint64_t number;    /* of its message */
-	double seconds;     /* when it was asked; -1 where that is not known */
+	double seconds;     /* when it was asked; -1 if that is not known */
 	uint32_t id, birth; /* of the object that it was put to */
 };
 
@@ -37,13 +37,13 @@ struct questions {
 };
 
 /* Notes what a message asks, before its changes are made. Returns the number of the message that it answers; 0 where
- * there is none. Where memory runs out a question is left out. */
+ * there is none. If memory runs out a question is left out. */
 uint64_t questions_note(struct questions *questions, const waywire_tables *tables, const struct message *message);
 
-/* The open questions in the order of their messages, to be freed; null where there is none. */
+/* The open questions in the order of their messages, to be freed; null if there is none. */
 const struct question **questions_open(const struct questions *questions, size_t *count);
 
-/* What is known of wl_display.sync; null where there was none. */
+/* What is known of wl_display.sync; null if there was none. */
 const struct question_kind *questions_syncs(const struct questions *questions);
 
 void questions_free(struct questions *questions);

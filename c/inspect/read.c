@@ -39,9 +39,9 @@ char *tables_beside(struct options *options)
 /* What the comments of a recording say. */
 struct comments {
 	struct client client;
-	char started[32]; /* empty where it is not said */
+	char started[32]; /* empty if it is not said */
 	double seconds;   /* of the next piece; -1 where it is not said */
-	double latest;    /* the latest time that is said; -1 where there is none */
+	double latest;    /* the latest time that is said; -1 if there is none */
 	double from;      /* where it begins, in the middle of its session; -1 where it does not */
 	bool is_timed, has_end, was_cut;
 };

@@ -265,7 +265,7 @@ static bool write_last(struct recording *recording, const char *what, double sec
 	return is_written;
 }
 
-/* ---- where it is full */
+/* ---- when it is full */
 
 /* The recording ends before what it has no room for. */
 static void cut(struct recording *recording, double seconds)
@@ -329,7 +329,7 @@ static void join_parts(const struct recording *recording)
 	free(before);
 }
 
-/* Takes from the fronts what is of whole messages by now. False where there is less than that. */
+/* Takes from the fronts what is of whole messages by now. False if there is less than that. */
 static bool trim_fronts(struct recording *recording, const struct follower *follower)
 {
 	for (int from = CLIENT; from <= COMPOSITOR; from++) {

@@ -164,7 +164,7 @@ static int patience(const struct run *run)
 	return run->stops ? left_until(&run->stop_again) : -1;
 }
 
-/* Waits until something can be done. Returns what ppoll does: 0 where nothing is ready in time,
+/* Waits until something can be done. Returns what ppoll does: 0 if nothing is ready in time,
  * less where a signal came. */
 static int wait_for_any(struct run *run)
 {
@@ -223,7 +223,7 @@ static void inspect(struct run *run)
 	}
 }
 
-/* The exit status, with a line where nothing was inspected. */
+/* The exit status, with a line if nothing was inspected. */
 static int ended(struct run *run)
 {
 	char **command = run->shared.options->command;

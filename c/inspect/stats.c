@@ -20,7 +20,7 @@ static uint64_t key_of(const struct message *message)
 		+ (uint64_t)message->from;
 }
 
-/* The place of the counts of a message; null where memory runs out. Other names of the same key have the next one. */
+/* The place of the counts of a message; null if memory runs out. Other names of the same key have the next one. */
 static struct counted *counted_at(struct stats *stats, const struct message *message)
 {
 	uint64_t key = key_of(message);

@@ -6,7 +6,7 @@
 #include <stddef.h>
 #include <stdint.h>
 
-/* Once something was put, a NUL stands behind it that the length does not count. Where memory runs out, what is put
+/* Once something was put, a NUL follows the text, which the length does not count. If memory runs out, what is put
  * is left out. */
 struct text {
 	char *bytes;
@@ -25,7 +25,7 @@ void text_hex(struct text *text, const unsigned char *bytes, size_t length);
 
 void text_free(struct text *text);
 
-/* A name in some text; `bytes` is null where none is known. */
+/* A name in some text; `bytes` is null if none is known. */
 struct name {
 	const char *bytes;
 	size_t length;
@@ -39,24 +39,24 @@ bool is_name(struct name name, const char *wanted);
 
 bool is_same_name(struct name one, struct name other);
 
-/* The value of a hexadecimal digit, a letter in lower case; -1 of any other character. */
+/* The value of a hexadecimal digit, with letters in lower case; -1 for any other character. */
 int digit_value(char it);
 
-/* Makes room in an array of so many elements for one more: the room doubles where it is full. Null where memory runs
+/* Makes room in an array of so many elements for one more: the room doubles if it is full. Null if memory runs
  * out: then the array is as before. */
 void *room_for_one(void *array, size_t count, size_t size);
 
 /* The length of the character of UTF-8 at the front of some bytes that may be shown as it is: no control
- * character, and none that turns the direction of writing. 0 where there is none. */
+ * character, and none that turns the direction of writing. 0 if there is none. */
 size_t shown_character(const unsigned char *bytes, size_t length);
 
-/* The length of the character of UTF-8 at the front of some bytes; 0 where there is none. */
+/* The length of the character of UTF-8 at the front of some bytes; 0 if there is none. */
 size_t character_length(const unsigned char *bytes, size_t length, uint32_t *character);
 
 /* Puts a line of a trace, in which all but ASCII stands as `\xNN`: characters of UTF-8 stand as they are. */
 void text_put_line(struct text *text, const char *line, size_t length);
 
-/* Puts a string as a line has it, in double quotes. */
+/* Puts a string in double quotes, as in a line. */
 void text_put_quoted(struct text *text, const char *bytes, size_t length);
 
 #endif

@@ -14,7 +14,7 @@ struct group {
 	uint32_t id;     /* 0 of a whole kind */
 	uint64_t count;  /* of open ones */
 	uint64_t number; /* of the first */
-	double seconds;  /* when that was asked; -1 where that is not known */
+	double seconds;  /* when that was asked; -1 if that is not known */
 };
 
 struct groups {

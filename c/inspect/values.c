@@ -24,7 +24,7 @@ static bool next_entry(const char **entries, uint32_t *value, const char **name,
 	return *length;
 }
 
-/* The name of exactly this value; false where it has none. */
+/* The name of exactly this value; false if it has none. */
 static bool find_entry(const struct meaning *meaning, uint32_t wanted, struct name *name)
 {
 	const char *entries = meaning->entries;
@@ -111,7 +111,7 @@ static bool has_meaning(const struct message *message)
 	return false;
 }
 
-/* Puts a part of a line that stands at a place. Returns its end; 0 where something else stands there. */
+/* Puts a part of a line that stands at a place. Returns its end; 0 if something else stands there. */
 static size_t put_part(struct text *text, const struct text *line, size_t at, const struct text *part)
 {
 	if (!part->length || part->length > line->length - at || memcmp(line->bytes + at, part->bytes, part->length))

@@ -164,7 +164,7 @@ static waywire_arg array_argument(const struct wl_array *array)
 	return array ? waywire_array(array->data, array->size) : waywire_array(NULL, 0);
 }
 
-/* Converts an argument to the client's form. Returns 0, or an errno: EINVAL for null where that is not allowed,
+/* Converts an argument to the client's form. Returns 0, or an errno: EINVAL for null if that is not allowed,
  * else why a descriptor cannot be duplicated. */
 static int convert_argument(char letter, bool nullable, const union wl_argument *arg,
 	waywire_arg *out)

@@ -1,5 +1,5 @@
-/* Messages that are taken apart by their signatures, those at fault with all that is known of them; and the
- * objects of an end, which are gone through. That each message is taken apart as it is read is tested with the
+/* Messages that are decoded by their signatures, those at fault with all that is known of them; and the
+ * objects of an end, which are gone through. That each message is decoded as it is read is tested with the
  * stubs (every_stub.h). */
 #include "must.h"
 

@@ -123,7 +123,7 @@ static void places(void)
 	close_pair(&pair);
 }
 
-/* An attach with OBJECT and id 0 where null is allowed: it is no null. */
+/* An attach with OBJECT and id 0 if null is allowed: it is no null. */
 static void object_without_id(void)
 {
 	struct pair pair;

@@ -58,7 +58,7 @@ static inline void carry(waywire_end *from, waywire_end *to, waywire_sender send
 	carried = taken.bytes;
 }
 
-/* The kind that an argument has where it is taken apart, and as `read` in a report. */
+/* The kind that an argument has where it is decoded, and as `read` in a report. */
 static inline uint32_t kind_apart(const waywire_arg *read, const waywire_kind *kind)
 {
 	if (kind->kind == WAYWIRE_NEW_BY_SERVER)
@@ -66,7 +66,7 @@ static inline uint32_t kind_apart(const waywire_arg *read, const waywire_kind *k
 	return read->kind == WAYWIRE_DEAD_OBJECT ? (uint32_t)WAYWIRE_OBJECT : read->kind;
 }
 
-/* An argument that was taken apart is the one of the report. */
+/* An argument that was decoded is the one of the report. */
 static inline void must_be_apart(waywire_sender sender, size_t place, const waywire_decoded *decoded)
 {
 	const waywire_arg *it = &decoded->args[place], *read = &report.args[place];
@@ -82,7 +82,7 @@ static inline void must_be_apart(waywire_sender sender, size_t place, const wayw
 	MUST(it->kind != WAYWIRE_STRING || !((const char *)it->bytes)[it->length]);
 }
 
-/* The message that was read is taken apart to the same, and its report lists its tokens. */
+/* The message that was read is decoded to the same, and its report lists its tokens. */
 static inline void must_come_apart(waywire_sender sender)
 {
 	waywire_decoded decoded;

@@ -470,7 +470,7 @@ static waywire_amounts least(waywire_amounts room, size_t bytes, size_t tokens)
 	return amounts;
 }
 
-/* Feeds a piece, and reads where there is no room for all of it. */
+/* Feeds a piece, and reads if there is no room for all of it. */
 static void feeds(int by, const unsigned char *bytes, size_t length, const uint32_t *tokens, size_t count)
 {
 	while (length || count) {

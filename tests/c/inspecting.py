@@ -3,7 +3,7 @@
 
     tests/c/inspecting.py [CLASS[.TEST]]..
 
-INSPECT in the environment is the tool, out/c/waywire-inspect where nothing is said; WAYWIRE is a
+INSPECT in the environment is the tool, out/c/waywire-inspect if nothing is said; WAYWIRE is a
 built `waywire`, which judges what was recorded, and may be missing. tests/check-c runs them."""
 import contextlib
 import glob
@@ -92,7 +92,7 @@ class Inspected(unittest.TestCase):
         return made
 
     def start(self, *words, **kept):
-        """Starts the tool, and notes the path of its socket where there is no command."""
+        """Starts the tool, and notes the path of its socket if there is no command."""
         self.tool = subprocess.Popen([*INSPECT, *words], **self.how(kept))
         self.addCleanup(self.end, self.tool)
         if not kept and sys.executable not in words:
@@ -627,7 +627,7 @@ class Judging(Inspected):
         self.assertRegex(said, "".join(rf"(?m:^){time_and}{re.escape(it)}\n" for it in lines))
 
     def test_the_installed_tables(self):
-        """All are known where none is named."""
+        """All are known if none is named."""
         event = message(2, 0, 1, 12, *struct.unpack("<3I", b"xdg_wm_base\0"), 5)
         bind = message(2, 0, 1, 12, *struct.unpack("<3I", b"xdg_wm_base\0"), 1, 3)
         for words, verdict, status in (

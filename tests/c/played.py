@@ -304,7 +304,7 @@ class Play:
             self.forget(target)
 
     def value(self, kind, mine):
-        """A value at random; None for null, or where there is none."""
+        """A value at random; None for null, or if there is none."""
         if kind.null and self.chance.random() < 0.3:
             return None
         if kind.letter == "o":

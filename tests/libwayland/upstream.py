@@ -132,7 +132,7 @@ def ended(suite, name, found):
 
 
 def case(suite, name, library):
-    """A test of a suite, as a function. One that fails is tried once more; where it fails over the
+    """A test of a suite, as a function. One that fails is tried once more; if it fails over the
     system's library, too, it says nothing of the other."""
     def test():
         need("cc")

@@ -69,7 +69,7 @@ fn main(_rt: HostRuntime) {}
 
 
 class Script(unittest.TestCase):
-    """The script `waywire` where nothing is built: the words are run unproved."""
+    """The script `waywire` if nothing is built: the words are run unproved."""
 
     def ran(self, room, file, **kept):
         tables = f"--tables={TOP}/examples/tables/viewporter.tables"

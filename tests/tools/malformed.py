@@ -125,7 +125,7 @@ class Malformed(unittest.TestCase):
             file.write(text)
 
     def refusal(self, text):
-        """What is said of a file, or None where it is taken."""
+        """What is said of a file, or None if it is taken."""
         self.write(text)
         try:
             protocol.read(self.path)

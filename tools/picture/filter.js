@@ -71,7 +71,7 @@ function testOf(session, word) {
         || (isOfObject && (lines[i].includes(printed) || lineWithLetters(session, i).includes(printed)));
 }
 
-// For each message whether it fits; null where there are no words, and all do.
+// For each message whether it fits; null if there are no words, and all do.
 function filtered(session, text) {
     const words = text.toLowerCase().split(/\s+/).filter((it) => it && it !== "-");
     if (!words.length) {

@@ -125,7 +125,7 @@ function unansweredWords(session, { key, name, own, left, first, isMute }) {
         : `${name} was not answered ${several(left.length, "time")}.${sinceFirst}`;
 }
 
-// What is said where nothing is worth a look: only what is so.
+// What is said if nothing is worth a look: only what is so.
 function nothingFound(session) {
     const left = session.waits.filter((it) => it.to < 0 && it.key !== "held");
     if (!left.length) {

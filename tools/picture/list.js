@@ -59,7 +59,7 @@ class List {
         this.draw();
     }
 
-    // The first and the last message that are seen; -1 where there is none.
+    // The first and the last message that are seen; -1 if there is none.
     listed() {
         const first = Math.floor(this.place.scrollTop / LINE);
         const last = Math.min(this.rows.length, first + Math.ceil(this.place.clientHeight / LINE)) - 1;

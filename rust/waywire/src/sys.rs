@@ -207,7 +207,7 @@ pub struct Report {
 // Safety: the pointers lead into the end to which the report is private, and the two move together.
 unsafe impl Send for Report {}
 
-/// The slice that the library lends. Its pointer may be null where it is empty.
+/// The slice that the library lends. Its pointer may be null if it is empty.
 ///
 /// # Safety
 ///
@@ -407,7 +407,7 @@ impl<'a> ArgOf<'a> {
             FD => Kind::Fd,
             DEAD_OBJECT => Kind::Dead,
             BOUND => Kind::Bound,
-            // Of a message that was taken apart.
+            // Of a message that was decoded.
             NEW_BY_SERVER => Kind::NewId,
             // No report has another kind.
             other => unreachable!("an argument of kind {other}"),

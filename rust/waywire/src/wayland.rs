@@ -104,7 +104,7 @@ pub mod wl_display {
         }
     }
 
-    /// Calls the method of a request. False where the message is for another interface, or the
+    /// Calls the method of a request. False if the message is for another interface, or the
     /// interface has no such request with these arguments: nothing is called then.
     pub fn dispatch_request(
         handler: &mut impl Requests,
@@ -210,7 +210,7 @@ pub mod wl_registry {
         }
     }
 
-    /// Calls the method of an event. False where the message is for another interface, or the
+    /// Calls the method of an event. False if the message is for another interface, or the
     /// interface has no such event with these arguments: nothing is called then.
     pub fn dispatch_event(
         handler: &mut impl Events,
@@ -256,7 +256,7 @@ pub mod wl_registry {
         }
     }
 
-    /// Calls the method of a request. False where the message is for another interface, or the
+    /// Calls the method of a request. False if the message is for another interface, or the
     /// interface has no such request with these arguments: nothing is called then.
     pub fn dispatch_request(
         handler: &mut impl Requests,
@@ -350,7 +350,7 @@ pub mod wl_callback {
         }
     }
 
-    /// Calls the method of an event. False where the message is for another interface, or the
+    /// Calls the method of an event. False if the message is for another interface, or the
     /// interface has no such event with these arguments: nothing is called then.
     pub fn dispatch_event(
         handler: &mut impl Events,
@@ -448,7 +448,7 @@ pub mod wl_compositor {
         }
     }
 
-    /// Calls the method of a request. False where the message is for another interface, or the
+    /// Calls the method of a request. False if the message is for another interface, or the
     /// interface has no such request with these arguments: nothing is called then.
     pub fn dispatch_request(
         handler: &mut impl Requests,
@@ -811,7 +811,7 @@ pub mod wl_shm {
         }
     }
 
-    /// Calls the method of an event. False where the message is for another interface, or the
+    /// Calls the method of an event. False if the message is for another interface, or the
     /// interface has no such event with these arguments: nothing is called then.
     pub fn dispatch_event(
         handler: &mut impl Events,
@@ -857,7 +857,7 @@ pub mod wl_shm {
         }
     }
 
-    /// Calls the method of a request. False where the message is for another interface, or the
+    /// Calls the method of a request. False if the message is for another interface, or the
     /// interface has no such request with these arguments: nothing is called then.
     pub fn dispatch_request(
         handler: &mut impl Requests,
@@ -1001,7 +1001,7 @@ pub mod wl_shm_pool {
         }
     }
 
-    /// Calls the method of a request. False where the message is for another interface, or the
+    /// Calls the method of a request. False if the message is for another interface, or the
     /// interface has no such request with these arguments: nothing is called then.
     pub fn dispatch_request(
         handler: &mut impl Requests,
@@ -1103,7 +1103,7 @@ pub mod wl_buffer {
         }
     }
 
-    /// Calls the method of an event. False where the message is for another interface, or the
+    /// Calls the method of an event. False if the message is for another interface, or the
     /// interface has no such event with these arguments: nothing is called then.
     pub fn dispatch_event(
         handler: &mut impl Events,
@@ -1137,7 +1137,7 @@ pub mod wl_buffer {
         }
     }
 
-    /// Calls the method of a request. False where the message is for another interface, or the
+    /// Calls the method of a request. False if the message is for another interface, or the
     /// interface has no such request with these arguments: nothing is called then.
     pub fn dispatch_request(
         handler: &mut impl Requests,
@@ -1501,7 +1501,7 @@ pub mod wl_surface {
         }
     }
 
-    /// Calls the method of an event. False where the message is for another interface, or the
+    /// Calls the method of an event. False if the message is for another interface, or the
     /// interface has no such event with these arguments: nothing is called then.
     pub fn dispatch_event(
         handler: &mut impl Events,
@@ -1625,7 +1625,7 @@ pub mod wl_surface {
         }
     }
 
-    /// Calls the method of a request. False where the message is for another interface, or the
+    /// Calls the method of a request. False if the message is for another interface, or the
     /// interface has no such request with these arguments: nothing is called then.
     pub fn dispatch_request(
         handler: &mut impl Requests,
@@ -1799,7 +1799,7 @@ pub mod wl_region {
         }
     }
 
-    /// Calls the method of a request. False where the message is for another interface, or the
+    /// Calls the method of a request. False if the message is for another interface, or the
     /// interface has no such request with these arguments: nothing is called then.
     pub fn dispatch_request(
         handler: &mut impl Requests,
@@ -2008,7 +2008,7 @@ pub mod wl_seat {
         }
     }
 
-    /// Calls the method of an event. False where the message is for another interface, or the
+    /// Calls the method of an event. False if the message is for another interface, or the
     /// interface has no such event with these arguments: nothing is called then.
     pub fn dispatch_event(
         handler: &mut impl Events,
@@ -2059,7 +2059,7 @@ pub mod wl_seat {
         }
     }
 
-    /// Calls the method of a request. False where the message is for another interface, or the
+    /// Calls the method of a request. False if the message is for another interface, or the
     /// interface has no such request with these arguments: nothing is called then.
     pub fn dispatch_request(
         handler: &mut impl Requests,
@@ -2507,7 +2507,7 @@ pub mod wl_pointer {
         }
     }
 
-    /// Calls the method of an event. False where the message is for another interface, or the
+    /// Calls the method of an event. False if the message is for another interface, or the
     /// interface has no such event with these arguments: nothing is called then.
     pub fn dispatch_event(
         handler: &mut impl Events,
@@ -2602,7 +2602,7 @@ pub mod wl_pointer {
         }
     }
 
-    /// Calls the method of a request. False where the message is for another interface, or the
+    /// Calls the method of a request. False if the message is for another interface, or the
     /// interface has no such request with these arguments: nothing is called then.
     pub fn dispatch_request(
         handler: &mut impl Requests,
@@ -2891,7 +2891,7 @@ pub mod wl_keyboard {
         }
     }
 
-    /// Calls the method of an event. False where the message is for another interface, or the
+    /// Calls the method of an event. False if the message is for another interface, or the
     /// interface has no such event with these arguments: nothing is called then.
     pub fn dispatch_event(
         handler: &mut impl Events,
@@ -2958,7 +2958,7 @@ pub mod wl_keyboard {
         }
     }
 
-    /// Calls the method of a request. False where the message is for another interface, or the
+    /// Calls the method of a request. False if the message is for another interface, or the
     /// interface has no such request with these arguments: nothing is called then.
     pub fn dispatch_request(
         handler: &mut impl Requests,
@@ -3221,7 +3221,7 @@ pub mod wl_touch {
         }
     }
 
-    /// Calls the method of an event. False where the message is for another interface, or the
+    /// Calls the method of an event. False if the message is for another interface, or the
     /// interface has no such event with these arguments: nothing is called then.
     pub fn dispatch_event(
         handler: &mut impl Events,
@@ -3276,7 +3276,7 @@ pub mod wl_touch {
         }
     }
 
-    /// Calls the method of a request. False where the message is for another interface, or the
+    /// Calls the method of a request. False if the message is for another interface, or the
     /// interface has no such request with these arguments: nothing is called then.
     pub fn dispatch_request(
         handler: &mut impl Requests,
@@ -3600,7 +3600,7 @@ pub mod wl_output {
         }
     }
 
-    /// Calls the method of an event. False where the message is for another interface, or the
+    /// Calls the method of an event. False if the message is for another interface, or the
     /// interface has no such event with these arguments: nothing is called then.
     pub fn dispatch_event(
         handler: &mut impl Events,
@@ -3656,7 +3656,7 @@ pub mod wl_output {
         }
     }
 
-    /// Calls the method of a request. False where the message is for another interface, or the
+    /// Calls the method of a request. False if the message is for another interface, or the
     /// interface has no such request with these arguments: nothing is called then.
     pub fn dispatch_request(
         handler: &mut impl Requests,
@@ -3775,7 +3775,7 @@ pub mod wl_subcompositor {
         }
     }
 
-    /// Calls the method of a request. False where the message is for another interface, or the
+    /// Calls the method of a request. False if the message is for another interface, or the
     /// interface has no such request with these arguments: nothing is called then.
     pub fn dispatch_request(
         handler: &mut impl Requests,
@@ -3973,7 +3973,7 @@ pub mod wl_subsurface {
         }
     }
 
-    /// Calls the method of a request. False where the message is for another interface, or the
+    /// Calls the method of a request. False if the message is for another interface, or the
     /// interface has no such request with these arguments: nothing is called then.
     pub fn dispatch_request(
         handler: &mut impl Requests,
@@ -4080,7 +4080,7 @@ pub mod wl_shell {
         }
     }
 
-    /// Calls the method of a request. False where the message is for another interface, or the
+    /// Calls the method of a request. False if the message is for another interface, or the
     /// interface has no such request with these arguments: nothing is called then.
     pub fn dispatch_request(
         handler: &mut impl Requests,
@@ -4464,7 +4464,7 @@ pub mod wl_shell_surface {
         }
     }
 
-    /// Calls the method of an event. False where the message is for another interface, or the
+    /// Calls the method of an event. False if the message is for another interface, or the
     /// interface has no such event with these arguments: nothing is called then.
     pub fn dispatch_event(
         handler: &mut impl Events,
@@ -4586,7 +4586,7 @@ pub mod wl_shell_surface {
         }
     }
 
-    /// Calls the method of a request. False where the message is for another interface, or the
+    /// Calls the method of a request. False if the message is for another interface, or the
     /// interface has no such request with these arguments: nothing is called then.
     pub fn dispatch_request(
         handler: &mut impl Requests,
@@ -4730,7 +4730,7 @@ pub mod wl_fixes {
         }
     }
 
-    /// Calls the method of a request. False where the message is for another interface, or the
+    /// Calls the method of a request. False if the message is for another interface, or the
     /// interface has no such request with these arguments: nothing is called then.
     pub fn dispatch_request(
         handler: &mut impl Requests,

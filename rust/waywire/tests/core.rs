@@ -362,7 +362,7 @@ fn an_event_replaces_an_object() {
     assert_eq!(client.replaced(), None);
 }
 
-/// What tables say of messages, and messages that are taken apart by it.
+/// What tables say of messages, and messages that are decoded by it.
 #[test]
 fn messages_are_taken_apart() {
     let tables = Tables::core().unwrap();

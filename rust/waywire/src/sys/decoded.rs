@@ -41,7 +41,7 @@ pub struct RawDecoded {
     args: [RawArg; MAX_ARGS as usize],
 }
 
-/// A message that was taken apart. Its name lies in the tables, its strings and arrays in the bytes, and both
+/// A message that was decoded. Its name lies in the tables, its strings and arrays in the bytes, and both
 /// are borrowed for `'a`.
 #[derive(Clone, Debug)]
 pub struct Decoded<'a> {
@@ -66,8 +66,8 @@ impl<'a> Decoded<'a> {
         })
     }
 
-    /// What a call of the library takes apart, which returns its status: the name must lie in tables,
-    /// and all else in bytes, that are borrowed for `'a`. `None` if nothing is taken apart.
+    /// What a call of the library decodes, which returns its status: the name must lie in tables,
+    /// and all else in bytes, that are borrowed for `'a`. `None` if nothing is decoded.
     pub fn by(take_apart: impl FnOnce(*mut RawDecoded) -> u32) -> Option<Decoded<'a>> {
         let mut raw = RawDecoded {
             target: 0,
@@ -120,7 +120,7 @@ impl<'a> Decoded<'a> {
 
     pub fn arg(&self, place: usize) -> Option<Spelled<'a>> {
         let arg = self.raw.args[..self.raw.arg_count].get(place)?;
-        // Safety: they lie in the bytes that were taken apart, which are borrowed for `'a`.
+        // Safety: they lie in the bytes that were decoded, which are borrowed for `'a`.
         let bytes = unsafe { lent::<'a, u8>(arg.bytes.cast(), arg.length) };
         let interface = interface_or_any(self.raw.interfaces[place]);
         let id = arg.object.id();

@@ -255,7 +255,7 @@ impl<'a> Going<'a> {
     }
 }
 
-/// The slice that an end lends to be written. Its pointer may be null where it is empty.
+/// The slice that an end lends to be written. Its pointer may be null if it is empty.
 ///
 /// # Safety
 ///
