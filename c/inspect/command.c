@@ -10,9 +10,9 @@
 #include <sys/wait.h>
 #include <unistd.h>
 
-/* So many numbers of descriptors are kept free for those that pass. */
+/* This many descriptor numbers are kept free for the descriptors that pass. */
 #define KEPT_FREE (2 * PIECE_DESCRIPTORS)
-/* As many as the tool and one client have open beside these. */
+/* How many the tool and one client have open besides. */
 #define ALWAYS_OPEN 16
 
 volatile sig_atomic_t stopped_by, was_typed, child_ended;
@@ -23,7 +23,7 @@ static void on_stop(int number, siginfo_t *info, void *context)
 {
 	(void)context;
 	stopped_by = number;
-	was_typed = info->si_code == SI_KERNEL; /* the terminal has told the command too */
+	was_typed = info->si_code == SI_KERNEL; /* then the terminal has sent it to the command too */
 }
 
 static void on_child(int number)

@@ -2,7 +2,7 @@
 #define _GNU_SOURCE
 #include "inspect.h"
 
-/* In place of a sender: messages of both, and besides those that make or name such an object. */
+/* Instead of a sender: messages of both senders, and also messages that make or name such an object. */
 enum { ANY_SENDER = COMPOSITOR + 1, ANY_PART };
 
 static bool is_pattern(struct name name)
@@ -10,7 +10,7 @@ static bool is_pattern(struct name name)
 	return memchr(name.bytes, '*', name.length) || memchr(name.bytes, '?', name.length);
 }
 
-/* Whether a name is of a pattern, in which `*` stands for any characters and `?` for one. */
+/* Whether a name matches a pattern, in which `*` stands for any characters and `?` for one. */
 static bool matches(struct name pattern, struct name name)
 {
 	size_t at = 0, star = pattern.length, again = 0;
@@ -78,7 +78,7 @@ static size_t add_named(struct filter *filter, const waywire_tables *tables, str
 	return count;
 }
 
-/* Adds a name, which ends the tool where the tables have nothing of it. */
+/* Adds a name. Ends the tool if it matches nothing in the tables. */
 static void add_name(struct filter *filter, const waywire_tables *tables, const char *option, struct name name)
 {
 	const char *point = memchr(name.bytes, '.', name.length);
@@ -113,7 +113,7 @@ static bool is_for(const struct asked *asked, const struct message *message)
 		&& (asked->from >= ANY_SENDER || (asked->from == message->from && asked->opcode == message->opcode));
 }
 
-/* Whether a message makes or names an object of an interface that is asked for by that alone. */
+/* Whether a message makes or names an object of an interface that is asked for without a message. */
 static bool names(const struct asked *asked, const struct message *message)
 {
 	if (asked->from != ANY_PART)

@@ -4,7 +4,7 @@
 
 #include <inttypes.h>
 
-/* So many messages are kept. */
+/* How many messages are kept. */
 #define KEPT 64
 
 /* An object that a message is for, makes or names, or whose id it makes free. */
@@ -23,7 +23,7 @@ struct past {
 
 struct history {
 	struct past kept[KEPT]; /* a ring */
-	uint64_t count;         /* of all that were noted */
+	uint64_t count;         /* how many were noted in all */
 };
 
 struct history *history_new(void)

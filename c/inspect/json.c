@@ -288,7 +288,7 @@ static void put_before(struct text *text, const struct shown *shown, const struc
 	text_add(text, "]");
 }
 
-/* What a wl_display.error says, in a line of its own. */
+/* Puts what a wl_display.error says, in a line of its own. */
 static void print_error(const struct shown *shown, const struct message *message)
 {
 	struct text line = { NULL, 0, 0 };
@@ -341,7 +341,7 @@ void json_broken(const struct shown *shown, const struct breaking *breaking)
 	print_line(&line);
 }
 
-/* A time as it is printed, so that what is computed of it is the same when a recording is read. */
+/* A time as it is printed, so that values computed from it are the same when a recording is read. */
 static double rounded(double seconds)
 {
 	return (double)(int64_t)(seconds * 1e6 + 0.5) / 1e6;

@@ -5,7 +5,7 @@
 #include <inttypes.h>
 #include <stdio.h>
 
-/* So many bytes of a message that cannot be decoded are printed. */
+/* How many bytes of a message that cannot be decoded are printed. */
 #define SHOWN_BYTES 64
 
 bool has_failed(const struct judging *judging)
@@ -13,7 +13,7 @@ bool has_failed(const struct judging *judging)
 	return judging->standing == BROKEN || judging->has_error;
 }
 
-/* Says once that the client is not judged any more. */
+/* Reports once that the client is no longer judged. */
 static void lose(struct judging *judging, waywire_status status)
 {
 	if (judging->standing == LOST)
@@ -44,7 +44,7 @@ void judge_free(struct judging *judging)
 
 /* ---- a message */
 
-/* Whether all messages of both directions are looked at. */
+/* Whether the messages of both directions are still followed. */
 static bool sees_all(const struct judging *judging)
 {
 	return !has_failed(judging) && judging->standing != LOST && !judging->is_lost[CLIENT]
@@ -72,7 +72,7 @@ static void print_by_line(struct judging *judging, struct message *message, cons
 	print_message(&judging->shown, message, line, &printed);
 }
 
-/* Prints a message by the front of the library's lines, and takes that off them. */
+/* Prints a message with the first of the library's lines, and removes that line. */
 static void print_judged(struct judging *judging, struct message *message, const char **lines, size_t *length)
 {
 	static const struct beside none;
@@ -87,7 +87,7 @@ static void print_judged(struct judging *judging, struct message *message, const
 	*length -= its + (end != NULL);
 }
 
-/* ---- behind what is not judged */
+/* ---- after the last judged message */
 
 static void print_unjudged(struct judging *judging, struct message *message, const char *note)
 {
@@ -105,7 +105,7 @@ static void print_unjudged(struct judging *judging, struct message *message, con
 	text_free(&line);
 }
 
-/* Why a bind breaks no rule: nothing but that the tables lack its interface or its version. */
+/* Why a bind does not count as broken: the only reason is that the tables lack its interface or its version. */
 static bool is_beyond_tables(const struct judging *judging, const struct message *message, struct text *reason)
 {
 	uint32_t known;
@@ -188,7 +188,7 @@ static void meet_fault(struct judging *judging, struct message *message, const w
 
 /* ---- a piece */
 
-/* Prints the messages that a piece completes, the judged ones by the library's lines. */
+/* Prints the messages that a piece completes; judged messages with the library's lines. */
 static void print_messages(struct judging *judging, int from)
 {
 	waywire_inspector *inspector = judging->follower.inspector;

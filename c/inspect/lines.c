@@ -1,4 +1,4 @@
-/* The line of a message, by what the tool knows of its objects. */
+/* The line of a message, from what the tool knows of its objects. */
 #define _GNU_SOURCE
 #include "printed.h"
 

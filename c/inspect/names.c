@@ -6,10 +6,10 @@
 #include <limits.h>
 #include <stdio.h>
 
-/* So many messages have their line kept at hand. */
+/* For how many messages the line is cached. */
 #define KEPT 1024
 
-/* Lines as tools/protocol_names.py makes them, each ended by a NUL, and where they begin, in their order. */
+/* Lines as tools/protocol_names.py makes them, each ended by a NUL, and where each begins, in order. */
 struct lines {
 	struct text bytes;
 	char **sorted;
@@ -56,7 +56,7 @@ static void add_file(struct lines *lines, const char *path)
 		text_add(&lines->bytes, "\n");
 }
 
-/* Adds what the tool for XML says of the files of --tables that it can read. */
+/* Adds the names from those files of --tables that the tool for XML can read. */
 static void add_xml(struct lines *lines, const struct options *options)
 {
 	char tool[PATH_MAX];

@@ -1,4 +1,4 @@
-/* What the tool prints: messages and verdicts on standard output or to a file, all else on standard error. */
+/* Prints messages and verdicts to standard output or to a file, and everything else to standard error. */
 #define _GNU_SOURCE
 #include "inspect.h"
 
@@ -10,7 +10,7 @@
 #include <stdlib.h>
 #include <unistd.h>
 
-/* A pipe that takes anything takes this much at once. */
+/* A pipe that accepts anything accepts this much at once. */
 #define MOST_AT_ONCE 4096
 #define SECOND 1000
 
@@ -49,7 +49,7 @@ void fail(const char *format, ...)
 	exit(NOTHING_INSPECTED);
 }
 
-/* Waits until the output takes something; after the tool was told to stop, for one second at most. */
+/* Waits until the output accepts something; once the tool was told to stop, for at most one second. */
 static bool wait_for_output(void)
 {
 	struct pollfd polled = { output, POLLOUT, 0 };

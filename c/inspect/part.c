@@ -8,7 +8,7 @@
 /* No interface has a longer name, and no message more bytes. */
 #define LONGEST_NAME 256
 #define LONGEST_MESSAGE 65535
-/* Objects are written into no more bytes than these; what is left out is unknown to a reader. */
+/* The objects take at most this many bytes. A reader does not know of objects that are left out. */
 #define MOST_OF_OBJECTS 1048576
 
 /* ---- written */
@@ -50,7 +50,7 @@ void part_put(struct text *text, const struct follower *follower, const struct t
 
 struct part {
 	struct follower *follower;
-	size_t client_ids, server_ids; /* that there were */
+	size_t client_ids, server_ids; /* how many were used */
 	struct reopening reopening;
 };
 
@@ -65,7 +65,7 @@ static bool read_object(const char *comment, struct reopened *object, char *name
 	return object->is_ending || !strcmp(word, "object");
 }
 
-/* An id that an object has is one of those that there were. */
+/* The id of an object is one of the used ids. */
 static void note_id(struct part *part, uint32_t id)
 {
 	size_t place = id < FIRST_SERVER_ID ? id : id - FIRST_SERVER_ID;

@@ -1,4 +1,4 @@
-/* The page of --picture, which waywire-picture makes of what was recorded. */
+/* The page of --picture, which waywire-picture makes from the recording. */
 #define _GNU_SOURCE
 #include "inspect.h"
 
@@ -8,7 +8,7 @@
 #include <unistd.h>
 
 static char folder[PATH_MAX];
-static char *recorded; /* in that folder; null where --record names a file */
+static char *recorded; /* in that folder; null if --record names a file */
 
 void picture_begin(struct options *options)
 {

@@ -77,7 +77,7 @@ static void put_coloured(struct text *text, const struct message *message, const
 	text_put(text, line->bytes + name, line->length - name);
 }
 
-/* Puts a message's line with the names that are known, unless that is not wanted. */
+/* Puts a message's line, with the known names unless --no-names is given. */
 static void put_line(struct text *text, const struct shown *shown, const struct message *message,
 	const struct text *line)
 {
@@ -112,7 +112,7 @@ static void print_note(const struct shown *shown, const struct message *message,
 	text_free(&words);
 }
 
-/* Says which messages about an object came last. */
+/* Prints the last messages about an object. */
 static void print_before(const struct shown *shown, double seconds, const struct object *object)
 {
 	struct before before[MOST_BEFORE];
@@ -163,7 +163,7 @@ void print_message(const struct shown *shown, const struct message *message, con
 	history_note(shown->history, message, line);
 }
 
-/* Appends which client it is to a line about its whole session, if there are others. */
+/* If there are other clients, appends the client to a line about its whole session. */
 static void put_who(struct text *text, const struct shown *shown)
 {
 	if (shown->is_numbered && shown->who && *shown->who)

@@ -1,4 +1,4 @@
-/* What is printed of a client's messages: lines (lines.c, printed.c) or JSON (json.c), those that are asked for
+/* Prints a client's messages, as lines (lines.c, printed.c) or JSON (json.c): those that are asked for
  * (filter.c), and counts at the end (stats.c). */
 #ifndef INSPECT_SHOW_H
 #define INSPECT_SHOW_H
@@ -12,7 +12,7 @@ struct options;
 /* An interface, or one of its messages. */
 struct asked {
 	uint16_t interface;
-	int from, opcode; /* which sender's; filter.c has what stands for more than one message */
+	int from, opcode; /* whose message; filter.c has values that stand for several messages */
 };
 
 struct filter {
@@ -20,15 +20,15 @@ struct filter {
 	size_t count;
 };
 
-/* Adds what an option names, with commas between. Ends the tool where the tables have no such name. */
+/* Adds the names in an option, separated by commas. Ends the tool if the tables have no such name. */
 void filter_read(struct filter *filter, const waywire_tables *tables, const char *option, const char *names);
 
-/* Whether --only and --except let a message be shown. */
+/* Whether a message is shown, by --only and --except. */
 bool is_shown(const struct options *options, const struct message *message);
 
 /* ---- words (lines.c) */
 
-/* Puts the line of a message as far as it could be decoded, as a trace has it. */
+/* Puts the line of a message as a trace prints it, as far as it could be decoded. */
 void put_message(struct text *text, const struct message *message);
 
 /* Puts the line of a message up to its arguments. */
@@ -42,23 +42,23 @@ void put_object(struct text *text, const struct object *object);
 
 /* ---- names of values (values.c) */
 
-/* A value has no more names than its bits, or one. */
+/* The most names of a value: one for each bit. */
 #define MOST_NAMES 32
 
-/* The names of a value: its own, or those of its bits in a bitfield. Returns how many; `rest` gets the bits that have
- * none. */
+/* The names of a value: its own, or in a bitfield those of its bits. Returns how many; `rest` gets the bits without a
+ * name. */
 size_t names_of_value(const struct meaning *meaning, uint32_t value, struct name *names, uint32_t *rest);
 
 /* Whether an argument is an array of 32-bit numbers. */
 bool has_numbers(const struct argument *argument);
 
-/* The number at a place of an array of these. */
+/* The number at a place of such an array. */
 uint32_t number_at(const waywire_arg *array, size_t place);
 
-/* Puts the names of an argument's value, and what stands in a short array. */
+/* Puts the names of an argument's value, and the contents of a short array. */
 void put_meaning(struct text *text, const struct argument *argument);
 
-/* Puts the line of a message with names behind its numbers. What is no line of that message stays as it is. */
+/* Puts the line of a message, with names after its numbers. If the line is not that of the message, it stays as it is. */
 void put_line_with_names(struct text *text, const struct message *message, const struct text *line);
 
 /* Which rule a message breaks: F1 is 1. */
@@ -72,8 +72,8 @@ struct fault {
 void put_fault(struct text *text, const struct follower *follower, const struct message *message,
 	const struct fault *fault);
 
-/* The object because of which a message breaks a rule: that its target, an argument or a new id means. One with id 0
- * if there is none, or if it is wl_display. */
+/* The object because of which a message breaks a rule: the object of its target, of an argument or of a new id. Its id
+ * is 0 if there is none, or if it is wl_display. */
 struct object object_at_fault(const struct follower *follower, const struct message *message,
 	const struct fault *fault);
 
@@ -88,13 +88,13 @@ struct counted {
 struct stats {
 	struct counted *counted;
 	size_t count;
-	struct keyed places; /* of the counts, by their names */
+	struct keyed places; /* places of the counts, by their names */
 };
 
-/* Counts a message. If memory runs out it is left out. */
+/* Counts a message. If memory runs out, it is not counted. */
 void stats_note(struct stats *stats, const struct message *message);
 
-/* Puts the counts, what was not answered until then, and what was left open. */
+/* Puts the counts, what was not answered by then, and which objects were left. */
 void stats_put(struct text *text, const struct stats *stats, const struct follower *follower,
 	const struct questions *questions, double until);
 
@@ -105,7 +105,7 @@ void stats_free(struct stats *stats);
 /* The last messages of a client. */
 struct history;
 
-/* Null if memory runs out: then nothing is noted. */
+/* Null if memory runs out; then nothing is noted. */
 struct history *history_new(void);
 
 void history_free(struct history *history);
@@ -113,35 +113,35 @@ void history_free(struct history *history);
 /* Notes a message with its line. */
 void history_note(struct history *history, const struct message *message, const struct text *line);
 
-/* So many messages are said to have led to an error. */
+/* This many messages are printed as having led to an error. */
 #define MOST_BEFORE 5
 
 struct before {
-	uint64_t number, index; /* among all, and among those of its direction, as a verdict counts */
+	uint64_t number, index; /* among all messages, and among those of its direction, as in a verdict */
 	int from;
 	const struct text *line;
 };
 
-/* The last messages that are for an object, make it or name it, the oldest first; of wl_display the last requests; of
- * an unknown object those about its id. They are looked for among the last 64 messages. Returns how many there are. */
+/* The last messages that are for an object, make it or name it, the oldest first; for wl_display, the last requests;
+ * for an unknown object, those about its id. Only the last 64 messages are searched. Returns how many there are. */
 size_t history_before(const struct history *history, const struct object *object, struct before *before);
 
 /* ---- a client (printed.c, json.c) */
 
-/* The client that lines are of. */
+/* The client whose lines are printed. */
 struct shown {
 	const struct options *options;
 	unsigned number;   /* the client's */
-	bool is_numbered;  /* whether lines say so */
+	bool is_numbered;  /* whether lines begin with its number */
 	const char *who;   /* its program and process; null or empty if they are not known */
 	struct history *history;
-	double start;      /* when it connected, in seconds behind the first client */
+	double start;      /* when it connected, in seconds after the first client */
 	double moment;     /* when the first client connected, in seconds since 1970; less than 0 if it is not known */
 };
 
-/* What is said of a message beside its line. */
+/* What is printed of a message beside its line. */
 struct beside {
-	const char *note;  /* null if there is none; what an unjudged message is not in */
+	const char *note;  /* what the tables lack, for a message from which on nothing is judged; null if there is none */
 	bool is_marked;    /* it is not judged */
 	bool is_red;
 };
@@ -155,7 +155,7 @@ struct breaking {
 	const struct message *message;
 	const struct text *line, *words, *verdict;
 	struct fault fault;
-	struct object object; /* because of which it does; with id 0 if there is none */
+	struct object object; /* the object because of which it does; with id 0 if there is none */
 };
 void print_broken(const struct shown *shown, const struct breaking *breaking);
 
@@ -175,7 +175,7 @@ struct ending {
 };
 void print_verdict(const struct shown *shown, const struct ending *ending);
 
-/* Prints what was asked and not answered until a time, in seconds: in words what has waited for a second or longer
+/* Prints what was asked and not answered by this time, in seconds: in words, what has waited for a second or longer
  * (unanswered.c). */
 void print_unanswered(const struct shown *shown, const struct questions *questions, double until);
 
@@ -185,7 +185,7 @@ struct head {
 	char **command;
 	const char *tables;  /* names with spaces between */
 	bool is_timed;
-	double from;         /* where it begins in the middle of its session, in seconds; -1 where it does not */
+	double from;         /* if it begins in the middle of its session, when that is, in seconds; otherwise -1 */
 };
 void json_head(const struct head *head);
 void json_client(unsigned number, const char *name, long process);

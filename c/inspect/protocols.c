@@ -1,4 +1,4 @@
-/* The XML of protocols that the system has installed: what no table text has is made a text. */
+/* The XML of protocols that is installed on the system. What no table text has is converted to a text. */
 #define _GNU_SOURCE
 #include "inspect.h"
 
@@ -12,17 +12,17 @@ static const char *const folders[] = {
 	"wayland", "wayland-protocols", "wlr-protocols", "plasma-wayland-protocols", "hyprland-protocols",
 };
 #define USUAL_DATA "/usr/local/share:/usr/share"
-/* Of folders, one in another. */
+/* The most folders within each other. */
 #define MOST_DEPTH 4
 #define SPACES " \t\r\n"
 
-/* An XML that is installed. */
+/* An installed XML. */
 struct protocol {
 	char *path;
 	struct text text;
-	bool is_older;  /* something else has a newer version of an interface of it */
-	bool is_new;    /* it has what no text has */
-	bool is_wanted; /* it is converted */
+	bool is_older;  /* another XML or a text has a newer version of one of its interfaces */
+	bool is_new;    /* it has an interface or a version that no text has */
+	bool is_wanted; /* it was chosen to be converted */
 };
 
 /* What a text or an XML declares. */
@@ -127,7 +127,7 @@ static struct name attribute(const char *at, const char *end, const char *name)
 	return none;
 }
 
-/* What follows the next of these words in a tag; null if there is none. */
+/* What follows the next of these words in a tag; null if there is no such word. */
 static const char *next_tag(const char *at, const char *word, const char **end)
 {
 	while ((at = strstr(at, word))) {
@@ -144,7 +144,7 @@ static bool can_be_in_tables(struct name name)
 	return name.length && strspn(name.bytes, "abcdefghijklmnopqrstuvwxyz0123456789_") >= name.length;
 }
 
-/* Whether an XML has a name that no tables can have. */
+/* Whether an XML has a name that tables cannot have. */
 static bool is_malformed(const struct protocol *protocol)
 {
 	static const char *const words[] = { "<interface", "<request", "<event" };
@@ -167,7 +167,7 @@ static void declare_protocol(struct search *search, size_t place)
 	}
 }
 
-/* What a text declares. An interface that is given is as new as can be, so that no other takes its place. */
+/* Notes what a text declares. An interface of --tables counts as the newest, so that no other replaces it. */
 static void declare_source(struct search *search, const struct source *source)
 {
 	for (size_t at = 0; source->bytes && at < source->length; at = source_next_line(source, at)) {
@@ -190,7 +190,7 @@ static void declare_core(struct search *search, const waywire_tables *core)
 
 /* ---- which are converted */
 
-/* Notes which XML has what the tables lack, and which has an older version of something. */
+/* Notes for each XML whether it has what the tables lack, and whether it has an older version of an interface. */
 static void compare_versions(struct search *search)
 {
 	const struct declared *end = search->declared + search->declared_count;
@@ -208,7 +208,7 @@ static void compare_versions(struct search *search)
 	}
 }
 
-/* Chooses what is converted, and says so. */
+/* Chooses the XML to convert, and reports it. */
 static void choose(struct search *search)
 {
 	for (size_t each = 0; each < search->protocol_count; each++) {
@@ -223,7 +223,7 @@ static void choose(struct search *search)
 	}
 }
 
-/* Whether a text declares nothing that is converted. */
+/* Whether no interface of a text is converted. */
 static bool stands_beside(const struct search *search, const struct source *source)
 {
 	for (size_t each = 0; each < search->declared_count; each++) {
@@ -247,7 +247,7 @@ static bool names_one_of(const struct protocol *protocol, const struct source *s
 	return false;
 }
 
-/* Whether what is converted names interfaces of a text. */
+/* Whether the converted XML names interfaces of a text. */
 static bool is_named(const struct search *search, const struct source *source)
 {
 	for (size_t each = 0; each < search->protocol_count; each++)
@@ -256,7 +256,7 @@ static bool is_named(const struct search *search, const struct source *source)
 	return false;
 }
 
-/* The words of a command; each is freed with them. */
+/* The words of a command, which are freed with it. */
 struct words {
 	char **of;
 	size_t count;
@@ -283,7 +283,7 @@ static void add_origin(struct words *words, const char *path)
 	text_free(&comment);
 }
 
-/* Converts those that are wanted. */
+/* Converts the chosen XML. */
 static bool convert_wanted(const struct search *search, const struct source *sources, size_t source_count,
 	struct text *made)
 {

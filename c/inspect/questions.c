@@ -1,8 +1,8 @@
-/* Which messages ask, and which answer.
+/* Finds out which messages ask, and which answer.
  *
- * An object that an event ends is a question, as a wl_callback or a wp_presentation_feedback: the message that makes
- * it asks, and that event answers. The tables say which interfaces have such an event. Messages that are answered in
- * another way are known by name: those with a serial, which the answer repeats, and `pairs`. */
+ * An object that an event ends is a question, such as a wl_callback or a wp_presentation_feedback: the message that
+ * makes it asks, and that event answers. The tables say which interfaces have such an event. Messages that are
+ * answered in another way are known by name: those with a serial, which the answer repeats, and `pairs`. */
 #define _GNU_SOURCE
 #include "questions.h"
 
@@ -11,7 +11,7 @@
 /* A request that events of the same object answer. */
 struct pair {
 	const char *interface;
-	const char *request; /* null if the message that makes the object asks */
+	const char *request; /* null if the message that makes the object is the question */
 	const char *answers[3];
 };
 
@@ -128,7 +128,7 @@ static struct question_kind *kind_of(struct questions *questions, const struct m
 	return NULL;
 }
 
-/* Takes a question out. */
+/* Removes a question. */
 static void close_question(struct questions *questions, struct question *question)
 {
 	struct target *target = keyed_find(&questions->targets, question->id);
@@ -185,7 +185,7 @@ static void ask(struct questions *questions, const struct message *message, uint
 	}
 }
 
-/* The question of this key is answered by a message. Returns the number of the question's. */
+/* A message answers the question with this key. Returns the number of the question's message. */
 static uint64_t answer(struct questions *questions, const struct message *message, uint64_t key)
 {
 	struct question *question = keyed_find(&questions->open, key);
@@ -201,7 +201,7 @@ static uint64_t answer(struct questions *questions, const struct message *messag
 	return number;
 }
 
-/* As `answer`; the questions of this kind that were put to the object before need no answer any more. */
+/* As `answer`. Earlier questions of this kind that were put to the object need no answer any more. */
 static uint64_t answer_last(struct questions *questions, const struct message *message, uint64_t key)
 {
 	struct question *question = keyed_find(&questions->open, key);
@@ -214,7 +214,7 @@ static uint64_t answer_last(struct questions *questions, const struct message *m
 	return answer(questions, message, key);
 }
 
-/* Nothing that was put to an object is answered any more. */
+/* No question that was put to an object is answered any more. */
 static void close_target(struct questions *questions, uint32_t id)
 {
 	struct target *target;
@@ -222,7 +222,7 @@ static void close_target(struct questions *questions, uint32_t id)
 		close_question(questions, target->first);
 }
 
-/* An object has ended: no answer can come for it, nor for what was put to it. */
+/* An object has ended: no answer can come for it, or for the questions that were put to it. */
 static void forget_object(struct questions *questions, uint32_t id)
 {
 	struct question *question = keyed_find(&questions->open, id);
@@ -241,7 +241,7 @@ static uint64_t serial_key(const struct message *message)
 		? (uint64_t)message->target.id << 32 | message->args[0].value.u : 0;
 }
 
-/* A surface becomes that of a cursor or of a drag. */
+/* A surface becomes the surface of a cursor or a drag. */
 static void note_icon(struct questions *questions, const struct message *message)
 {
 	static char is_icon;

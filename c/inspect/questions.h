@@ -1,4 +1,4 @@
-/* What a session's messages ask, and which of them answer (questions.c). */
+/* The questions and answers among a session's messages (questions.c). */
 #ifndef INSPECT_QUESTIONS_H
 #define INSPECT_QUESTIONS_H
 
@@ -17,18 +17,18 @@ struct question_kind {
 
 /* A question that has no answer yet. */
 struct question {
-	struct question *before, *next; /* that were put to the same object */
+	struct question *before, *next; /* questions that were put to the same object */
 	struct question_kind *kind;
 	uint64_t key;
 	uint64_t number;    /* of its message */
 	double seconds;     /* when it was asked; -1 if that is not known */
-	uint32_t id, birth; /* of the object that it was put to */
+	uint32_t id, birth; /* the object that it was put to */
 };
 
-/* Memory grows with the questions that are open, and with the interfaces. */
+/* Memory grows with the number of open questions, and of interfaces. */
 struct questions {
 	struct keyed open;    /* by the id of the object that the answer is for, or by an object's id and a serial */
-	struct keyed targets; /* by an object's id: those that were put to it */
+	struct keyed targets; /* by an object's id: the questions that were put to it */
 	struct keyed kinds;
 	struct keyed icons;   /* surfaces of cursors and of drags, which need not be shown */
 	struct role *roles;   /* by interface */
@@ -48,7 +48,7 @@ const struct question_kind *questions_syncs(const struct questions *questions);
 
 void questions_free(struct questions *questions);
 
-/* Puts a line for each group of questions that are open at a time, `until`, and have been for at least `least`
+/* Puts a line for each group of questions that are open at the time `until`, and have waited for at least `least`
  * seconds, the longest first: no more than `most` (unanswered.c). */
 void unanswered_put(struct text *text, const struct questions *questions, double until, double least, size_t most);
 

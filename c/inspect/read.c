@@ -1,11 +1,11 @@
-/* A recording that is read: its pieces pass a judging as those of a live session do. */
+/* Reads a recording. Its pieces are judged like those of a live session. */
 #define _GNU_SOURCE
 #include "inspect.h"
 
 #include <stdio.h>
 #include <unistd.h>
 
-/* The length of a path without `.last`, and without a number behind a point, which those of further clients have. */
+/* The length of a path without `.last`, and without `.2` or another number, which the paths of later clients have. */
 static size_t without_number(const char *path)
 {
 	static const char last[] = ".last";
@@ -39,10 +39,10 @@ char *tables_beside(struct options *options)
 /* What the comments of a recording say. */
 struct comments {
 	struct client client;
-	char started[32]; /* empty if it is not said */
-	double seconds;   /* of the next piece; -1 where it is not said */
-	double latest;    /* the latest time that is said; -1 if there is none */
-	double from;      /* where it begins, in the middle of its session; -1 where it does not */
+	char started[32]; /* empty if the comments do not say it */
+	double seconds;   /* of the next piece; -1 if it is not known */
+	double latest;    /* the latest time in a comment; -1 if there is none */
+	double from;      /* when it begins, if it begins in the middle of its session; otherwise -1 */
 	bool is_timed, has_end, was_cut;
 };
 
@@ -112,7 +112,7 @@ void each_comment(char *text, size_t length, void (*note)(void *to, const char *
 	}
 }
 
-/* The recording, and how far it was read. */
+/* The recording, and how far it has been read. */
 struct reading {
 	struct text text;
 	size_t from, line;
@@ -146,7 +146,7 @@ static void print_head(const struct options *options, const struct known *known,
 	json_client(1, *comments->client.name ? comments->client.name : NULL, (long)comments->client.process);
 }
 
-/* Says why the recording ends before its end. */
+/* Reports why reading stopped before the end. */
 static void notice_end(const struct options *options, const struct reading *reading, waywire_status status)
 {
 	char words[64];
@@ -157,7 +157,7 @@ static void notice_end(const struct options *options, const struct reading *read
 	notice("%s", status == WAYWIRE_BAD_LINE ? words : waywire_strerror(status));
 }
 
-/* Passes all pieces, of which the first was read. Returns why it ends. */
+/* Passes all pieces; the first one was already read. Returns why that ended. */
 static waywire_status pass_pieces(struct reading *reading, struct judging *judging, waywire_status status)
 {
 	for (; !status; status = next_piece(reading))

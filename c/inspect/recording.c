@@ -11,17 +11,17 @@
 
 /* The most bytes of a recording. */
 #define LONGEST LONGEST_FILE
-/* The most that a piece has beside its digits: a line with its time; an arrow, two spaces, `+`, 3 digits, a line
+/* The most bytes of a piece beside its digits: a line with its time; an arrow, two spaces, `+`, 3 digits, a line
  * feed. */
 #define BESIDE_DIGITS 64
-/* Room is left for the line that says when the session ended, or that the recording was cut. */
+/* The room for the last line, which says when the session ended, or that the recording was cut. */
 #define LAST_LINE 64
-/* Two parts of --record-last are one recording. */
+/* At the end two parts of --record-last are joined to one recording. */
 #define LONGEST_PART (LONGEST / 2)
 
 /* ---- the client */
 
-/* The name of a process, with `?` for what a line cannot have. */
+/* Finds the name of the client's process. Characters that a line cannot have become `?`. */
 static void find_name(struct client *client)
 {
 	char path[64];
@@ -157,7 +157,7 @@ static void close_file(struct recording *recording)
 	recording->path = NULL;
 }
 
-/* The file takes nothing more. */
+/* Stops recording, since the file accepts nothing more. */
 static void give_up(struct recording *recording)
 {
 	notice("cannot write %s: %s; the recording ends there", recording->path, strerror(errno));
@@ -166,8 +166,8 @@ static void give_up(struct recording *recording)
 	close_file(recording);
 }
 
-/* Writes what readers skip: whose session it is, when it was begun, and by which tables it was read. In a part that
- * begins later also what came before. */
+/* Writes comments: whose session it is, when it began, and which tables were used. In a later part, also what came
+ * before. */
 static void write_head(struct recording *recording, const struct follower *follower, double seconds)
 {
 	const struct client *client = &recording->client;
@@ -211,7 +211,7 @@ static char *with_word(const struct recording *recording, const char *word)
 	return made;
 }
 
-/* Removes a file of a session before. */
+/* Removes a file that an earlier session has left. */
 static void remove_old(const struct recording *recording, const char *word)
 {
 	char *path = with_word(recording, word);
@@ -252,7 +252,7 @@ static size_t lines_of(char *text, const struct recorded *piece)
 	return (size_t)(at - text);
 }
 
-/* Writes the last line: what happened, and when. Closes the file where it does not take that, and returns false. */
+/* Writes the last line: what happened, and when. If that fails, closes the file and returns false. */
 static bool write_last(struct recording *recording, const char *what, double seconds)
 {
 	char line[LAST_LINE];
@@ -267,7 +267,7 @@ static bool write_last(struct recording *recording, const char *what, double sec
 
 /* ---- when it is full */
 
-/* The recording ends before what it has no room for. */
+/* Ends the recording before the piece that does not fit. */
 static void cut(struct recording *recording, double seconds)
 {
 	if (!write_last(recording, "cut", seconds))
@@ -277,7 +277,7 @@ static void cut(struct recording *recording, double seconds)
 	close_file(recording);
 }
 
-/* Gives the part that is full another name, in place of the part before it. */
+/* Renames the full part, which replaces the part before it. */
 static void put_aside(const struct recording *recording)
 {
 	char *part = with_word(recording, "last"), *before = with_word(recording, "before");
@@ -287,7 +287,7 @@ static void put_aside(const struct recording *recording)
 	free(before);
 }
 
-/* Goes on in the file of the last part. */
+/* Continues in the file of the last part. */
 static void begin_part(struct recording *recording, const struct follower *follower, double seconds)
 {
 	if (recording->parts++)
@@ -329,7 +329,7 @@ static void join_parts(const struct recording *recording)
 	free(before);
 }
 
-/* Takes from the fronts what is of whole messages by now. False if there is less than that. */
+/* Removes from the fronts the bytes of messages that are whole now. False if the fronts have fewer bytes than that. */
 static bool trim_fronts(struct recording *recording, const struct follower *follower)
 {
 	for (int from = CLIENT; from <= COMPOSITOR; from++) {

@@ -10,21 +10,21 @@
 
 /* How long the command may take to end after each signal, in milliseconds. */
 #define GRACE 2000
-/* When a way that the kernel had no room for is tried again, in milliseconds. */
+/* After how many milliseconds a way is tried again for which the kernel had no room. */
 #define SOON 20
 
 struct run {
 	struct shared shared;
 	struct session *sessions;
-	struct pollfd *polled; /* the listener, and behind it two for each session */
+	struct pollfd *polled; /* the listener, followed by two for each session */
 	size_t session_count;
 	waywire_listening_socket *listener;
 	int connected;      /* to the compositor, for the first client; -1 once it is used */
 	struct children children;
 	bool has_command;
-	bool is_full;       /* no client could be accepted: to be tried again soon */
-	bool was_full;      /* that was so before, and said */
-	bool is_later;      /* what waits is to be tried again soon, though nothing is ready */
+	bool is_full;       /* no client could be accepted: try again soon */
+	bool was_full;      /* that was already reported */
+	bool is_later;      /* a way is to be tried again soon, even if nothing is ready */
 	int stops;          /* how often it was told to stop */
 	struct timespec stop_again;
 };
@@ -136,7 +136,7 @@ static void stop(struct run *run, int number)
 		end_sessions(run, true);
 }
 
-/* Whether the sessions go on for no longer than something comes at once. */
+/* Whether the sessions only go on as long as something comes without waiting. */
 static bool is_ending(const struct run *run)
 {
 	return run->stops && !run->children.is_running;
@@ -148,7 +148,7 @@ static bool may_connect(const struct run *run)
 	return !run->shared.session_count && !run->stops && run->children.has_others && !run->children.status;
 }
 
-/* Whether nothing can come any more but a client that waits to be accepted. */
+/* Whether only a client that waits to be accepted can still come. */
 static bool is_done(const struct run *run)
 {
 	return !run->sessions && !run->children.is_running && !may_connect(run) && (run->has_command || run->stops);
@@ -181,7 +181,7 @@ static int wait_for_any(struct run *run)
 		&run->shared.while_waiting);
 }
 
-/* Does all that can be done. */
+/* Does everything that can be done without waiting. */
 static void step(struct run *run)
 {
 	bool has_client = run->polled[0].revents;
@@ -223,7 +223,7 @@ static void inspect(struct run *run)
 	}
 }
 
-/* The exit status, with a line if nothing was inspected. */
+/* The exit status. If nothing was inspected, a line says so. */
 static int ended(struct run *run)
 {
 	char **command = run->shared.options->command;
@@ -236,7 +236,7 @@ static int ended(struct run *run)
 	return run->children.status ? run->children.status : run->shared.any_has_failed;
 }
 
-/* The line of JSON that stands first. */
+/* Prints the first line of JSON. */
 static void print_head(const struct run *run)
 {
 	char moment[32];

@@ -31,9 +31,9 @@ static void number_lines(struct session *session, const struct shared *shared)
 	text_free(&words);
 }
 
-/* ---- handing on */
+/* ---- passing on */
 
-/* A side writes nothing more, and all that it wrote was handed on. */
+/* A side writes nothing more, and all that it wrote was passed on. */
 static void source_ended(struct session *session, const struct shared *shared, int from)
 {
 	struct way *way = &session->ways[from];
@@ -93,7 +93,7 @@ bool session_wants(const struct session *session, struct pollfd *polled)
 		if (way->is_later || !(way->is_open || way->is_ended))
 			continue;
 		if (!way->is_open)
-			event = 0; /* that it hangs up is told in any case */
+			event = 0; /* POLLHUP is reported in any case */
 		else if (way_waits(way)) {
 			at = !from;
 			event = POLLOUT;

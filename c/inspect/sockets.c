@@ -8,7 +8,7 @@
 #include <sys/socket.h>
 #include <unistd.h>
 
-/* How many names are tried while others have them. */
+/* How many names are tried if they are taken. */
 #define NAMES 32
 /* How long the compositor may take to have room for a connection, in milliseconds. */
 #define PATIENCE 5000

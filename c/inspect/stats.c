@@ -4,7 +4,7 @@
 
 #include <inttypes.h>
 
-/* So many lines are listed of what was not answered. */
+/* How many lines list what was not answered. */
 #define MOST_UNANSWERED 32
 
 static bool is_of(const struct counted *counted, const struct message *message)
@@ -24,7 +24,7 @@ static uint64_t key_of(const struct message *message)
 static struct counted *counted_at(struct stats *stats, const struct message *message)
 {
 	uint64_t key = key_of(message);
-	/* A place is kept as its number and 1. */
+	/* A place is stored as its number plus 1. */
 	for (uintptr_t place; (place = (uintptr_t)keyed_find(&stats->places, key)); key++)
 		if (is_of(&stats->counted[place - 1], message))
 			return &stats->counted[place - 1];

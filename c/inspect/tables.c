@@ -6,13 +6,13 @@
 #include <limits.h>
 #include <stdio.h>
 
-/* The texts that are joined: the installed ones, followed by those that are given. */
+/* The texts that are joined: the installed ones, followed by those of --tables. */
 struct sources {
 	struct source *of;
 	size_t count;
 };
 
-/* Joins the texts into new tables over the core's. At a fault `line` is the line of the joined text, and `rule` may
+/* Joins the texts, and adds them to the core's tables. At a fault `line` is the line of the joined text, and `rule` may
  * be its rule. */
 static waywire_status read_joined(const waywire_tables *core, const struct sources *sources,
 	waywire_tables **tables, size_t *line, uint32_t *rule)
@@ -27,7 +27,7 @@ static waywire_status read_joined(const waywire_tables *core, const struct sourc
 	return status;
 }
 
-/* The text that has a line of all that were joined; the line becomes that of the text. */
+/* The text that has this line of the joined text; `line` becomes the line within that text. */
 static struct source *source_at(struct sources *sources, size_t *line)
 {
 	for (struct source *source = sources->of;; source++) {
@@ -100,7 +100,7 @@ static waywire_tables *read_sources(const waywire_tables *core, struct sources *
 	return tables;
 }
 
-/* Notes a text that was read: its name, and its bytes behind a comment. */
+/* Notes a text that was read: its name, and its bytes after a comment. */
 static void note(struct known *known, const struct source *source)
 {
 	if (!source->bytes || !source->length)

@@ -92,7 +92,7 @@ int digit_value(char it)
 
 void *room_for_one(void *array, size_t count, size_t size)
 {
-	/* It is full where the count is a power of two, or 0. */
+	/* It is full if the count is a power of two, or 0. */
 	return count & (count - 1) ? array : realloc(array, (count ? 2 * count : 1) * size);
 }
 
@@ -129,7 +129,7 @@ size_t shown_character(const unsigned char *bytes, size_t length)
 	return is_control || is_turning ? 0 : size;
 }
 
-/* The bytes that stand escaped at the front of a line, as many as a character has. */
+/* The escaped bytes at the front of a line, as many as one character has. */
 static size_t escaped(const char *line, size_t length, unsigned char *bytes)
 {
 	size_t count = 0;

@@ -1,4 +1,4 @@
-/* Texts of tables: where they are, and what is in them. */
+/* Table texts: where they are, and what is in them. */
 #define _GNU_SOURCE
 #include "inspect.h"
 

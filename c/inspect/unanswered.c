@@ -11,9 +11,9 @@
 /* The open questions of one kind that were put to one object; or a whole kind that was never answered. */
 struct group {
 	const struct question_kind *kind;
-	uint32_t id;     /* 0 of a whole kind */
-	uint64_t count;  /* of open ones */
-	uint64_t number; /* of the first */
+	uint32_t id;     /* 0 for a whole kind */
+	uint64_t count;  /* of open questions */
+	uint64_t number; /* of the first question */
 	double seconds;  /* when that was asked; -1 if that is not known */
 };
 
@@ -78,7 +78,7 @@ static void add_mute(struct groups *groups, const struct questions *questions)
 	}
 }
 
-/* Those that wait longest first. */
+/* The order of groups: those that have waited longest come first. */
 static int by_wait(const void *one, const void *other)
 {
 	const struct group *first = one, *second = other;

@@ -4,7 +4,7 @@
 
 #include <inttypes.h>
 
-/* At most this many numbers of an array are printed; of any other array all bytes, if it has no more than this. */
+/* At most this many numbers of an array are printed. Of any other array all bytes are printed, if there are no more. */
 #define MOST_NUMBERS 8
 #define MOST_BYTES 16
 
@@ -100,7 +100,7 @@ void put_meaning(struct text *text, const struct argument *argument)
 	}
 }
 
-/* Whether there is anything to put behind an argument of a message. */
+/* Whether there is anything to put after an argument of a message. */
 static bool has_meaning(const struct message *message)
 {
 	for (size_t place = 0; place < message->arg_count; place++) {
@@ -111,7 +111,7 @@ static bool has_meaning(const struct message *message)
 	return false;
 }
 
-/* Puts a part of a line that stands at a place. Returns its end; 0 if something else stands there. */
+/* Puts this part of a line, if the line has it at a place. Returns its end; 0 if the line has something else there. */
 static size_t put_part(struct text *text, const struct text *line, size_t at, const struct text *part)
 {
 	if (!part->length || part->length > line->length - at || memcmp(line->bytes + at, part->bytes, part->length))

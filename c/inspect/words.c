@@ -1,4 +1,4 @@
-/* What is wrong with a message, in words. The library has said which rule it breaks. */
+/* Says in words what is wrong with a message. The library has said which rule it breaks. */
 #define _GNU_SOURCE
 #include "printed.h"
 
@@ -11,7 +11,7 @@ static const char *kind_of(const struct message *message)
 	return message->from == CLIENT ? "request" : "event";
 }
 
-/* Puts that an object is not there any more, or never was. */
+/* Puts that an object is gone, or never was there. */
 static void put_gone(struct text *text, const struct object *object)
 {
 	if (object->state == UNKNOWN) {
