@@ -1,9 +1,12 @@
-# The library for C, the tool `waywire-inspect` over it, and the libwayland-client over it that
-# `waywire-run` puts before the system's. `make` proves and builds the library if it is not built yet,
-# over what a run has proved in this clone (tools/toolchain.py). `make install` installs all three, and
-# the program `waywire` with its manual page where that is built (./waywire --build).
-# `make dist` packs all of that for machines that have no toolchain, and `make deb` for Debian. `make check` runs
-# the short tests of the library for C; tests/check-c has all of them.
+# Builds the library for C, and on it the tool `waywire-inspect` and the libwayland-client of `waywire-run`.
+#
+#     make            proves and builds the library if it is not built yet, reusing what was proved in this clone
+#                     (tools/toolchain.py), and then builds the tools
+#     make install    installs all of it, with the manual pages; also the program `waywire`, if that is built
+#                     (./waywire --build)
+#     make dist       packs all of that for machines without the toolchain
+#     make deb        makes a Debian package of it
+#     make check      runs the short tests of the library for C; tests/check-c runs all of them
 #
 #     make install PREFIX=/usr/local LIBDIR=/usr/local/lib DESTDIR=
 PREFIX ?= /usr/local
@@ -16,9 +19,9 @@ CC ?= cc
 CFLAGS ?= -O2
 LDFLAGS ?=
 OBJCOPY ?= objcopy
-# The folder of the toolchain: its C part gives the exports their memory.
+# The folder of the toolchain, whose C part provides the memory of the exports.
 KIT ?= $(shell python3 tools/toolchain.py kit)
-# The one place of the version's number is the program's.
+# The program has the only copy of the version's number.
 numbered = crates/program_arguments/src/job.rt
 VERSION := $(shell sed -n 's/^const VERSION: &str = "\(.*\)";/\1/p' $(numbered))
 numbers := $(subst ., ,$(VERSION))
@@ -38,7 +41,7 @@ wayland = out/c/wayland/libwayland-client.so.0
 run = out/c/waywire-run
 headers = include/waywire.h include/waywire-core.h include/waywire-socket.h include/waywire-version.h
 package = waywire-$(VERSION)-x86_64-linux
-# A file that a build tool reads finds the other folders from its own, so that an installed tree can move.
+# Files for build tools name the other folders relative to their own, so that an installed tree can be moved.
 from = $(shell realpath -ms --relative-to=$(1)/ $(2)/)
 fill = sed 's|@UP@|$(call from,$(1),$(PREFIX))|; s|@LIBDIR@|$(call from,$(PREFIX),$(LIBDIR))|; \
 	s|@INCLUDEDIR@|$(call from,$(PREFIX),$(INCLUDEDIR))|; s|@VERSION@|$(VERSION)|; \
@@ -60,7 +63,7 @@ include/waywire-version.h: $(numbered) Makefile
 		'#define WAYWIRE_VERSION_MINOR $(word 2,$(numbers))' \
 		'#define WAYWIRE_VERSION_PATCH $(word 3,$(numbers))' > $@
 
-# The calls over the exports, without which they cannot be linked.
+# The calls on top of the exports.
 calls = out/c/waywire-calls.o out/c/users-calls.o out/c/tables-calls.o out/c/inspector-calls.o \
 	out/c/line-calls.o
 
@@ -68,7 +71,7 @@ out/c/%-calls.o: c/%.c c/calls.h c/users.h include/waywire.h include/waywire-ver
 	@mkdir -p out/c
 	$(CC) $(CFLAGS) -std=c99 -Wall -Wextra -Wpedantic -fPIC -Iinclude -c $< -o $@
 
-# The toolchain's memory, over what c/tables.c has in place of `malloc`, `realloc` and `free`.
+# The toolchain's memory functions, which call those of c/tables.c instead of `malloc`, `realloc` and `free`.
 out/c/memory.a: Makefile
 	@mkdir -p out/c
 	$(OBJCOPY) --redefine-sym malloc=memory_malloc --redefine-sym realloc=memory_realloc \
@@ -82,8 +85,8 @@ out/c/waywire.o: $(proved) $(calls) out/c/memory.a
 	$(OBJCOPY) --keep-global-symbols=out/c/calls.txt out/c/whole.o $@
 	@rm -f out/c/whole.o
 
-# The sockets are over the calls of waywire.h alone. They are an object of their own, so a program that is linked with
-# the archive and has a transport of its own does not get them.
+# The sockets use only the calls of waywire.h. They are a separate object, so they are not linked into a program that
+# uses the archive with a transport of its own.
 sockets = $(patsubst c/socket/%.c,out/c/socket/%.o,$(wildcard c/socket/*.c))
 
 out/c/socket/%.o: c/socket/%.c c/socket/socket.h include/waywire-socket.h include/waywire-core.h include/waywire.h \
@@ -108,13 +111,13 @@ $(shared): $(objects)
 	@ln -sf $(notdir $@) out/c/$(soname)
 	@ln -sf $(soname) out/c/libwaywire.so
 
-# The tool finds what belongs to it when it runs (c/inspect/folders.c), so that `make install` copies it.
+# The tool finds its files when it runs (c/inspect/folders.c), so `make install` only copies it.
 $(inspect): c/inspect/*.c c/inspect/*.h $(archive)
 	$(CC) $(CFLAGS) -std=c99 -Wall -Wextra -Wpedantic -Iinclude c/inspect/*.c $(LDFLAGS) $(archive) -o $@
 
-# The libwayland-client, in a folder of its own: no program is to find it unless it is told to. It has
-# the archive within it, and exports the symbols of libwayland alone. Some programs load it by its name
-# without a number, as alacritty.
+# The libwayland-client. It has a folder of its own, so that only programs that are told to use it find it. It
+# contains the archive, and exports only the symbols of libwayland. Some programs, such as alacritty, load it by its
+# name without a number.
 wayland_objects = $(patsubst c/libwayland/%.c,out/c/wayland/%.o,$(wildcard c/libwayland/*.c)) \
 	out/c/wayland/interfaces.o
 wayland_flags = -std=c99 -Wall -Wextra -Wpedantic -fPIC -fvisibility=hidden -pthread -Iinclude -Ic/libwayland
@@ -140,7 +143,7 @@ $(run): c/libwayland/waywire-run Makefile $(numbered)
 	@mkdir -p out/c
 	$(call run_with,wayland,waywire-inspect,$@)
 
-# The Rust package as it is built against an installed library, and the examples.
+# The files of the Rust package, which is built with an installed library, and of its examples.
 rust = $(shell cd rust/waywire && find Cargo.toml README.md build.rs src examples -type f)
 pages = c/inspect/waywire-inspect.1 c/libwayland/waywire-run.1 tools/waywire-picture.1
 
@@ -193,7 +196,7 @@ install: all
 		chmod 644 $(DESTDIR)$(DATADIR)/man/man1/waywire.1; \
 	fi
 
-# Made twice, the package has the same bytes.
+# Two packages of one commit have the same bytes.
 dist: all
 	@[ -x $(program) ] || { echo "make dist: the program is not built (./waywire --build)" >&2; exit 1; }
 	rm -rf out/dist
@@ -204,7 +207,7 @@ dist: all
 	rm -rf out/dist
 	@echo out/$(package).tar.gz
 
-# Signed by nobody, and of one package: tools/deb-package says what is in it.
+# An unsigned package: tools/deb-package says what is in it.
 deb: all
 	tools/deb-package $(VERSION) $(abi) $(program)
 

@@ -1,5 +1,5 @@
-"""Clients of the distribution at the example compositors in C and in Rust, which play a script of events; and sway
-without a screen."""
+"""Runs clients of the distribution at the example compositors in C and in Rust, which play a script of events; and
+starts sway without a screen."""
 
 import os
 import pwd
@@ -17,8 +17,8 @@ SWAY = "xwayland disable\noutput * bg #000000 solid_color\n"
 
 
 def sway(room, env):
-    """How sway is started without a screen, in a folder that is its own: its words, where it listens, and its
-    environment and user. It does not run as root."""
+    """How to start sway without a screen, in a folder of its own: the command, the path at which it listens, and its
+    environment and user. Sway does not run as root."""
     user = pwd.getpwnam("nobody") if os.getuid() == 0 else None
     with open(f"{room}/config", "w", encoding="ascii") as file:
         file.write(SWAY)
@@ -39,7 +39,7 @@ def started(words, path, said, **kept):
 
 
 def ran(words, path, **kept):
-    """A client that has ended, and what it said. It is skipped where it has not come up."""
+    """Runs a client, and returns it with its output once it has ended. If it does not connect, the test is skipped."""
     client = subprocess.Popen(words, stdout=subprocess.PIPE, stderr=subprocess.PIPE, **kept)
     try:
         if not has_come(lambda: has_client(path) or client.poll() is not None):
@@ -50,8 +50,8 @@ def ran(words, path, **kept):
 
 
 def played(words, script, *client):
-    """What a client says at a compositor that these words start and that plays a script, and what the compositor
-    says. Each ends by itself, and without a failure."""
+    """Runs a client at a compositor that this command starts, and that plays a script. Returns the outputs of both.
+    Both must end by themselves, and without a failure."""
     with tempfile.TemporaryDirectory() as folder:
         path, file = f"{folder}/wayland-test", f"{folder}/script"
         with open(file, "w", encoding="utf-8") as written:
@@ -77,8 +77,8 @@ def played(words, script, *client):
 
 
 def serves_a_client_of_weston(*words):
-    """It draws frames until it is asked to close: another picture wherever it is told that the one
-    before was shown, which is before all that the script has."""
+    """The client draws frames until it is asked to close. It draws another picture each time it hears that the last
+    one was shown, which happens before all events of the script."""
     need("weston-simple-shm")
     _, output = played(words, DRAWN, "weston-simple-shm")
     if output.count("a picture of ") < 2:
@@ -86,7 +86,7 @@ def serves_a_client_of_weston(*words):
 
 
 def serves_a_client_of_gtk(*words):
-    """What is typed at its window is what it says; the pointer over the window gets a cursor."""
+    """The client prints what is typed in its window. The pointer gets a cursor over the window."""
     need("zenity")
     text, output = played(words, TYPED, "zenity", "--entry", "--text=waywire")
     if text != "hi\n" or "a picture of " not in output or "a cursor\n" not in output:

@@ -1,4 +1,4 @@
-"""Programs of GTK at mutter, as waywire-inspect judges them: tests/check-c runs this."""
+"""waywire-inspect judges GTK programs at mutter. tests/check-c runs this."""
 
 import os
 import re
@@ -13,7 +13,7 @@ DRAWN = r"-> wl_surface@\d+\.commit\("
 
 
 def judged(desktop, tool, words):
-    """What the tool prints of a program, from its start until it has drawn."""
+    """The output of the tool for a program, from its start until it has drawn."""
     path = os.path.join(desktop.room, "said")
     ran = desktop.start([tool, "--output", path, *words], stderr=subprocess.PIPE)
     try:

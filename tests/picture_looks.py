@@ -1,4 +1,4 @@
-"""What a page of waywire-picture looks like: measured in the browser."""
+"""The looks of a page of waywire-picture, measured in the browser."""
 
 import contextlib
 

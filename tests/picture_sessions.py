@@ -1,4 +1,4 @@
-"""Sessions that `check-picture` makes up: a short one as the inspector's lines, and a long recording."""
+"""Generated sessions for `check-picture`: a short one as lines of the inspector, and a long recording."""
 
 import json
 import random

@@ -1,9 +1,9 @@
-"""Recordings, traces and verdicts, read in Python as docs/FORMATS.md has them.
+"""Reads recordings in Python, and makes their traces and verdicts, as docs/FORMATS.md describes them.
 
-This is the one reader of the wire beside the proved one, and there so that tests have something to compare
-that one with: it is written from the page alone, slow, and without bounds on memory. Tools take messages
-apart by waywire_tables_decode, or read what `waywire-inspect --json` says of them. Texts of tables are read by
-tools/table_text.py, which `checks` puts on the path: it is imported first.
+This is the only reader of the wire beside the proved one. Tests compare the two. It was written from that page
+alone, is slow, and has no bounds on memory. Tools decode messages with waywire_tables_decode, or read the output
+of `waywire-inspect --json`. tools/table_text.py reads table texts. Import `checks` first: it puts tools/ on the
+path.
 """
 
 import re
@@ -33,7 +33,7 @@ def parse_recording(data):
 
 
 class Fault(Exception):
-    """The rule that a message breaks, as a verdict prints it, and what the command says besides."""
+    """The rule that a message breaks, as a verdict prints it, and what the command prints besides."""
 
     def __init__(self, rule, hint=""):
         super().__init__(rule)
@@ -78,7 +78,7 @@ class Reader:
 
 
 def text_of(data, null, rest=lambda: ()):
-    """The bytes of a string that was read as an array, and what stands behind it."""
+    """The bytes of a string that was read as an array, and the bytes after it."""
     behind = rest()
     if not data and not null:
         raise Malformed("A2")
@@ -136,7 +136,7 @@ class Session:
                 self.is_over = True
 
     def front(self, sign):
-        """Target, opcode, size and body of the message in front, where it is whole or its size bad."""
+        """Target, opcode, size and body of the message in front, if it is whole or its size is bad."""
         data = self.bytes[sign]
         if len(data) < 8:
             return None
@@ -213,7 +213,7 @@ class Session:
         return printed, made, values
 
     def value(self, reader, kind, is_error):
-        """The value that the bytes in front spell."""
+        """The value in the bytes in front."""
         if kind.letter == "h":
             return None
         if kind.letter == "a":
@@ -256,8 +256,8 @@ class Session:
             raise Fault("F10 too many objects")
 
     def fresh_of_server(self, number, place):
-        """Judges a new id of an event. Its object may take the place of one that is ending, or that no
-        request can end: such a one the server ends alone."""
+        """Judges a new id of an event. The new object may replace an object that is ending, or one that no request
+        destroys: the server ends such an object on its own."""
         if not self.is_free_at_server(number):
             raise Fault(f"F6 bad new id, argument {place}")
         if number > LAST_OF_SERVER:
@@ -283,7 +283,7 @@ class Session:
         return number, Made(found, version)
 
     def follow(self, sign, target, to, message, made, values):
-        """What the message does."""
+        """Carries out the message."""
         if made is not None:
             number, new = made
             self.held[number] = new
@@ -311,8 +311,8 @@ class Session:
 
 
 def hint(found, name, version):
-    """What the command says on standard error after the verdict on a bind that its tables do not
-    know. `found` is the interface of this name in the tables, or None."""
+    """What the command prints to standard error after the verdict on a bind that its tables do not know. `found` is
+    the interface of this name in the tables, or None."""
     if found is None:
         return f"waywire: no table has {name}: see --tables\n" if is_name(name) else ""
     if version <= found.version:

@@ -14,7 +14,7 @@ TOP = os.path.dirname(os.path.dirname(os.path.realpath(__file__)))
 
 
 class Crate(NamedTuple):
-    """A crate: its name, the heading that it stands under, the libraries that it names, and its line."""
+    """A crate: its name, the heading above it, the libraries that it names, and its line."""
 
     name: str
     kind: str
@@ -41,7 +41,7 @@ def read(top=TOP):
 
 
 def below(crates):
-    """Returns, for each crate, the names of all the repository's crates that it stands on."""
+    """Returns, for each crate, the names of all crates of the repository that it uses, directly or not."""
     found = {}
 
     def visit(name):
@@ -56,7 +56,8 @@ def below(crates):
 
 
 def lowest_first(crates, name):
-    """Returns the names of all that a crate stands on, and its own last: each behind those below it."""
+    """Returns the names of all crates that a crate uses, directly or not, and its own name last. Each comes
+    after those below it."""
     found = {}
 
     def visit(name):
@@ -81,7 +82,7 @@ def longest_chain_first(crates, name):
 
 
 def nearest(crates):
-    """Returns, for each crate, those that it names and does not stand on through another."""
+    """Returns, for each crate, those that it names and does not also use through another."""
     under = below(crates)
     found = {}
     for name, crate in crates.items():

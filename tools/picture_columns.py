@@ -1,8 +1,8 @@
-"""The lines of `waywire-inspect --json` as columns, which a page of waywire-picture holds deflated.
+"""Converts the lines of `waywire-inspect --json` to columns, which a page of waywire-picture has in compressed form.
 
-A message is a row of numbers: its signature, its object and its arguments' values are numbers of the lists
-`signatures`, `objects` and `strings`. Nothing here reads a recording, or takes a message or a printed line
-apart: bytes are kept as digits, and the end of a line as it was printed."""
+A message is a row of numbers: its signature, its object and the values of its arguments are places in the lists
+`signatures`, `objects` and `strings`. This file does not read recordings, and does not decode messages or printed
+lines: bytes are kept as digits, and the end of a line as it was printed."""
 
 import base64
 import bisect
@@ -10,13 +10,13 @@ import json
 import zlib
 from array import array
 
-# A page holds no more messages, and no more bytes of text; what comes behind is left out, and it says so.
+# The most messages of a page, and the most bytes of its text. The rest is left out, and the page says so.
 MOST_MESSAGES = 200_000
 MOST_TEXT = 32 * 2**20
-# Of a message no more bytes are kept, and of an array no more numbers.
+# The most bytes of a message, and the most numbers of an array, that are kept.
 MOST_BYTES = 256
 MOST_NUMBERS = 8
-# A time has fewer seconds.
+# A time is below this number of seconds.
 MOST_SECONDS = 10**9
 STATES = {"live": 0, "ending": 1, "unknown": 2}
 
@@ -52,7 +52,7 @@ def shown(data):
 
 
 def readable(text):
-    """A string in quotes in which letters of all scripts stand as they are."""
+    """A quoted string in which letters of all scripts are kept."""
     if text.isascii() or "\ufffd" in text:
         return None
     parts = (it if not it.isascii() and it.isprintable() else shown(it.encode())[1:-1] for it in text)
@@ -67,7 +67,7 @@ def microseconds(seconds):
 
 
 def contents(argument):
-    """What an array holds, in words: its first numbers with their names, where it has numbers."""
+    """The contents of an array in words: if it has numbers, its first numbers with their names."""
     numbers, names = argument.get("numbers", [])[:MOST_NUMBERS], argument.get("names", [])
     words = [" ".join([str(it), *(["|".join(names[at])] if names[at : at + 1] and names[at] else [])])
              for at, it in enumerate(numbers)]
@@ -76,7 +76,7 @@ def contents(argument):
 
 
 class Columns:
-    """What a page says of the session of one client."""
+    """The contents of a page for the session of one client."""
 
     def __init__(self, client=1):
         self.client, self.others = client, {}
@@ -144,7 +144,7 @@ class Columns:
                       "code": found["code"], "text": found["text"], "names": found.get("names") or []}
 
     def take_broken(self, found):
-        """A message that breaks a rule is a row like others, also where it could not be decoded."""
+        """A message that breaks a rule is a row like any other, even if it could not be decoded."""
         message = found["message"] or {"object": found["object"], "opcode": -1, "message": None,
                                        "arguments": [], "state": "unknown", "text": "", "piece": None}
         own = {it: found[it] for it in ("direction", "offset", "size", "number", "bytes")}
@@ -152,7 +152,7 @@ class Columns:
         self.add_row({"time": None, **message, **own, "made": (), "destroyed": (), "freed": ()})
 
     def object(self, found, version=None):
-        """The number of an object; -1 stands for none."""
+        """The number of an object; -1 for no object."""
         if not found or not found.get("id"):
             return -1
         identity, interface = found["id"], found.get("interface")
@@ -231,7 +231,7 @@ class Columns:
                 self.names.setdefault(it["enum"], {})[it["value"]] = "|".join(it["names"])
 
     def end_of_line(self, found, arguments):
-        """What the printed line has behind the message's name, with letters of all scripts as they are."""
+        """What the printed line has after the message's name, with letters of all scripts kept."""
         text, about = found["text"], found["object"]
         arrow = "-> " if found["direction"] == "request" else "<- "
         known = f"{arrow}{about.get('interface')}@{about['id']}.{found['message']}"

@@ -1,5 +1,5 @@
-"""Wayland protocol files in the XML form of wayland-scanner, read as data. What wayland-scanner refuses is
-refused, and so is an element out of its place, which it takes for one of the element before."""
+"""Reads Wayland protocol files in the XML form of wayland-scanner. What wayland-scanner refuses is refused. A
+misplaced element is refused too; wayland-scanner would take it as part of the element before."""
 
 import re
 import xml.etree.ElementTree as ElementTree
@@ -122,7 +122,7 @@ def name_of(element, form=NAME):
 
 
 def summary_of(element):
-    """What the file says of an element in one line, or nothing."""
+    """The summary of an element, in one line; empty if the file has none."""
     description = element.find("description")
     text = element.get("summary") or (description is not None and description.get("summary")) or ""
     return " ".join(text.split())
@@ -199,7 +199,7 @@ def interface(element):
 
 
 def check_places(root):
-    """Raises `BadProtocol` where an element stands out of its place."""
+    """Raises `BadProtocol` if an element is misplaced."""
     left = [(None, root)]
     while left:
         parent, element = left.pop()
@@ -211,7 +211,7 @@ def check_places(root):
 
 
 def check_enums(interfaces):
-    """Raises `BadProtocol` where an argument that has values of an enum is not of their type."""
+    """Raises `BadProtocol` if an argument with an enum does not have the type of the enum's values."""
     bitfields = {f"{it.name}.{one.name}" for it in interfaces for one in it.enums if one.bitfield}
     for interface_ in interfaces:
         for _, message_ in interface_.messages():

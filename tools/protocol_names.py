@@ -6,8 +6,8 @@ A line for each message that has arguments, and for each enum:
     wl_shm.enum.format 0 argb8888 1 xrgb8888 ..
     wl_seat.enum.capability bitfield 1 pointer 2 keyboard 4 touch
 
-Behind an argument's name stands the enum of its values; of an array, that of the numbers in it, or `uint` if these
-have no names."""
+An argument's name is followed by the enum of its values. For an array, that is the enum of the numbers in it, or
+`uint` if these have no names."""
 
 # The arrays of 32-bit numbers. The XML does not say what an array holds: its descriptions do.
 ARRAYS = {

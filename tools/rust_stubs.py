@@ -55,7 +55,7 @@ def type_name(name):
 
 
 def plain(text):
-    """A text of the file as it stands in documentation."""
+    """A text of the file, in the form of documentation."""
     return re.sub(r"([\[\]<>*`_\\])", r"\\\1", text)
 
 
@@ -80,7 +80,7 @@ def documented(texts, indent=""):
 
 
 def wrapped(indent, head, parts, end):
-    """A call or a declaration: on one line where that fits, and else with a line for each part."""
+    """A call or a declaration: on one line if it fits, otherwise with a line for each part."""
     line = f"{indent}{head}({', '.join(parts)}){end}"
     if len(line) <= WIDTH:
         return [line]
@@ -183,7 +183,7 @@ class Module:
         return f"fields.{READ[arg.type]}()?"
 
     def said(self, message, *more):
-        """What is said of a message."""
+        """The documentation of a message."""
         items = [f"- `{self.name(it)}`: {plain(it.summary)}" for it in message.args if it.summary]
         since = [f"Since version {message.since}."] if message.since > 1 else []
         ends = ["It destroys the object."] if message.destroys else []
@@ -270,7 +270,7 @@ class Module:
                  f"            client.bind(self.0, {', '.join(others)}, T::NAME, version).map(T::of)", "        }")
 
     def parameters(self, interface, message):
-        """The parameters of a handler's method, behind the target."""
+        """The parameters of a handler's method, after the target."""
         for it in message.args:
             if it.type != "new_id":
                 yield self.name(it), self.form(interface, it, CAME)

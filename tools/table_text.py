@@ -1,8 +1,6 @@
-"""Texts of tables, read in Python as docs/FORMATS.md has them.
-
-It is for the tools and the tests: slow, without bounds on memory, and written from the page alone, so that
-what it says can be held against what the program says. `core.tables` beside it has the core interfaces.
-"""
+"""Reads table texts in Python, as docs/FORMATS.md describes them. It is for the tools and the tests: slow, and
+without bounds on memory. It was written from that page alone, so that its results can be compared with those of
+the program. `core.tables` beside it has the core interfaces."""
 
 import os
 import re
@@ -62,7 +60,7 @@ class Message:
 
 @dataclass
 class Interface:
-    """An interface, or where it extends one what is added to that."""
+    """An interface, or what an extension adds to one."""
 
     name: str
     version: int
@@ -114,8 +112,8 @@ def kind_of(text, line):
 
 
 def parse_tables(data):
-    """What a text declares and what it extends, in its order. Raises `BadLine`. Bytes above 0x7f stand
-    as their Latin letters."""
+    """What a text declares and extends, in order. Raises `BadLine`. Bytes above 0x7f are read as Latin-1
+    letters."""
     interfaces = []
     for number, line in lines_of(data):
         line = line.decode("latin-1")
@@ -203,8 +201,8 @@ def clashes(core, old, side, message):
 
 
 class Joined:
-    """Tables joined with what a text declares and extends: `whole`, and for each message of the text in it
-    where it was said. `wrong` has the extensions that break a rule by themselves, with the rule."""
+    """Tables joined with what a text declares and extends: `whole`, and the origin of each message of the text
+    in it. `wrong` has the extensions that break a rule by themselves, with the rule."""
 
     def __init__(self, core, sections):
         self.whole = []
@@ -239,9 +237,9 @@ class Joined:
 
 
 def breaks(core, sections):
-    """Each rule that a line of these interfaces and extensions breaks, where `core` stands before them:
-    the interface or extension, and for the line of a message its side and its index there, else None and
-    0; and the rule."""
+    """Each rule that a line of these interfaces and extensions breaks, after the interfaces `core`: the
+    interface or extension; for the line of a message its side and its index there, otherwise None and 0; and
+    the rule."""
     joined = Joined(core, sections)
     yield from ((section, None, 0, rule) for section, rule in joined.wrong)
     by_name = {}

@@ -20,7 +20,7 @@ LETTERS = {
 
 
 class LeftOut(NamedTuple):
-    """What was left out and why: a message, or where it is None a whole interface."""
+    """What was left out and why: a message, or, if that is None, a whole interface."""
 
     interface: Interface
     side: str
@@ -44,7 +44,7 @@ class Undestroying(NamedTuple):
 
 
 def kind_of(side, argument):
-    """The kind of an argument. What an event makes is `N`, where its interface is given."""
+    """The kind of an argument. The object that an event makes is `N`, if its interface is given."""
     if side == "event" and argument.type == "new_id" and argument.interface is not None:
         return Kind("N", interface=argument.interface)
     return Kind(LETTERS[argument.type], argument.null, argument.interface)
@@ -56,8 +56,8 @@ def message_of(side, message):
 
 
 def check_changes(path, old, new):
-    """Raises `BadProtocol` where one of the messages that both versions of an interface have differs, or
-    the newer one lacks a message."""
+    """Raises `BadProtocol` if a message differs between two versions of an interface, or if the newer version
+    lacks a message."""
     for side in ("request", "event"):
         olds, news = getattr(old, side), getattr(new, side)
         for was, now in zip(olds, news):
@@ -70,8 +70,8 @@ def check_changes(path, old, new):
 
 
 def interfaces_of(path, is_checked=True):
-    """The interfaces of a file, as tables have them. Raises `BadProtocol`; if `is_checked`, also where the
-    file changes an interface of the core tables."""
+    """The interfaces of a file, as tables have them. Raises `BadProtocol`; with `is_checked`, also if the file
+    changes an interface of the core tables."""
     core = {it.name: it for it in table_text.core_tables()}
     found = []
     for it in protocol.read(path).interfaces:
@@ -93,8 +93,8 @@ def interfaces_named(path):
 
 
 class Mending:
-    """The interfaces that are left, and what was left out of them so that they break no rule. `others` stand
-    before them, whose text is another: they may be named."""
+    """The interfaces that remain, and what was left out of them so that they break no rule. `others` come
+    before them: interfaces of another text, which may be named."""
 
     def __init__(self, interfaces, is_whole, others=()):
         self.others = others
@@ -110,7 +110,7 @@ class Mending:
         self.interfaces = [it for it in self.interfaces if it is not interface]
 
     def cut(self, interface, side, opcode, why):
-        """Leaves out a message and all that stand behind it."""
+        """Leaves out a message and all messages after it."""
         messages = getattr(interface, side)
         first = messages[opcode]
         for message in messages[opcode:]:
@@ -129,7 +129,7 @@ class Mending:
         return [it for it in own if it.name in names and it.is_ended_by_event()]
 
     def keep_without_destroying(self, interface, rule):
-        """Makes plain events of those that destroy: their objects end by the delete_id behind them."""
+        """Turns destroying events into plain events: their objects end by the delete_id that follows."""
         for opcode, message in enumerate(interface.event):
             if message.destroys:
                 self.undestroying.append(Undestroying(interface, message, rule))
@@ -191,7 +191,7 @@ class Mending:
             self.mend_one(*found)
 
     def mend_one(self, interface, side, opcode, rule):
-        """Mends what breaks a rule: an interface, where `side` is None, or a message of it."""
+        """Removes what breaks a rule: an interface, if `side` is None, or a message of it."""
         why = f"it breaks V{rule}"
         if side is None:
             self.remove(interface, why)
@@ -222,6 +222,6 @@ def lines_of(interfaces, changes):
 
 
 def named_elsewhere(interfaces, others):
-    """The names in messages of `interfaces` that stand in `others`."""
+    """The names in messages of `interfaces` that are interfaces of `others`."""
     kinds = [kind for it in interfaces for _, message in it.messages() for kind in message.kinds]
     return sorted({it.interface for it in kinds} & {it.name for it in others})

@@ -1,10 +1,10 @@
 #!/usr/bin/env python3
-"""Attacks on waywire-inspect: recordings that would take very long or much memory if it kept them badly.
+"""Attacks on waywire-inspect: recordings that would take very much time or memory if it stored them badly.
 
     tests/c/attacks.py [CLASS[.TEST]]..
 
-What one takes is counted under valgrind, in instructions and in bytes of heap, for a number of messages and for
-twice as many: it must be linear in them. The environment is that of tests/c/inspecting.py."""
+The cost is counted under valgrind, in instructions and in bytes of heap, for some number of messages and for twice as
+many: it must be linear in the number. The environment is that of tests/c/inspecting.py."""
 import os
 import re
 import subprocess
@@ -72,7 +72,7 @@ class Attack(unittest.TestCase):
         return max(int(it) for it in re.findall(r"^mem_heap_B=(\d+)$", said, re.M))
 
     def is_linear(self, make, *options):
-        """What so many messages take beyond those of an empty recording, and what twice as many do."""
+        """The cost of this many messages beyond that of an empty recording, and the cost of twice as many."""
         for measure in (self.instructions, self.bytes):
             none, some, more = (measure(it, *options) for it in (OPENED, make(COUNT), make(2 * COUNT)))
             with self.subTest(measure.__name__):

@@ -3,7 +3,7 @@
 
     tests/c/inspecting.py [CLASS[.TEST]]..
 
-INSPECT in the environment is the tool, out/c/waywire-inspect if nothing is said; WAYWIRE is a
+INSPECT in the environment is the tool [default: out/c/waywire-inspect]. WAYWIRE is a
 built `waywire`, which judges what was recorded, and may be missing. tests/check-c runs them."""
 import contextlib
 import glob
@@ -277,7 +277,7 @@ class Passing(Inspected):
         self.finish(status=1)
 
     def test_a_slow_compositor(self):
-        """It takes a part at a time, and the client has to wait. The descriptor is at the front."""
+        """The compositor takes a part at a time, and the client has to wait. The descriptor comes first."""
         self.start("--record", self.recorded)
         client, compositor = self.client()
         data = bytes(range(256)) * 16384
@@ -351,8 +351,8 @@ class Passing(Inspected):
         self.assertEqual(error.count("\n"), 1)
 
     def test_both_ways_at_once(self):
-        """Pieces of any size with any descriptors, read in any cut: each descriptor comes in its order,
-        and not behind its byte."""
+        """Pieces of any size with any descriptors, cut anywhere when they are read: the descriptors come in
+        order, and none after its byte."""
         self.start()
         ends = self.client()
         written, got = {}, {}
@@ -550,7 +550,7 @@ class Judging(Inspected):
         self.assertEqual(sorted(os.listdir(self.folder)), ["a.rec", "a.rec.tables", "display"])
 
     def test_a_broken_message(self):
-        """It is named at its place; what comes behind it is passed, and printed as not judged."""
+        """It is named at its place. What follows is passed on, and printed as not judged."""
         self.answering(done(2))
         data = sync(2) + message(9, 0) + sync(3)
         said, error = self.ran("--record", self.recorded, *client(data, 24, 0), status=1)
@@ -689,7 +689,7 @@ class Judging(Inspected):
 
 
 class Failing(Inspected):
-    """What goes wrong is said in one line, and what passes passes on."""
+    """If something goes wrong, one line says so, and messages are still passed on."""
 
     def passes_on(self, count=3):
         client, compositor = self.client()
@@ -803,7 +803,7 @@ class Failing(Inspected):
         self.assertEqual(error, GONE + refused)
 
     def test_a_command_that_is_stopped(self):
-        """It is told the signal; what it sends on that is passed."""
+        """It gets the signal, and what it sends then is passed on."""
         words = STAYING + f"""
 signal.pthread_sigmask(signal.SIG_BLOCK, [signal.SIGTERM])
 display.sendall(bytes.fromhex("{sync(2).hex()}"))
@@ -861,7 +861,7 @@ while True: signal.pause()
                                 r"\(ulimit -Hn\), and 506 are kept free\n")
 
     def test_too_few_numbers_for_any_client(self):
-        """A low limit is told as what it is, before anything is started."""
+        """A limit that is too low is reported before anything is started."""
         def few():
             resource.setrlimit(resource.RLIMIT_NOFILE, (256, 256))
         said = self.ran("true", status=125, preexec_fn=few)

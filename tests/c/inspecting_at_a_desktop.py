@@ -1,7 +1,7 @@
 #!/usr/bin/env python3
-"""Tests of waywire-inspect between the programs of a desktop and sway without a screen, with a
-keyboard and a text in the clipboard: each is judged lawful to its end, with the installed tables,
-and its messages are those that WAYLAND_DEBUG makes the program say, each direction in order.
+"""Tests of waywire-inspect between programs of a desktop and sway, which has no screen, but a keyboard and a text in
+the clipboard. With the installed tables each program is judged lawful to its end. The printed messages are those that
+WAYLAND_DEBUG makes the program print, in the same order in each direction.
 
     tests/c/inspecting_at_a_desktop.py [CLASS[.TEST]]..
 
@@ -110,9 +110,9 @@ class Desktop(inspecting_at_sway.Sway):
         return [self.read(it) for it in paths]
 
     def verdicts_of(self, *command, until=has_settled):
-        """The verdict of each client that a program starts, and the last lines before it. The
-        program `waywire` gives the same verdicts of what was recorded; and what is lawful has the
-        messages that the client tells."""
+        """The verdict for each client that a program starts, and the last lines before it. The program
+        `waywire` gives the same verdicts for the recordings, and a lawful session has the messages that the
+        client prints itself."""
         said, error = self.played(*command, until=until)
         verdicts = VERDICT.findall(said)
         self.check_recorded(verdicts)
@@ -134,8 +134,8 @@ class Desktop(inspecting_at_sway.Sway):
             self.assertEqual(sorted(checked), sorted(verdicts))
 
     def programs(self, kind):
-        """Runs all programs of a kind that are installed and come up. Says which are skipped, and
-        skips where all are."""
+        """Runs all programs of a kind that are installed and start. Prints which are skipped; if all are, the
+        test is skipped."""
         skipped = []
         for command in PROGRAMS[kind]:
             with self.subTest(command[0]):

@@ -1,17 +1,17 @@
 #!/usr/bin/env python3
-"""What waywire-inspect prints of programs at mutter, beside what mutter itself says of each message.
+"""Compares the output of waywire-inspect for programs at mutter with mutter's own log of each message.
 
     tests/c/inspecting_at_mutter.py [--whole] [WORD..]
 
-Each program runs twice under the tool: with all tables, and with those of the core alone, so that most of its
-messages are not judged. mutter logs what it receives and sends (WAYLAND_DEBUG=server). Every line of the tool must
-be so: its object, its message and each argument that it has, judged or not. Of a message behind `not judged from
-here` it may say less: an object or a message as unknown, by its id, opcode and size. What was recorded is printed
-the same again.
+Each program runs twice under the tool: with all tables, and with only those of the core, so that most of its messages
+are not judged. mutter logs what it receives and sends (WAYLAND_DEBUG=server). Every line of the tool must agree with
+the log: its object, its message and each argument that it has, judged or not. After `not judged from here` a line may
+say less: that an object or a message is unknown, with its id, opcode and size. The recording must be printed in the
+same way.
 
 It runs some programs; with --whole all that the tests of libwayland run at mutter, and once more over waywire's
-libwayland-client if that is built. With words only the sessions whose names have one of these in them. INSPECT in
-the environment is the tool. A program that is not installed, or makes no connection, is skipped."""
+libwayland-client if that is built. With words, only the sessions whose names contain one of them. INSPECT in the
+environment is the tool. A program that is not installed, or makes no connection, is skipped."""
 
 import argparse
 import collections

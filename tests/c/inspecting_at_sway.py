@@ -36,7 +36,7 @@ class Sway(real_clients.RealClients):
         self.start_compositor(words, display, **kept)
 
     def quiet(self):
-        """How others run beside the inspected client, which alone says its messages."""
+        """The environment of other clients: only the inspected client prints its messages."""
         return {**self.env, "WAYLAND_DEBUG": "0"}
 
     def copy(self, text):

@@ -37,7 +37,7 @@ class Weston(real_clients.RealClients):
         self.inspected("zenity", "--info", "--text=waywire")
 
     def test_the_compositor_hangs(self):
-        """The frame that does not come is told, and for how long it was waited for."""
+        """The frame that does not come is reported, and how long it was waited for."""
         paths = self.start_at_files("--record", self.recorded, "weston-simple-shm")
         self.addCleanup(self.weston.send_signal, signal.SIGCONT)
         self.weston.send_signal(signal.SIGSTOP)

@@ -43,7 +43,7 @@ class Clock(Talking):
         return int(hours) * 3600 + int(minutes) * 60 + float(seconds)
 
     def test_a_recording(self):
-        """From the moment at which it began; a dash where that, or the time of a piece, is not known."""
+        """Counted from the start of the recording; a dash if that, or the time of a piece, is not known."""
         self.env["TZ"] = "UTC+1"
         pieces = f"# 0.5\n> {sync(2).hex()}\n# 3600\n< {done(2).hex()}\n< {message(1, 1, 2).hex()}\n"
         dash = " " * 11 + "-"
@@ -72,7 +72,7 @@ class Programs(Talking):
         threading.Thread(target=serve, daemon=True).start()
 
     def test_the_second_client_of_a_command(self):
-        """Both are told once, when lines have numbers: the second when it connects."""
+        """Both are named once, as soon as lines have numbers: the second client when it connects."""
         words = f"""
 import os, socket, subprocess, sys
 path = os.environ["XDG_RUNTIME_DIR"] + "/" + os.environ["WAYLAND_DISPLAY"]
@@ -115,7 +115,7 @@ class Before(Talking):
     """What led to an error."""
 
     def before(self, *said):
-        """What is printed behind the error's line, without the verdict."""
+        """What is printed after the error's line, without the verdict."""
         lines = self.lines(*BOUND, *said, status=1)
         return lines[next(at for at, it in enumerate(lines) if ".error(" in it) + 1:-1]
 

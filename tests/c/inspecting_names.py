@@ -52,7 +52,7 @@ class Names(Talking):
         self.assertEqual(self.last(*keyboard), ["enter(5, wl_surface@7, array[8] {30, 48})"])
 
     def test_other_arrays(self):
-        """Their bytes are printed where they are few; numbers are whole."""
+        """Their bytes are printed if they are few; numbers are printed whole."""
         tables = f"{self.folder}/own.tables"
         with open(tables, "w", encoding="ascii") as file:
             file.write("interface own 1\nrequest take a\n")
@@ -63,7 +63,7 @@ class Names(Talking):
             self.assertEqual(self.lines(*given, sent, options=["--tables", tables])[-2], f"-> own@3.take({wanted})")
 
     def test_without_them(self):
-        """The line of the library, with what stands beside names: strings, objects, descriptors."""
+        """The line of the library, with what a message has beside names: strings, objects, descriptors."""
         said = (*BOUND, (message(4, 0, 3),), message(5, 0, 7), message(6, 2, 8, 7), message(8, 1, 9),
                 raw(9, 2, text("1 argb8888, {2")), (raw(9, 0, struct.pack("<ii", 1, 2) + array(1)),))
         named, plain = (self.lines(*said, options=it) for it in ((), ["--no-names"]))
@@ -79,7 +79,7 @@ class Names(Talking):
         self.assertEqual(shm, {"kind": "uint", "name": "format", "value": 7, "enum": "wl_shm.format", "names": []})
 
     def test_what_an_xml_says(self):
-        """An XML stands in place of what is installed; a table text has FILE.names beside it, or no names."""
+        """An XML replaces what is installed. A table text has FILE.names beside it, or no names."""
         xml, tables = f"{self.folder}/own.xml", f"{self.folder}/own.tables"
         with open(xml, "w", encoding="ascii") as file:
             file.write("""<?xml version="1.0"?><protocol name="own"><interface name="wp_viewporter" version="1">

@@ -46,7 +46,7 @@ class Asking(Talking):
         return said.splitlines()
 
     def unanswered(self, *said, status=0, options=(), **how):
-        """What is said between the last message and the verdict."""
+        """What is printed between the last message and the verdict."""
         self.record(*said, **how)
         return [it for it in self.read(*options, status=status) if re.search("not answered|none of", it)]
 
@@ -182,7 +182,7 @@ class Asking(Talking):
 
 
 class Ending(Talking):
-    """When a session ended, and where its recording was cut."""
+    """When a session ended, and when its recording was cut."""
 
     def last_line(self):
         with open(self.recorded, "rb") as file:
@@ -200,7 +200,8 @@ class Ending(Talking):
         self.assertEqual(again[-2]["type"], "unanswered")
 
     def test_it_is_cut(self):
-        """The last line says where; the rest is not in it, and that is said when it is read."""
+        """The last line says when it was cut. The rest is missing, which is reported when the recording is
+        read."""
         self.start("--no-tables", "--record", self.recorded, "--output", "/dev/null")
         client, compositor = self.client()
         part = sync(2) * 5000
@@ -225,7 +226,8 @@ class LastPart(Talking):
              bind(1, "wl_compositor", 6, 3), bind(2, "wl_shell", 1, 4), message(3, 0, 5), message(4, 0, 6, 5), sync(7))
 
     def record(self, most):
-        """Passes titles in pieces that end within one, so many bytes, to be recorded. Returns how many."""
+        """Passes titles to be recorded, in pieces of this size, each of which ends within a title. Returns how
+        many titles."""
         self.start("--record", self.recorded, "--record-last", "--output", "/dev/null")
         client, compositor = self.client()
         for it in self.GIVEN:
@@ -243,7 +245,7 @@ class LastPart(Talking):
         return count
 
     def read_part(self, count):
-        """Its messages are the last, one behind the other, by the objects that there were."""
+        """Its messages are the last ones, without a gap, and they name the objects that there were."""
         part = f"{self.recorded}.last"
         said, told = self.ran("--read", part)
         first, *titles, verdict = said.splitlines()
@@ -328,10 +330,10 @@ class LastPart(Talking):
 
 
 class Costs(Inspected):
-    """What a session of many questions takes."""
+    """The cost of a session with many questions."""
 
     def instructions(self, count):
-        """Those of reading so many syncs, of which the last is answered first."""
+        """The instructions for reading this many syncs, the last of which is answered first."""
         checks.need("valgrind")
         path = f"{self.folder}/{count}.rec"
         with open(path, "w", encoding="ascii") as file:

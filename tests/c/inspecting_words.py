@@ -172,7 +172,7 @@ class Broken(Talking):
         self.assertRegex(words, r"\AF4: argument 2: \w")
 
     def test_what_was_destroyed(self):
-        """Behind a message about an object that is gone stand the last messages about it."""
+        """A message about an object that is gone is followed by the last messages about this object."""
         gone = (*self.SURFACE, message(4, 0))
         about = ["the last messages about wl_surface@4:",
                  "  > message 3: -> wl_compositor@3.create_surface(new id wl_surface@4)",
@@ -182,7 +182,7 @@ class Broken(Talking):
             "F6: argument 0: wl_surface@4 was destroyed, and no delete_id has made its id free", *about])
 
     def test_what_has_no_id_any_more(self):
-        """Behind a message for an id that is free stand the last messages about that id."""
+        """A message for an id that is free is followed by the last messages about this id."""
         self.assertEqual(self.broken(*self.SURFACE, message(4, 0), (message(1, 1, 4),), message(4, 6))[1:], [
             "F2: no object has the id 4", "the last messages about unknown@4:",
             "  > message 3: -> wl_compositor@3.create_surface(new id wl_surface@4)",
@@ -273,7 +273,7 @@ class Printing(Talking):
                          f"waywire-inspect: cannot write {self.folder}/none/a: No such file or directory\n")
 
     def test_numbers_of_clients(self):
-        """A client that is started by hand has one from its first line on: others may come."""
+        """A client that is started by hand has a number from its first line on, since others may come."""
         lines = self.talk(sync(2), numbered=True)[0]
         self.assertEqual(lines, [f"#1 is {self.who()}", "#1 " + SYNC.format(2).strip(),
                                  f"#1 {LAWFUL.format(1, 0)} ({self.who()})"])
@@ -426,13 +426,13 @@ class Tables(Talking):
         return path
 
     def test_an_interface_that_is_given(self):
-        """It stands in place of the installed one; the others of that text stay."""
+        """It replaces the installed interface; the other interfaces of that text stay."""
         own = self.written("own.tables", "interface xdg_wm_base 1\nrequest own D\n")
         lines = self.lines(*self.BASE[:2], bind(1, "xdg_wm_base", 1, 3), message(3, 0), options=["--tables", own])
         self.assertEqual(lines[-2], "-> xdg_wm_base@3.own()")
 
     def test_a_text_that_is_left_out(self):
-        """An installed text that breaks a rule beside what is given is left out, and that is said."""
+        """An installed text that breaks a rule together with the given ones is left out, and a message says so."""
         own = self.written("own.tables", "interface wp_viewport 1\nrequest own\n"
                                          "interface own 1\nrequest take o(wp_viewporter)\n")
         _, error = self.talk(sync(2), options=["--tables", own])
@@ -498,7 +498,7 @@ class Tables(Talking):
         self.assertEqual(lines[-3:-1], ["-> one_thing@3.use(new id two_thing@4, nil)", "-> two_thing@4.pull(5)"])
 
     def test_installed_xml_that_is_newer(self):
-        """A newer version takes the place of the one of a text, but not of one that is given."""
+        """A newer version replaces the one of an installed text, but not one that is given by --tables."""
         newer = self.OWN.format(9, "xdg_wm_base", "int")
         self.install("newer.xml", newer)
         self.install("oldest.xml", self.OWN.format(1, "xdg_wm_base", "string"))
@@ -522,7 +522,7 @@ class Tables(Talking):
                       self.lines(*self.BASE, options=["--no-tables"]))
 
     def test_what_is_recorded(self):
-        """The tables stand beside the recording, and the program judges by them as the tool did."""
+        """The tables are beside the recording, and with them the program judges as the tool did."""
         lines = self.lines(*Printing.TITLED, options=["--record", self.recorded])
         with open(f"{self.recorded}.tables", encoding="utf-8") as file:
             tables = file.read()
@@ -557,7 +557,7 @@ class Recording(Talking):
         self.assertEqual(sorted(os.listdir(self.folder)), ["a.rec", "display"])
 
     def test_the_longest(self):
-        """It ends with the last whole piece within the limit, which is said; all passes on."""
+        """It ends with the last whole piece within the limit, which is reported. Everything is still passed on."""
         self.start("--no-tables", "--record", self.recorded)
         client, compositor = self.client()
         part = bytes(2**18)
@@ -573,7 +573,7 @@ class Recording(Talking):
 
 
 class BehindAnError(Talking):
-    """The bytes that are left behind wl_display.error are those that the program counts."""
+    """The bytes left after wl_display.error are those that the program counts."""
 
     LEFT = "lawful up to wl_display.error: 1 requests, 1 events, {} and {} bytes left"
 

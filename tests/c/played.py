@@ -1,6 +1,6 @@
-"""A lawful client and a lawful server that say something at random, as one stands between them who records it.
+"""A lawful client and a lawful server that send random messages, as a recorder between them sees it.
 
-`Play` makes a session over the tables of `everything()`: its recording, and for each message what it truly is.
+`Play` makes a session with the tables of `everything()`: its recording, and for each message what it really is.
 The same seed and the same number of steps make the same session; fewer steps make a shorter one. `part_of` makes
 a text of a part of these tables: it lacks some interfaces, and has others in an older version."""
 
@@ -107,7 +107,7 @@ def is_covered(interface, version, known, tables):
 
 
 def part_of(tables, chance):
-    """A part of the text: some interfaces, in some versions, none of which names one that is left out."""
+    """A part of the text: some interfaces, in some versions. None of them names an interface that is left out."""
     sections = table_text.parse_tables(TEXT.encode())
     least = {it.name: CORE_VERSION if it.extends else 0 for it in sections}
     known = {it.name: it.version for it in sections}
@@ -170,7 +170,7 @@ class Said:
 
 
 def how_often(interface, message):
-    """How often a message is said beside others."""
+    """How often this message is written, relative to others."""
     if message.name in ("get_registry", "sync"):
         return 0.05
     if message.destroys:

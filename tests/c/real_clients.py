@@ -1,5 +1,5 @@
-"""Real clients that waywire-inspect stands between and their compositor: what they say of their messages is
-what the tool prints."""
+"""Real clients, with waywire-inspect between them and their compositor: the tool prints the messages that the
+clients print."""
 import collections
 import contextlib
 import glob
@@ -13,11 +13,11 @@ from inspecting import LONG, ROOT, Inspected
 from checks import COMES_UP, end, has_come, joined_tables, need
 import table_text
 
-# The status of the tool whose command has made no connection.
+# The status of the tool if its command has made no connection.
 NO_CONNECTION = 125
-# The interface of an object that a client has destroyed: libwayland does not know it any more.
+# The interface of an object that a client has destroyed, which libwayland no longer knows.
 ZOMBIE = None
-# A message as both tell it; the number is that of its first argument, where that is one.
+# A message as both print it; `number` is its first argument, if that is a number.
 Told = collections.namedtuple("Told", "interface id name number")
 # The opcodes of events, by the names of their interfaces and their own.
 OPCODES = {(interface.name, it.name): opcode
@@ -74,9 +74,9 @@ class RealClients(Inspected):
         return requests, own, others
 
     def as_they_came(self, told, printed):
-        """What the client has told of events, in the order in which they came. Of an event for an
-        object that it has destroyed it tells as it reads that, and of the others as it acts on
-        them, some time later."""
+        """The events that the client has printed, in the order in which they came. The client prints an event
+        for an object that it has destroyed when it reads it, and any other event when it acts on it, some time
+        later."""
         zombies = collections.Counter(it for it in told if it.interface is ZOMBIE)
         others, came = collections.deque(it for it in told if it.interface is not ZOMBIE), []
         opcodes = {it: OPCODES.get((it.interface, it.name)) for it in printed}
@@ -94,14 +94,15 @@ class RealClients(Inspected):
         return [*came, *others, *unread.elements()]
 
     def begins(self, whole, front, which):
-        """A list begins with another, and has not too much behind it: much, where a client waited."""
+        """Whether a list begins with another one and is not much longer. It may be much longer if a client
+        waited."""
         for at, one in enumerate(front):
             if whole[at : at + 1] != [one]:
                 self.fail(f"{which}, number {at} on: {front[at:at + 5]}, not {whole[at:at + 5]}")
         self.assertLess(len(whole) - len(front), 1000, which)
 
     def has_all(self, whole, part, which):
-        """A list has all of another, as often, and has not too much beside it."""
+        """Whether a list has all elements of another one, each at least as often, and not much else."""
         self.assertFalse(collections.Counter(part) - collections.Counter(whole), which)
         self.assertLess(len(whole) - len(part), 1000, which)
 
@@ -134,12 +135,12 @@ class RealClients(Inspected):
             return file.read()
 
     def same_messages(self, error, said, has_queues=False):
-        """The messages that a client tells are those that the tool prints, each direction in order,
-        but for the last: requests that it wrote and did not send, events that it did not act on.
-        A client that has queues of its own acts on the events of one queue before those of another
-        that came earlier: of it, those for each object are in order. Each of its threads takes
-        events of wl_display off their queue and tells them a little later, so that two threads may
-        tell them the other way round: of it, they are counted. Returns how many are compared."""
+        """The client prints the same messages as the tool, in the same order in each direction, except at the
+        end: it may not have sent some requests that it wrote, or not have acted on some events. A client with
+        queues of its own may act on the events of one queue before earlier events of another one, so only the
+        events for each object are in order. Its threads take events of wl_display off their queue and print
+        them a little later, so two threads may print them in the other order; these events are only counted.
+        Returns how many messages were compared."""
         told = self.parted(error.splitlines(), self.DEBUG)
         printed = self.parted(said.splitlines(), self.LINE)
         # libwayland says nothing of an event for an object that nobody listens to.

@@ -1,12 +1,12 @@
 #!/usr/bin/env python3
-"""Made-up sessions with interfaces that waywire-inspect does not know (played.py): what it names is true.
+"""Generated sessions with interfaces that waywire-inspect does not know (played.py). All that it names must be right.
 
     tests/c/unknown_sessions.py [--whole] [--seed=N [--steps=N]]
 
-It plays 300 lawful sessions, with --whole 5,000, or that of one seed, and has the tool read each by a part of its
-tables. Of every message the tool may say that it does not know the object or the message; what it names must be so.
-What it judges must be complete, and no session may be called broken. INSPECT in the environment is the tool. It
-says how many messages were named; of sessions that fail the first is said, cut to as few steps as fail."""
+It plays 300 lawful sessions, with --whole 5,000, or the one session of a seed. The tool reads each of them with a part
+of its tables. For any message the tool may say that it does not know the object or the message, but what it names must
+be right. What it judges must be complete, and no session may be called broken. INSPECT in the environment is the tool.
+It prints how many messages were named. If sessions fail, it prints the first one, with as few steps as still fail."""
 
 import argparse
 import json
@@ -71,8 +71,8 @@ def check_named(told, thing):
 
 
 def check_state(told, thing, said, known):
-    """An object is live or ending as it is said. One that was destroyed by a message that the tables do not have
-    may be called live."""
+    """The tool says correctly whether an object is live or ending. An object that was destroyed by a message
+    which the tables lack may be called live."""
     ended_by = said.was_ended.get(thing)
     if told["state"] == "unknown":
         must(told["interface"] is None, "it has an interface and is unknown", told)
@@ -108,7 +108,7 @@ def check_value(told, kind, value, said, known, descriptor):
 
 
 def check_arguments(told, said, known):
-    """The arguments are so, as many as are said, if any are: none of a message that is not known."""
+    """The printed arguments are right. A message that is not known has none."""
     arguments = told["arguments"]
     must(len(arguments) in (0, len(said.values)), "arguments", arguments)
     descriptor = said.descriptors
@@ -138,7 +138,7 @@ def check_text(told, said):
 
 
 def check_place(told, said):
-    """Which bytes it has, and where they are."""
+    """The bytes of a message, and where they are."""
     must((told["direction"], told["number"], told["index"], told["offset"], told["size"], told["opcode"],
           told["piece"], told["bytes"])
          == ("request" if said.sender == ">" else "event", said.number, said.index, said.offset, len(said.data),
@@ -146,7 +146,7 @@ def check_place(told, said):
 
 
 def check_complete(told, said):
-    """Of a judged message all is said."""
+    """For a judged message everything is printed."""
     named = [told["object"], *(it for it in told["arguments"] if it["kind"] in ("object", "new") and it["id"])]
     must(all(it["interface"] is not None for it in named) and told["message"], "judged, and not named", told)
     must(len(told["arguments"]) == len(said.values), "judged, and not all arguments", told)
@@ -182,7 +182,7 @@ def check_verdict(told, play, counts):
 
 
 def check(play, part, lines):
-    """The lines that the tool printed of a session are so. Returns how many messages it had of which kind."""
+    """The lines that the tool printed for a session are right. Returns how many messages of each kind they had."""
     known, counts = Known(part), Counter(messages=0, unjudged=0)
     told = [it for it in map(json.loads, lines) if it["type"] != "unanswered"]
     must([it["type"] for it in told] == ["head", "client", *["message"] * len(play.said), "verdict"], "lines",
@@ -196,7 +196,8 @@ def check(play, part, lines):
 
 
 def inspected(folder, tables, seed, steps):
-    """Plays the session of a seed, has the tool read it, and returns how many messages that said of which kind."""
+    """Plays the session of a seed, has the tool read it, and returns how many messages of each kind the tool
+    printed."""
     play, part = played.session(tables, seed, steps)
     recording = "".join(play.lines)
     if seed < COUNT:
@@ -212,7 +213,7 @@ def inspected(folder, tables, seed, steps):
 
 
 def why_false(folder, tables, seed, steps):
-    """Why a session of so many steps fails, or None."""
+    """Why the session fails with this number of steps; None if it does not."""
     try:
         inspected(folder, tables, seed, steps)
     except Untrue as why:

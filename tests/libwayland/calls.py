@@ -1,4 +1,4 @@
-"""Programs of ours in C over the library under test, and over the system's beside it."""
+"""Runs our own C programs with the library under test, and with the system's for comparison."""
 
 import difflib
 import re

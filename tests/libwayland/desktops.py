@@ -56,8 +56,8 @@ class Desktop:
         return ran.stdout
 
     def offers_text(self):
-        """Whether a text is in the clipboard. One that is not is copied again, since a program that
-        takes the clipboard and ends leaves none."""
+        """Whether a text is in the clipboard. If not, it is copied again: a program that takes the clipboard
+        and ends leaves no text."""
         def has_text():
             return self.output_of(["wl-paste", "--no-newline"]) == COPIED
         if not has_text():
@@ -172,8 +172,8 @@ def own_home(room):
 
 
 def environment(room):
-    """The environment of programs, with folders of their own: Firefox takes none that belongs to
-    another user, as the compositor's may."""
+    """The environment of programs, with folders of their own: Firefox accepts no folder of another user, as the
+    compositor's may be."""
     env = {name: value for name, value in os.environ.items() if name not in UNSET}
     home, own = f"{room}/home", f"{room}/run"
     os.makedirs(f"{home}/.config")

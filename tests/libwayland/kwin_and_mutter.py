@@ -133,8 +133,8 @@ def with_bus(kind, name, words_in, **more):
 
 
 def words_of_kwin(room):
-    """Runs a copy: the installed program has a file capability, and where the kernel does not grant
-    that it refuses to start the program. A copy has no capability."""
+    """Runs a copy of the program, because the installed one has a file capability: if the kernel does not grant
+    it, the program does not start. A copy has no capability."""
     program = shutil.copy(shutil.which("kwin_wayland"), room)
     return [program, "--virtual", "--no-lockscreen", "--socket", "kwin"]
 

@@ -41,8 +41,8 @@ class Library:
         return os.path.realpath(self.path) in mapped if self.path else bool(mapped)
 
     def is_linked_by(self, program):
-        """Whether the loader finds this library for a program that is linked with it, as far as that
-        can be said without running it: some load it later."""
+        """Whether the loader finds this library for a program that is linked with it. A program that loads the
+        library later is not recognized, because the program is not run."""
         env = self.env(LD_TRACE_LOADED_OBJECTS="1")
         how = {"stdout": subprocess.PIPE, "stderr": subprocess.DEVNULL, "text": True}
         said = subprocess.run([shutil.which(program)], env=env, timeout=LONG, check=False, **how).stdout
@@ -87,6 +87,6 @@ def compiled(name, *more):
 
 
 def checked_by_valgrind(*options):
-    """The words that run a program under valgrind, where any error gives a status of its own."""
+    """The command that runs a program under valgrind. An error gives a status of its own."""
     need("valgrind")
     return ["valgrind", "-q", "--error-exitcode=9", *options]

@@ -65,7 +65,7 @@ def pressed(desktop, keys):
 
 
 class Program:
-    """A program with a window, in which keys copy and paste. What it says of that goes to a file."""
+    """A program with a window, in which keys copy and paste. Its output about that goes to a file."""
 
     keys = {"copied": COPY, "pasted": PASTE}
 

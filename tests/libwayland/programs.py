@@ -163,7 +163,7 @@ def words_of(line, room):
 
 
 class Running:
-    """A program at a desktop, with all that its library says of its messages."""
+    """A program at a desktop, with all messages that its library prints."""
 
     def __init__(self, desktop, words, library):
         self.desktop, self.library = desktop, library
@@ -294,8 +294,8 @@ def has_no_error_of_memory(desktop, line, library):
 
 
 def is_of_library(error):
-    """Whether an error that valgrind tells has a call of the library in it, by its name or by that of a
-    source."""
+    """Whether an error of valgrind has a call of the library in it: its name, or the name of one of its
+    sources."""
     sources = "|".join(map(os.path.basename, glob.glob(f"{TOP}/c/libwayland/*.c")))
     return bool(re.search(rf"{re.escape(SONAME)}|\((?:{sources or 'none'}):\d+\)", error))
 

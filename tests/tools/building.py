@@ -24,8 +24,8 @@ def copy_sources(room):
 
 
 class LentReports(unittest.TestCase):
-    """A lent report is not kept over its end's following `next`: at neither end does that compile. The
-    program is compiled unproved, so this takes no proof."""
+    """Keeping a lent report beyond the end's next `next` does not compile, at either end. The program is
+    compiled unproved, so this takes no proof."""
 
     PROGRAM = """#![tactic(auto)]
 
@@ -117,8 +117,8 @@ class Sockets(unittest.TestCase):
 
 
 class Packages(unittest.TestCase):
-    """`install-packages`, with stand-ins for apt-get and dpkg, whose state is a folder with a file
-    for each package that is whole, and one with the source of wayland."""
+    """`install-packages`, with stand-ins for apt-get and dpkg. Their state is a folder with a file for each
+    completely installed package, and a folder with the source of wayland."""
 
     APT = """#!/bin/sh
 echo "apt $*" >>"$ROOM/notes"

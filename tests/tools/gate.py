@@ -60,7 +60,7 @@ class TimedGate(unittest.TestCase):
         self.assertEqual(subprocess.run(command, stdout=subprocess.DEVNULL).returncode, 128 + 9)
 
     def commands(self, rt, *words):
-        """The commands that are run with these words, where `rt` is this script."""
+        """The commands that are run with these words, if `rt` is this script."""
         found = []
 
         def measured(command, _env):
@@ -85,7 +85,7 @@ class TimedGate(unittest.TestCase):
         return found
 
     def test_the_command(self):
-        """What is measured and written takes nothing from earlier runs, with each kind of rt."""
+        """A measurement that is written to the page takes nothing from earlier runs, with both kinds of rt."""
         knows, does_not = "echo 0 passed, 1 failed; exit 2", "echo usage: rt >&2; exit 2"
         for rt, written in ((knows, "rt ci --anew"), (does_not, "rt ci")):
             self.assertEqual(self.commands(rt), ["clear", "rt ci"])
@@ -120,7 +120,7 @@ class TimedGate(unittest.TestCase):
                 self.assertEqual(self.tool.free(), free)
 
     def test_no_row_without_a_figure(self):
-        """A crate of which a part was not timed is named, and the page has the marks of the figures."""
+        """A crate with a part that was not timed is named, and the page has the marks for the figures."""
         table = {"wl_text": {"proof": 1.0, "tests": 0.0, "mutants": 0.5}}
         self.assertEqual(self.tool.lacking(table, ["wl_text"]), [])
         self.assertEqual(self.tool.lacking(table, ["wl_text", "waywire"]), ["waywire (proof)"])
@@ -247,7 +247,7 @@ class OfTheInspector(unittest.TestCase):
     """What check-c makes of the tests that it runs as programs of their own."""
 
     def inspected(self, tool, said):
-        """What is told of a run that says this."""
+        """What is reported of a run with this output."""
         with (
             contextlib.redirect_stdout(io.StringIO()) as output,
             unittest.mock.patch.object(tool, "run", lambda *_, **__: said),
@@ -302,7 +302,7 @@ echo '3 passed, 0 failed'""")
         self.assertNotIn("What failed:", said)
 
     def failing(self, count, **parts):
-        """What is said at the end of what failed."""
+        """What is printed at the end about failures."""
         status, said = self.said(**parts)
         self.assertEqual((status, said.splitlines()[-1]), (1, f"{count} failed"))
         return said.partition("What failed:\n")[2]
@@ -341,7 +341,7 @@ exit 1""")
         self.assertIn("tests/check-tools, which ended with status 3 though nothing of its", said)
 
     def test_the_gate(self):
-        """A mutant that was not tried fails, and a proof that the system ended is told as that."""
+        """A mutant that was not tried counts as failed. If the system killed a proof, that is reported as such."""
         def gate(*lines):
             said = " ".join(f"'{it}'" for it in (*lines, "5 passed, 1 failed", "rt ci: 9"))
             said = self.failing("16 passed, 1", gate=f"printf '%s\\n' {said}; exit 1")
@@ -357,7 +357,7 @@ exit 1""")
         self.assertIn("for lack of memory", gate(killed, "rt: c NOT PROVED"))
 
     def test_an_exception_in_a_test(self):
-        """It is counted, and the tests behind it are run."""
+        """It is counted, and the tests after it are run."""
         def of_no_kind():
             raise KeyError("here")
 

@@ -49,7 +49,7 @@ class Program:
         return self.data[place : self.data.index(b"\0", place)].decode("latin-1")
 
     def kinds(self, signature, types):
-        """The kinds of the arguments, as a table text has them; `n` also where that has `N`."""
+        """The kinds of the arguments, as in a table text, but with `n` for `N`."""
         letters = re.findall(r"\??[iufsonah]", signature)
         for at, kind in enumerate(letters):
             there = self.pointers.get(types + 8 * at) if isinstance(types, int) else None
@@ -78,7 +78,7 @@ class Program:
         return version, *([self.message(first + MESSAGE * it) for it in range(many)] for many, first in sides)
 
     def addresses(self, name):
-        """Where a text stands, alone or as the end of another."""
+        """Where a text begins, by itself or as the end of another one."""
         for found in re.finditer(name.encode() + rb"(?=\0)", self.data):
             yield from (it[3] + found.start() - it[4] for it in self.sections
                         if it[3] and it[1] != WITHOUT_BYTES and 0 <= found.start() - it[4] < it[5])

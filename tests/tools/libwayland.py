@@ -65,7 +65,7 @@ class Types(unittest.TestCase):
         self.assertGreater(said[0].count("\n"), 30)
 
     def test_functions(self):
-        """What both declare, a compiler takes in one file."""
+        """A compiler accepts both declarations in one file."""
         need_headers()
         ours = re.sub(r"(?s)/\*.*?\*/", "", read("c/libwayland/wayland-abi.h"))
         functions = re.findall(r"(?m)^(?!typedef)[a-z][\w* ]*?\bwl_\w+\([^{};]*\);", ours)
@@ -225,7 +225,7 @@ class Run(unittest.TestCase):
         self.assertEqual(self.ran("true"), ([], 125, 1))
 
     def test_a_folder_that_no_list_can_have(self):
-        """The dynamic linker takes a colon and a semicolon for the end of a folder's name, and `$` for a variable."""
+        """For the dynamic linker a colon or a semicolon ends the name of a folder, and `$` begins a variable."""
         for mark in ":;$":
             folder = os.path.join(os.path.dirname(self.top), f"a{mark}tree")
             os.rename(self.top, folder)

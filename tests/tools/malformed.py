@@ -1,4 +1,4 @@
-"""Protocol files that are refused, held against what wayland-scanner refuses."""
+"""Protocol files that are refused, compared with what wayland-scanner refuses."""
 
 import os
 import subprocess
@@ -125,7 +125,7 @@ class Malformed(unittest.TestCase):
             file.write(text)
 
     def refusal(self, text):
-        """What is said of a file, or None if it is taken."""
+        """The error for a file; None if it is accepted."""
         self.write(text)
         try:
             protocol.read(self.path)

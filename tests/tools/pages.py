@@ -1,4 +1,4 @@
-"""What the pages link to, name and show, and what the linters say of the programs."""
+"""What the pages link to, name and show, and what the linters say about the programs."""
 
 import glob
 import os

@@ -62,7 +62,7 @@ class Rooms(unittest.TestCase):
         return self.proves(room, "make", "-s", ARCHIVE, **more)
 
     def is_lowest_first(self, proved, last):
-        """Each crate that the last one needs was proved once, after those that it stands on."""
+        """Each crate that the last one needs was proved once, after the crates that it uses."""
         there = crates.read()
         for place, crate in enumerate(proved):
             below = [it for it in there[crate].uses if it in there]
@@ -71,7 +71,7 @@ class Rooms(unittest.TestCase):
         self.assertEqual(proved[-1], last)
 
     def builds_a_program(self, room):
-        """A build proves each crate, tells of it, and leaves the program."""
+        """A build proves each crate, prints a line for it, and leaves the program."""
         proved, said = self.proves(room, "./waywire", "--build")
         self.is_lowest_first(proved, "waywire")
         for crate in proved:
@@ -89,7 +89,7 @@ class Rooms(unittest.TestCase):
         return proved
 
     def stops_where_a_proof_fails(self):
-        """What stands above is not tried, and nothing is built."""
+        """Crates above it are not tried, and nothing is built."""
         for words, status, made in (
             (["./waywire", "--build"], 70, PROGRAM),
             (["make", "-s", ARCHIVE], 2, ARCHIVE),
@@ -159,8 +159,8 @@ esac
 
 
 class BuildAtOnce(Rooms):
-    """With a toolchain whose `rt ci` takes no names, and keeps nothing but what it leaves in out/.
-    It puts back what stood in out/rlib before it."""
+    """With a toolchain whose `rt ci` takes no names, and keeps only what it leaves in out/. It puts back what
+    was in out/rlib before."""
 
     RT = """#!/usr/bin/env python3
 import glob, hashlib, os, shutil, sys, time
@@ -246,7 +246,7 @@ sys.exit(status)
             self.assertFalse({*before.values()} & {*self.formats(room).values()})
 
     def test_a_gate_that_failed(self):
-        """It leaves no library of what stands above. The next one leaves all."""
+        """It leaves no libraries for the crates above. The next run leaves all."""
         with self.room() as room:
             self.built(room, *self.GATE, FAILS="wl_objects")
             self.proves(room, *self.GATE)

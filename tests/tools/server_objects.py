@@ -96,7 +96,7 @@ DEVICES = (
 
 
 class ServerObjects(unittest.TestCase):
-    """What a lawful session is where the server makes objects."""
+    """Which sessions are lawful when the server makes objects."""
 
     tables = tables_of(DEVICES)
 
@@ -203,7 +203,7 @@ class ServerObjects(unittest.TestCase):
         self.broken(lines + message("<", 1, 1, 3) + message("<", 3, 0, FIRST + 1), "F2 unknown object")
 
     def test_what_no_request_can_end(self):
-        """The server ends it alone, and takes its id again. That goes by the object's version."""
+        """The server ends it on its own, and uses its id again. Whether it may depends on the object's version."""
         again = message("<", 3, 0, FIRST)
         lines = self.opened((b"head", 2)) + again
         self.lawful(lines + again, "<- head@3.next(new id head@4278190080)")

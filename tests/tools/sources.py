@@ -25,7 +25,7 @@ class Crates(unittest.TestCase):
         self.assertEqual(sorted(found), sorted(os.listdir(f"{TOP}/crates")))
 
     def test_lowest_first(self):
-        """A crate stands below those of its kind that it stands on."""
+        """In crates.txt a crate comes after those of its kind that it uses."""
         found = crates.read()
         order = [*found]
         for name, under in crates.below(found).items():
@@ -46,7 +46,8 @@ class Crates(unittest.TestCase):
         self.assertEqual(crates.nearest(found), {"a": [], "b": ["a"], "c": ["b"]})
 
     def test_orders(self):
-        """A crate comes behind those below it; or before, first the one with the most above it in a chain."""
+        """Lowest first, a crate comes after those below it. Longest chain first, the crate with the longest chain of
+        crates above it comes first."""
         uses = {"d": [], "a": [], "b": ["a"], "c": ["b", "d", "std"], "other": ["a"]}
         found = {name: crates.Crate(name, "", below) for name, below in uses.items()}
         self.assertEqual(crates.lowest_first(found, "c"), ["a", "b", "d", "c"])
@@ -265,8 +266,8 @@ class Definitions(unittest.TestCase):
     of_both_ranges = {f"wl_object_map/specs/{it}.antt" for it in ("Objects", "ObjectsLaws")}
 
     def test_one_name_for_one_thing(self):
-        """What both ends have of a kind has one name in both, and what one table has in the objects of both
-        ranges. No other name stands twice."""
+        """If both ends have the same thing, it has the same name in both; the same holds for a table of objects
+        and its two ranges. No other name occurs twice."""
         places = {}
         for path in sorted(glob.glob(f"{TOP}/crates/*/specs/*.antt")):
             with open(path, encoding="utf-8") as file:
@@ -327,7 +328,7 @@ class Functions(unittest.TestCase):
 
     @staticmethod
     def listed(text):
-        """The parameters in the first parentheses that stand in no other brackets."""
+        """The parameters in the first parentheses that are not inside other brackets."""
         depth, starts, found = 0, False, [""]
         for letter in text:
             depth -= letter in ")]}>"

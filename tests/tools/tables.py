@@ -200,7 +200,7 @@ class TablesFromXml(unittest.TestCase):
     tool = module_of("tools/tables-from-xml")
 
     def made(self, *protocols, words=(), status=0):
-        """What is printed for protocols with these texts between their tags, and what is said."""
+        """The output for protocols with these texts between their tags, and the errors."""
         with tempfile.TemporaryDirectory() as folder:
             files = []
             for place, text in enumerate(protocols):
@@ -278,7 +278,7 @@ class TablesFromXml(unittest.TestCase):
             "# it", "a.request.r x:a.e y:b.f", "a.enum.e 1 one 2 two", "b.enum.f bitfield 16 1"], []))
 
     def test_a_lowered_version_keeps_places(self):
-        """Messages out of the order of their versions: what stands behind one that goes, goes."""
+        """Messages that are not in the order of their versions: if one is left out, so are all after it."""
         text = """<interface name="a" version="3"><request name="r" since="3"/><request name="s" since="2"/>
             <event name="e"/><event name="made" since="3"><arg name="x" type="new_id"/></event>
             </interface>"""
@@ -408,7 +408,7 @@ class TablesFromXml(unittest.TestCase):
         self.assertIn("README.md: not well-formed", said[0])
 
     def test_pass_over(self):
-        """A file that is refused is said, and the others are printed."""
+        """A file that is refused is reported, and the others are printed."""
         printed, said = self.made('<interface name="a"/>', '<interface name="b" version="1"/>',
                                   words=("--pass-over", "{0}", "/no/such/file", "{1}"))
         self.assertEqual(printed, ["interface b 1"])

@@ -1,4 +1,4 @@
-"""The table texts in examples/tables, beside their page and the files that they are made of."""
+"""The table texts in examples/tables, compared with their page and with the files that they are made from."""
 
 import contextlib
 import glob
@@ -74,7 +74,7 @@ class Texts(unittest.TestCase):
             self.skipTest(f"none of {', '.join(self.PROGRAMS)} is installed")
 
     def test_made_of_the_files(self):
-        """Each text is what the tool makes of its file, where that version of the package is installed."""
+        """Each text is what the tool makes from its file, if that version of the package is installed."""
         files, tool, others = protocol_files.found(), module_of("tools/dev/make-tables"), []
         for name, stored in self.texts().items():
             if name in protocol_files.BY_HAND:

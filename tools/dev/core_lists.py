@@ -1,6 +1,5 @@
-"""The lists of the core interfaces that the crates wl_rules and wl_sigs have, as tools/dev/core-files
-makes them from tools/core.xml: the interfaces as definitions and as code, and the opcodes beside the
-names of their messages."""
+"""The lists of the core interfaces in the crates wl_rules and wl_sigs, which tools/dev/core-files makes from
+tools/core.xml: the interfaces as definitions and as code, and the opcodes with the names of their messages."""
 
 import itertools
 
@@ -217,9 +216,9 @@ def opcodes_by_name(interfaces):
 
 
 def laid_out(opens, items, closes, depth, ends=""):
-    """Items between brackets as `rt fmt` lays them out behind `depth` spaces: in one line if there
-    is room, else an item a line, with `ends` behind the last one. An item is a list of lines, and
-    so is the whole."""
+    """Items between brackets, indented by `depth` spaces and laid out as by `rt fmt`: on one line if there is
+    room, otherwise one item per line, with `ends` after the last one. An item is a list of lines, and so is the
+    result."""
     line = opens + ", ".join(it[0] for it in items) + closes
     is_narrow = len(line) - len(opens + closes) <= WIDEST_LIST and depth + len(line) < WIDEST
     if is_narrow and all(len(it) == 1 for it in items):
@@ -230,7 +229,7 @@ def laid_out(opens, items, closes, depth, ends=""):
 
 
 def message_code(interface, message, depth):
-    """The lines of a message behind `depth` spaces."""
+    """The lines of a message, indented by `depth` spaces."""
     words = kinds(interface, message, 1)
     if all(it.isidentifier() and len(it) <= SHORT for it in words):
         # As many of them in a line as it has room for.

@@ -1,4 +1,4 @@
-"""The protocol files that the texts in examples/tables are made of, where this machine has them."""
+"""The protocol files from which the texts in examples/tables are made, if they are on this machine."""
 
 import glob
 import os
@@ -120,8 +120,8 @@ WITHOUT_TEXT = {
 
 
 class Text(NamedTuple):
-    """A table text: the package of its file, where the file is below the package's folder, and the texts
-    that have interfaces which it names."""
+    """A table text: the package of its file, the path of the file below the package's folder, and the texts
+    whose interfaces it names."""
 
     package: str
     path: str
@@ -159,7 +159,7 @@ def found():
 
 
 def without_text():
-    """The files in the packages' folders of which no text is made: their packages and their paths."""
+    """The files in the packages' folders from which no text is made: their packages and paths."""
     made = {*found().values()}
     return [
         (package, os.path.relpath(path, folder(package)))
