@@ -10,8 +10,8 @@
 #include <fcntl.h>
 #include <poll.h>
 
-/* Selections that are set one after another, with so many types whose names are so long: more than a socket and
- * an outbox hold. And readers that ask at once. */
+/* Sets one selection after another, with so many types, and such long names, that a socket and an outbox
+ * cannot hold them. Then readers ask at once. */
 #define SELECTIONS 300
 #define TYPES 64
 #define LONG 200
@@ -98,7 +98,7 @@ static const waywire_listener listeners[] = {
 	{ WW_ZWLR_DATA_CONTROL_SOURCE_V1_NAME, ww_zwlr_data_control_source_v1_event_dispatcher, &source_events },
 };
 
-/* Reads until something is so. */
+/* Reads until a condition is true. */
 #define UNTIL(side, it) \
 	while (!(it)) \
 	MUST(waywire_connection_dispatch((side)->connection, WAIT) > 0)
@@ -146,7 +146,7 @@ static source copy(struct side *it, int types)
 	return copy_long(it, types, 1);
 }
 
-/* Asks for a text, of which the other end of the pipe is returned. */
+/* Asks for a text, and returns the other end of the pipe. */
 static int ask(struct side *it, offer of, const char *type)
 {
 	int ends[2];

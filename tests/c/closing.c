@@ -43,7 +43,7 @@ static void send_with_descriptors(int socket, const void *bytes, size_t length)
 		close(descriptors[each]);
 }
 
-/* A client that breaks a rule is told so; its descriptors are closed. */
+/* A client that breaks a rule gets an error; its descriptors are closed. */
 static void broken(const void *bytes, size_t length)
 {
 	struct link link;
@@ -93,7 +93,7 @@ static waywire_report pass(struct link *from, struct link *to)
 	}
 }
 
-/* A client gives up with descriptors in its outbox, of which some messages have one and others none. */
+/* A client gives up with messages in its outbox, some of which have a descriptor. */
 static void not_sent(void)
 {
 	struct link one, other;

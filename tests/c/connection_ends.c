@@ -321,7 +321,7 @@ static void too_many_descriptors(void)
 
 /* ---- ends that do not read */
 
-/* The client asks so often, as far as it can. Returns whether its outbox is full. */
+/* The client asks this often, or until its outbox is full. Returns whether it is full. */
 static bool ask_much(int count)
 {
 	for (int each = 0; each < count; each++) {

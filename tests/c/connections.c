@@ -1,5 +1,5 @@
-/* Connections, of which both ends are in this process: when it waits, what it calls, when data are
- * destroyed, and how it ends. */
+/* Connections with both ends in this process: when a connection waits, which callbacks it calls, when data
+ * are destroyed, and how it ends. */
 #define _GNU_SOURCE
 #include "descriptors.h"
 
@@ -106,7 +106,7 @@ static void on_global(void *data, waywire_wl_registry at, uint32_t name, const c
 
 static const struct waywire_wl_registry_events registry_events = { .global = on_global };
 
-/* Both ends, of which the client has bound the globals. */
+/* Both ends; the client has bound the globals. */
 static void begin(const waywire_sizes *sizes)
 {
 	int sockets[2], globals = 0;
@@ -256,7 +256,8 @@ static void data_of_server(void)
 	MUST(one == 1);
 }
 
-/* No report tells of an object that an event destroys: its data go when others need room. */
+/* No report says that an event has destroyed an object. Its data are destroyed when other objects get data.
+ * */
 static void data_of_callbacks(void)
 {
 	int counts[1000] = { 0 };

@@ -22,7 +22,7 @@ static bool is_called(const char *name)
 
 static void whole(void)
 {
-	/* wl_registry.bind of name 7: "wl_seat", version 5, new id 9; and a byte behind it */
+	/* wl_registry.bind of name 7: "wl_seat", version 5, new id 9; followed by one byte more */
 	static const uint32_t bind[] = { 2, 32 << 16, 7, 8, 0x735f6c77, 0x00746165, 5, 9, 0 };
 	uint16_t seat;
 	MUST(!waywire_tables_interface(tables, "wl_seat", &seat));
@@ -63,7 +63,7 @@ static void faults(void)
 	static const uint32_t bind[] = { 2, 32 << 16, 7, 8, 0x735f6c77, 0x01746165, 5, 9 };
 	static const uint32_t commit[] = { 3, 12 << 16 | 6, 0 }, offset[] = { 3, 16 << 16 | 10, 1, 2 };
 	static const uint32_t sizes[] = { 3, 4 << 16 | 6, 3, 10 << 16 | 6, 3, 16 << 16 | 6 };
-	/* its string has no NUL at its end: what stands before it is told */
+	/* its string has no NUL at its end: the arguments before it are decoded */
 	MUST(decode("wl_registry", 1, WAYWIRE_FROM_CLIENT, bind, sizeof bind) == WAYWIRE_FAULT_BAD_ARGUMENT);
 	MUST(decoded.place == 1 && decoded.spelling == 3 && decoded.arg_count == 1 && is_called("bind"));
 	MUST(decoded.args[0].u == 7 && decoded.size == 32);

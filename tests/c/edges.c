@@ -70,7 +70,7 @@ static waywire_object bound(struct pair *pair, const waywire_tables *of, const c
 		if (report.kind == WAYWIRE_MESSAGE)
 			last = report.args[0].u;
 	} while (report.kind != WAYWIRE_NOTHING);
-	MUST(name == last); /* the name that is returned is the one that is told */
+	MUST(name == last); /* the returned name is the one that is announced */
 	MUST(!waywire_client_bind(pair->client, pair->registry.object, name, interface, version, &made));
 	to_server(pair);
 	MUST(!waywire_end_next(pair->server.end, &report) && report.kind == WAYWIRE_MESSAGE);
@@ -208,7 +208,7 @@ static void unused(void)
 	waywire_tables_free(more);
 }
 
-/* A message of 20 arguments passes whole, one of 21 is refused, also where 20 would fit. */
+/* A message with 20 arguments passes, and one with 21 is refused, even if 20 would fit. */
 static void twenty(void)
 {
 	static const char text[] = "interface many 1\n"
@@ -413,7 +413,7 @@ static void inspected(void)
 	waywire_inspector_free(it);
 }
 
-/* What a report tells of its target, and its line. */
+/* The target in a report, and its line. */
 static void is_line(waywire_sender sender, const waywire_report *report, const char *interface,
 	uint32_t version, const char *wanted)
 {
@@ -428,7 +428,7 @@ static void is_line(waywire_sender sender, const waywire_report *report, const c
 	MUST(waywire_report_line(tables, sender, report, NULL, 0) == length);
 }
 
-/* Reports tell the interface and version of their target, also where it is a zombie or just ended. */
+/* Reports have the interface and version of their target, also if it is a zombie or has just ended. */
 static void lines(void)
 {
 	struct pair pair;
@@ -516,7 +516,7 @@ static void asked(void)
 	close_pair(&pair);
 }
 
-/* What an end has, as far as calls that only ask say it. */
+/* What the calls that only ask say about an end. */
 struct state {
 	size_t numbers[7];
 };
@@ -573,8 +573,8 @@ static void refused_by_server(const struct pair *pair)
 	MUST(is_state_of(wrong.end, before));
 }
 
-/* Each call of one end alone with the other end: where that has something to read and to write, and once it has
- * failed. The connection goes on as if none had been made. */
+/* Each call that only one end has is made with the other end: while that has something to read and to write,
+ * and after it has failed. The connection goes on as if no call had been made. */
 static void other_end(void)
 {
 	struct pair pair;

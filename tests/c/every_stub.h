@@ -58,7 +58,7 @@ static inline void carry(waywire_end *from, waywire_end *to, waywire_sender send
 	carried = taken.bytes;
 }
 
-/* The kind that an argument has where it is decoded, and as `read` in a report. */
+/* The kind that an argument has when it is decoded, and as `read` in a report. */
 static inline uint32_t kind_apart(const waywire_arg *read, const waywire_kind *kind)
 {
 	if (kind->kind == WAYWIRE_NEW_BY_SERVER)
@@ -93,7 +93,7 @@ static inline void must_come_apart(waywire_sender sender)
 		return;
 	MUST(!waywire_tables_decode(tables, report.interface, report.version, sender, bytes, carried, &decoded));
 	if (decoded.target != report.target.id || decoded.opcode != report.opcode)
-		return; /* another message stands in front */
+		return; /* another message comes first */
 	MUST(!waywire_tables_message(tables, report.interface, sender, decoded.opcode, &message, &name, &length));
 	MUST(decoded.name == name && decoded.name_length == length && decoded.arg_count == report.arg_count);
 	MUST(decoded.size <= carried && !decoded.place && !decoded.spelling);
@@ -167,7 +167,7 @@ static inline uint32_t advertise(const char *interface, uint32_t *version)
 	return name;
 }
 
-/* The name that the next bind is for stands where the bind's first argument is looked for. */
+/* The name for the next bind is where the bind's first argument is looked for. */
 static inline void bind_next(void)
 {
 	advertise(want_interface, &want_version);

@@ -1,5 +1,6 @@
-/* The messages that an inspector follows, judged or not: scenes of messages, and what is told of each. Every scene is
- * played with each message cut at every place, with pieces of several messages, and with each allocation refused. */
+/* The messages that an inspector follows, judged or not: scenes of messages, and what the inspector says
+ * about each. Every scene is played with each message cut at every place, with pieces of several messages, and
+ * with each allocation failing in turn. */
 #include "refusing.h"
 
 #include <ctype.h>
@@ -22,7 +23,8 @@ static const char tables_text[] =
 	"interface off 3\nrequest destroy D\nevent type s\n"
 	"interface head 2\nevent name s\n";
 
-/* A message, and what is told of it. It is `>` or `<`, TARGET.OPCODE and numbers and texts; or bytes in digits. */
+/* A message, and what is said about it. It is `>` or `<`, TARGET.OPCODE, numbers and texts; or bytes in
+ * digits. */
 struct step {
 	const char *said;
 	const char *told;
@@ -170,7 +172,7 @@ static void put(struct line *line, const char *format, ...)
 	line->length += (size_t)length;
 }
 
-/* Ends the program where two texts differ. */
+/* Ends the program if two texts differ. */
 static void must_say(const char *scene, const char *said, const char *wanted)
 {
 	if (strcmp(said, wanted)) {
@@ -240,7 +242,7 @@ static waywire_sender read_step(const char *said, struct data *data)
 	return sender;
 }
 
-/* ---- what is told */
+/* ---- what is said */
 
 static struct line told_by(const waywire_followed *message)
 {
@@ -304,7 +306,7 @@ static struct line verdict(void)
 	return line;
 }
 
-/* All that is told: of the objects, of the messages in front, of what was judged. */
+/* Everything that is said: about the objects, the messages in front, and what was judged. */
 static struct line all_told(void)
 {
 	struct line line = objects(), judged = verdict();
@@ -362,7 +364,7 @@ static void make(const struct call *call)
 
 static void give(waywire_sender sender, const unsigned char *bytes, size_t length)
 {
-	/* The bytes are no one else's, so that valgrind sees where they end. */
+	/* The bytes have a block of their own, so that valgrind sees where they end. */
 	unsigned char *copy = length ? malloc(length) : NULL;
 	if (length)
 		memcpy(copy, bytes, length);
@@ -418,7 +420,7 @@ static void read_arguments(const struct scene *scene, const struct step *step, w
 		must_say(scene->name, said_by(&decoded).text, arguments ? arguments : "");
 }
 
-/* Reads what is told of the message in front, and goes past it. */
+/* Reads what is said about the message in front, and goes past it. */
 static void read_front(const struct scene *scene, const struct step *step, waywire_sender sender,
 	const struct data *data, struct counts *counts)
 {
@@ -472,7 +474,7 @@ static void play_cut(const struct scene *scene, size_t cut)
 	}
 }
 
-/* Plays the messages with as many in a piece as one sender says behind each other. */
+/* Plays the messages in pieces that join consecutive messages of one sender. */
 static void play_joined(const struct scene *scene)
 {
 	struct counts counts = { { 0, 0 }, { 0, 0 }, 0 };
@@ -498,7 +500,7 @@ static void play_joined(const struct scene *scene)
 	}
 }
 
-/* Plays a scene in one way: cut at a place, or joined where the place is MOST + 1. */
+/* Plays a scene in one way: cut at a place, or joined if the place is MOST + 1. */
 static void play(const struct scene *scene, size_t cut)
 {
 	long before = used;

@@ -7,7 +7,7 @@
 
 /* ---- calls that write */
 
-/* What the model says of a call of an end: its status, and the place that a refusal names. */
+/* The model's result for a call of an end: its status, and the place that a refusal names. */
 struct expected {
 	waywire_status status;
 	size_t place;
@@ -127,7 +127,7 @@ static size_t tokens_in(const struct message *message)
 	return count;
 }
 
-/* The message goes: its bytes and tokens stand last among those that are to be taken. */
+/* The message is written: its bytes and tokens are the last ones that are to be taken. */
 static void goes(struct way *way, const struct message *message)
 {
 	unsigned char bytes[OUT_BYTES];
@@ -147,7 +147,7 @@ static void goes(struct way *way, const struct message *message)
 			last->args[place].bytes = last->bytes[place];
 }
 
-/* What stood where a call writes. */
+/* The old contents of what a call writes. */
 static const waywire_object stood = { 7, 7 };
 
 /* Writes a message of an end, perhaps by a call that has a mistake, where without it this is expected.
@@ -347,7 +347,7 @@ static waywire_amounts take(int by, unsigned char *bytes, size_t length, uint32_
 
 /* ---- what comes */
 
-/* Whether a reported argument is the one that was given, where a reader has its objects. */
+/* Whether a reported argument is the one that was given, as the reader's own object. */
 static bool is_reported(int reader, const waywire_arg *given, const waywire_arg *got)
 {
 	waywire_arg wanted = *given;
@@ -414,7 +414,7 @@ static void reads_event(const struct message *message, const waywire_report *rep
 	ended->life = FREE;
 }
 
-/* Whether the message in front is whole at its reader, of whose bytes so many came in. */
+/* Whether the message in front is whole at its reader, which has taken in this many bytes. */
 static size_t came[2];
 
 static bool is_whole(int by, size_t *length)
@@ -488,7 +488,7 @@ static void feeds(int by, const unsigned char *bytes, size_t length, const uint3
 	}
 }
 
-/* An inspector is passed the same; where an allocation fails, once more. */
+/* An inspector gets the same; if an allocation fails, once more. */
 static void passes(int by, const unsigned char *bytes, size_t length, size_t count)
 {
 	waywire_status status;
@@ -512,7 +512,7 @@ static void carries(int by, size_t length, size_t count)
 
 /* ---- other calls */
 
-/* What is said of any object of an end, and its pointer is set. */
+/* Asks about any object of an end, and sets its pointer. */
 static void asks(int by)
 {
 	struct object *object = &objects[by][2 + chance(MOST_IDS - 2)];

@@ -160,7 +160,7 @@ static size_t encode(const struct message *message, unsigned char *bytes)
 	return length;
 }
 
-/* Whether the outbox has room for so many bytes and tokens. */
+/* Whether the outbox has room for this many bytes and tokens. */
 static bool fits(const struct way *way, size_t bytes, size_t tokens)
 {
 	return way->length - way->sent + bytes <= OUT_BYTES

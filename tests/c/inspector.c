@@ -2,7 +2,7 @@
  *
  *     inspector RECORDING [TABLES [MOST]]
  *
- * TABLES is a text, with `-` for none; MOST is the most bytes of a part. The exit status is 1 where a message
+ * TABLES is a table text, `-` for none; MOST is the most bytes of a part. The exit status is 1 if a message
  * breaks a rule. */
 #include "must.h"
 

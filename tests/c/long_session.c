@@ -1,6 +1,6 @@
-/* Passes ten gigabytes of a session to an inspector, which takes no more memory at its end than behind the
- * first 65 megabytes, when the allocator has kept what it keeps; and then pieces behind a message that breaks
- * a rule, of which it keeps none. */
+/* Passes ten gigabytes of a session to an inspector. At the end it must have no more memory than after the
+ * first 65 megabytes, when the allocator has reached its own limit. Then passes pieces after a message that
+ * breaks a rule; the inspector must not keep any of them. */
 #include "must.h"
 
 #include <malloc.h>
@@ -54,7 +54,8 @@ static bool is_lawful(waywire_inspector *inspector)
 	return !broken;
 }
 
-/* Passes a request that breaks a rule, and then four megabytes each way, of which nothing is kept. */
+/* Passes a request that breaks a rule, and then four megabytes in each direction. Nothing of these is kept.
+ * */
 static void pass_behind_the_end(waywire_inspector *inspector)
 {
 	static const unsigned char piece[4096];

@@ -365,7 +365,7 @@ static struct asks asks_over(const char *more)
 	return asked;
 }
 
-/* An end has a table for the server's objects only where an event makes some: one call for memory more. */
+/* An end has a table for the server's objects only if an event makes some: that is one more allocation. */
 static void second_table(void)
 {
 	struct asks of_core = asks_over("");

@@ -86,8 +86,8 @@ static waywire_object get_registry(waywire_client client)
 	return made;
 }
 
-/* A client over the first text, and a server over all, which has told of a thing of version 3 and of a later one,
- * whose interface the client lacks. */
+/* A client with the first text, and a server with all texts. The server has announced a thing of version 3,
+ * and a later one whose interface the client lacks. */
 static struct pair open_pair(void)
 {
 	struct pair pair;
@@ -114,7 +114,7 @@ static void close_pair(struct pair pair)
 	waywire_end_free(pair.server.end);
 }
 
-/* What an end has, as far as calls that only ask say it. */
+/* What the calls that only ask say about an end. */
 struct state {
 	const waywire_tables *tables;
 	size_t numbers[7];
@@ -307,7 +307,7 @@ static void lasting(void)
 	waywire_end_free(client.end);
 }
 
-/* A text that is refused: the status, where it is at fault, and nothing else changed or written. */
+/* A refused text: the status, the place of the fault, and nothing else changed or written. */
 static void refused(waywire_client client, const char *text, waywire_status wanted, size_t at, uint32_t broken)
 {
 	struct state before = state_of(client.end);
@@ -334,7 +334,8 @@ static void texts(void)
 	refused(client, "extend wl_display 2\n", WAYWIRE_BAD_TABLE, 1, 2);
 	refused(client, "interface one 1\nrequest ask n(no)\n", WAYWIRE_BAD_TABLE, 2, 9);
 	refused(client, "interface one 1\nevent made N(wl_callback)\n", WAYWIRE_BAD_TABLE, 2, 11);
-	/* the first event by which the server makes an object; a text that is bad besides is told as that */
+	/* the first event by which the server makes an object; if the text has another fault too, that one is
+	 * reported */
 	refused(client, first, WAYWIRE_FIRST_SERVER_OBJECT, 77, 77);
 	refused(client, "extend other 2\nevent made N(other)\n", WAYWIRE_FIRST_SERVER_OBJECT, 77, 77);
 	refused(client, "interface one 1\nevent made N(one)\nnonsense\n", WAYWIRE_BAD_LINE, 3, 77);
@@ -497,7 +498,7 @@ static void refused_bind(waywire_client client, waywire_object registry, const c
 	MUST(bound.id == 7 && bound.birth == 7 && is_state_of(client.end, before));
 }
 
-/* Each refusal, where those behind it would hold, too. */
+/* Each refusal, also if the later ones would apply too. */
 static void refusals(void)
 {
 	static const waywire_sizes narrow = { 31, 1, 4096, 20 };
@@ -531,7 +532,7 @@ static void refusals(void)
 	waywire_end_free(small.end);
 }
 
-/* All ids are used up, which is tested behind a full outbox. */
+/* All ids are used up; this is tested after the outbox. */
 static void no_ids(void)
 {
 	waywire_client client;

@@ -120,7 +120,7 @@ static void each_refused_of_one(const char *name, waywire_status (*call)(void))
 	printf("%s: %ld allocations\n", name, number - 1);
 }
 
-/* A client over the core's tables, and a registry of it that was never told of a global. */
+/* A client with the core's tables, and a registry of it to which no global was announced. */
 static waywire_client growing;
 static waywire_object registry;
 

@@ -1,12 +1,12 @@
 /* Many open registries cost little.
  *
- *     registries             100,000 of them take less than 40 MB
- *     registries WORK OPEN   does a work beside so many, all of it in `measured`, and prints how
- *                            often: what it takes in instructions is counted from outside
+ *     registries             tests that 100,000 registries take less than 40 MB
+ *     registries TASK OPEN   does a task with OPEN registries open, all of it in `measured`, and prints
+ *                            how often. The instructions are counted from outside
  *
- * The works: an object is made and destroyed; an announce owes nothing; a registry is made; one is
- * destroyed and another made; an event is told, of a global that is added and withdrawn. Behind
- * each request that makes or destroys a registry comes an announce. */
+ * TASK is the number of a task: to make and destroy an object; an announce that writes nothing; to make
+ * a registry; to destroy one and make another; to announce a global that is added and withdrawn. Each
+ * request that makes or destroys a registry is followed by an announce. */
 #include "must.h"
 
 #include <string.h>
@@ -66,8 +66,8 @@ static uint16_t place_of(const char *interface)
 	return place;
 }
 
-/* Makes a server that advertises wl_fixes and wl_compositor, and so many globals in all. Its client
- * has bound these two through its one registry. */
+/* Makes a server that advertises wl_fixes and wl_compositor, and this many globals in all. Its client has
+ * bound these two through its only registry. */
 static void make_server(size_t globals)
 {
 	uint32_t of_fixes, of_compositor;
@@ -135,7 +135,7 @@ static size_t replaces(uint32_t first, uint32_t open)
 	return pairs;
 }
 
-/* All registries are told, the client's first one too. */
+/* All registries get the events, the client's first one too. */
 static size_t tells(uint32_t first, uint32_t open)
 {
 	uint32_t name;
@@ -166,7 +166,7 @@ size_t measured(size_t work, uint32_t first, uint32_t open)
 	return works[work].done(first, open);
 }
 
-/* Does a work beside so many registries, which have been told of all globals. */
+/* Does a task with this many open registries, to which all globals were announced. */
 static void measure(const char *name, uint32_t open)
 {
 	size_t work = 0;

@@ -85,7 +85,7 @@ static waywire_object made_last(const struct session *it)
 	return made;
 }
 
-/* The manager tells of a head with this id, whose object is returned. */
+/* The manager sends a head with this id. Returns its object. */
 static waywire_object head(struct session *it, uint32_t id)
 {
 	comes(it, it->manager.id, HEAD, &id, 1);

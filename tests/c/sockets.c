@@ -44,7 +44,7 @@ static void set(const char *variable, const char *value)
 	MUST(!(value ? setenv(variable, value, 1) : unsetenv(variable)));
 }
 
-/* The process may open so many more descriptors. Returns the limit before. */
+/* Lets the process open only this many more descriptors. Returns the old limit. */
 static struct rlimit allow(int more)
 {
 	struct rlimit before, few;
@@ -108,8 +108,8 @@ static int64_t now(void)
 	return time.tv_sec * (int64_t)1000 + time.tv_nsec / 1000000;
 }
 
-/* A compositor that accepts nobody: it has room for one, and connecting waits no longer than it is
- * told. */
+/* A compositor that accepts nobody: it has room for one client, and connecting waits only as long as its
+ * limit says. */
 static void without_room(void)
 {
 	struct timeval left = { 1, 1 };

@@ -1,5 +1,5 @@
-/* Bytes written where `space` said that are kept out by their tokens stay there until `received` takes them in,
- * whatever is read and sent in between. */
+/* Bytes that were written to `space`, and whose tokens have no room, stay there until `received` takes them
+ * in, whatever is read and sent in between. */
 #include "must.h"
 
 #include <string.h>

@@ -72,7 +72,7 @@ static void ends_have_none(void)
 	waywire_tables_free(tables);
 }
 
-/* Whether an object's pointer is set with one call for memory, of room for so many. */
+/* Whether setting an object's pointer takes one allocation, with room for this many. */
 static bool is_set_by_one(struct users *users, waywire_object object, void *pointer, size_t count)
 {
 	long before = asks;

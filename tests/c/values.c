@@ -199,7 +199,7 @@ static void full(void)
 	waywire_end_free(other.end);
 }
 
-/* An end fails where an error is posted, and where it is given up; not by a call that is refused. */
+/* An end fails if an error is posted, and if it is given up, but not by a refused call. */
 static void failing(void)
 {
 	waywire_object stale = { 7, 1 };
@@ -310,7 +310,7 @@ static void kinds_of_arguments(void)
 	MUST(waywire_tables_kind(tables, 0, WAYWIRE_FROM_CLIENT, 0, 0, NULL) == WAYWIRE_NULL);
 }
 
-/* A new object of the server is of a kind of its own, which only tables tell. */
+/* A new object of the server has a kind of its own, which only the tables show. */
 static void server_objects(void)
 {
 	static const char text[] = "interface wp_maker 1\nevent made N(wp_maker)\nrequest make n(wp_maker)";
@@ -336,7 +336,7 @@ static void carry(waywire_end *from, waywire_end *to, waywire_report *report)
 	MUST(!waywire_end_next(to, report) && report->kind == WAYWIRE_MESSAGE);
 }
 
-/* Both ends speak a wl_seat that a text extends: what it adds stands behind what was there. */
+/* Both ends use a wl_seat that a text extends: the added messages come after the old ones. */
 static void newer_seat(void)
 {
 	static const char text[] = "extend wl_seat 10\nrequest pad n(pad) @10\nevent mode u @10\ninterface pad 1\n";
@@ -486,7 +486,7 @@ static bool forgets(waywire_client one, uint32_t name, const char *interface)
 	return report.forgotten;
 }
 
-/* A client remembers 1,024 globals, and says of each further one that it does not. */
+/* A client remembers 1,024 globals. The report of any further global says that it is forgotten. */
 static void globals(void)
 {
 	static const uint32_t remove[] = { 2, 12 << 16 | WAYWIRE_WL_REGISTRY_EVENT_GLOBAL_REMOVE, 7 };

@@ -39,8 +39,8 @@ static void answer(struct wire *wire, const uint32_t *words)
 	}
 }
 
-/* Reads requests until the client goes, or so many have come, if that is not 0. All that were read
- * at once are answered at once. */
+/* Reads requests until the client goes or, if the number is not 0, this many have come. All requests that
+ * were read at once are answered at once. */
 static int serve(int socket, long most)
 {
 	long count = 0;
@@ -81,8 +81,8 @@ static int is_compositor(int argc, char **argv)
 	return argc == 4 && !strcmp(argv[1], "--serve") && !serve(atoi(argv[2]), atol(argv[3]));
 }
 
-/* Starts the compositor by the name of this program, which ends at so many requests, if that is
- * not 0. Returns the client's socket. */
+/* Starts the compositor, which is this program again. If the number is not 0, it ends after this many
+ * requests. Returns the client's socket. */
 static int start_compositor(const char *program, long most)
 {
 	int sockets[2];

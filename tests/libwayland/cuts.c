@@ -1,17 +1,17 @@
-/* What a client ends with when its compositor's words are cut at each byte, when it dies there, and
- * when each byte is another. Prints a line for each.
+/* How a client ends if the bytes of its compositor are cut at each place, if the compositor dies there,
+ * and if each byte is changed. Prints a line for each.
  *
  *     cuts [STEP]
  *
- * Each is a process of its own, so that one that crashes is a line, too. With STEP all are in this
- * process, as valgrind needs it, and only one byte of so many is tried. The session ends with an
- * error of the compositor if it is cut, or if a byte of the error is changed. */
+ * Each client is a process of its own, so that a crash is also a line. With STEP all clients are in this
+ * process, as valgrind needs it, and only each STEPth byte is tried. The session ends with an error of
+ * the compositor if it is cut, or if a byte of the error is changed. */
 #define _GNU_SOURCE
 #define COUNT_CLOSES
 #include "session.h"
 #include <sys/wait.h>
 
-/* How a byte is changed, beside what ends the session there. */
+/* How a byte is changed, or how the session ends there. */
 static const char *const ways[] = { "cut", "dies", "more", "ones", "zero", "sign" };
 enum { CUT, DIES, MORE, ONES, ZERO, SIGN, WAYS };
 

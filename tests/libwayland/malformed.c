@@ -12,7 +12,7 @@
 #include <sys/wait.h>
 
 static const struct wl_interface *const untyped[32];
-/* `untyped`, as it stands in a wl_message. */
+/* `untyped`, in the form of a wl_message. */
 #define NO_TYPES ((const struct wl_interface **)(uintptr_t)untyped)
 
 static struct wl_message requests[300], events[300], nested_message;

@@ -1,6 +1,6 @@
-/* A session in which each allocation fails in turn, alone or with all behind it. Prints a line for
- * each at which a process was ended by a signal or left a descriptor open, and how many there
- * are. */
+/* Runs a session in which one allocation fails, for each allocation in turn: that one alone, or with all
+ * later ones. Prints a line for each after which a signal ended the process or a descriptor stayed open, and how
+ * many there are. */
 #define _GNU_SOURCE
 #define COUNT_CLOSES
 #include "session.h"

@@ -346,7 +346,7 @@ static void repeated(char *text, const char *letter, int count)
 		strcat(text, letter);
 }
 
-/* Letters at random: at most one new object, some nullable, some behind the number of a version. */
+/* Random letters: at most one new object; some are nullable, some follow the number of a version. */
 static void mixed(char *text, int count, int new_at)
 {
 	static const char letters[] = "iufsoah";

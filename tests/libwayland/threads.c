@@ -1,10 +1,10 @@
-/* Eight threads over one display, each with a queue of its own: callbacks, objects that come and
- * go, reading by hand and by dispatch, and queues that come and go.
+/* Eight threads share one display. Each has a queue of its own. They use callbacks, make and destroy
+ * objects and queues, and read by hand and by dispatch.
  *
  *     threads ROUNDS [REQUESTS]
  *
- * The compositor is this program again, in a process that valgrind does not follow. With REQUESTS
- * it ends at so many, and each thread must end with an error then. */
+ * The compositor is this program again, in a process that valgrind does not follow. With REQUESTS, it
+ * ends after this many requests, and then each thread must end with an error. */
 #define _GNU_SOURCE
 #include "compositor.h"
 #include <poll.h>

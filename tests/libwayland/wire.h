@@ -146,7 +146,7 @@ static inline int new_descriptor(void)
 	return descriptor;
 }
 
-/* A process that hangs is ended by a signal after so many seconds: many times what it takes. */
+/* A signal ends a process that hangs after this many seconds: many times what it needs. */
 #define HANGS 240
 
 /* How many descriptors this process has. */

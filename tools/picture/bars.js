@@ -38,7 +38,7 @@ function drawColumns(pen, colours, narrow, base) {
     const count = narrow.reduce((sum, it) => sum + (it > 0), 0);
     if (count > 300) {
         pen.fillStyle = colours.wait;
-        // They stand side by side, and are an area without edges of its own.
+        // They are side by side, so they form an area without inner edges.
         for (let x = 0; x + 1 < narrow.length; x += 2) {
             const high = Math.max(narrow[x], narrow[x + 1]);
             if (high) {

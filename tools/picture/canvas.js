@@ -86,7 +86,7 @@ function columnsOf(session, view, isShown, whole) {
     return counts;
 }
 
-// Everything at once: requests above, events below; the part that is seen is bright.
+// The whole session: requests above, events below; the visible part is bright.
 function drawOverview(app, canvas) {
     const { session, view, colours } = app, height = 47;
     const pen = fitted(canvas, view.width, height);
@@ -109,7 +109,7 @@ function drawOverview(app, canvas) {
         pen.strokeRect(a + 0.5, 0.5, Math.max(1, b - a - 1), height - 1);
     }
     app.overviewCounts.forEach((counts, direction) => {
-        // Half of the height where there is one message, all where there are as many as in the fullest column.
+        // Half of the height for one message, the full height for as many as in the fullest column.
         const most = counts.reduce((a, b) => Math.max(a, b), 1);
         pen.fillStyle = direction === REQUEST ? colours.request : colours.event;
         counts.forEach((count, x) => {

@@ -1,10 +1,10 @@
 "use strict";
-// Who holds the clipboard and the primary selection, as far as the session of one client shows it.
+// Who holds the clipboard and the primary selection, as far as this can be seen in the session of one client.
 
 // The interfaces of its protocols: devices, and their sources and offers.
 const DATA_DEVICE = /^(wl_data|(zwp|gtk)_primary_selection|(zwlr|ext)_data_control)_device(_v1)?$/;
 const DATA = /^(wl_data|(zwp|gtk)_primary_selection|(zwlr|ext)_data_control)_(source|offer)(_v1)?$/;
-// A device of a data control is told of each change, others only while their client has the
+// A device of a data control hears of each change, and any other device only while its client has the
 // keyboard focus.
 const DATA_CONTROL = /_data_control_/;
 const KINDS = { clipboard: "Clipboard", primary: "Primary selection" };
@@ -19,8 +19,8 @@ class Selections {
     constructor(session) {
         this.session = session;
         this.holders = [];
-        // By device and kind: what holds it, as far as was said; and what this client set, until
-        // that is cancelled or destroyed.
+        // By device and kind: the known holder, and what this client has set, until that is cancelled or
+        // destroyed.
         this.now = new Map();
         this.own = new Map();
         // The types of a source or an offer, and the requests for an offer's content, by number.
@@ -222,7 +222,7 @@ function wordsOfHolder(session, holder, isOneDevice) {
     return said;
 }
 
-// The holders of a kind, the last first; those before the last few where they are asked for.
+// The holders of a kind, the last one first. Only the last few are shown unless the others are asked for.
 function holdersOfKind(panel, kind) {
     const { session } = panel.app;
     const all = session.selections.holders.filter((it) => it.kind === kind).reverse();

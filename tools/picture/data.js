@@ -69,11 +69,11 @@ class Session {
         this.placeAll();
         this.fillObjects();
         const last = Math.max(0, this.count - 1);
-        // The session's end, where the page has all of it and the recording says when that was.
+        // The session's end, if the page has the whole session and the recording says when it ended.
         const { ended, cut } = raw.verdict ?? {};
         const end = this.isTimed && !raw.left_out ? Math.round((ended ?? cut ?? 0) * 1e6) - begin : 0;
         this.span = Math.max(this.count ? this.time[last] : 0, end, 1);
-        // Behind what broke a rule, and behind an error, no answer is looked for.
+        // After a message that broke a rule, and after an error, no answer is looked for.
         const lastLooked = raw.broken ?? raw.error;
         this.looked = lastLooked ? this.time[lastLooked.place] ?? this.span : this.span;
     }
@@ -182,7 +182,7 @@ class Session {
     }
 }
 
-// Which program a client is, and its process, as far as they are known.
+// Which program a client is, and its process, if they are known.
 function whoOf(name, pid) {
     return [name, pid && `process ${pid}`].filter((it) => it).join(", ");
 }

@@ -72,7 +72,7 @@ class Drawing {
         }
     }
 
-    // The objects of a row. Of those that are narrower than a pixel, one in a column is drawn.
+    // The objects of a row. If several are narrower than a pixel, only one is drawn in each column.
     objects(row, y) {
         const { view } = this.app, narrow = 1.5 * (view.to - view.from) / view.inner;
         let covered = -Infinity;
@@ -120,7 +120,7 @@ class Drawing {
         }
     }
 
-    // Darker where the compositor holds the buffer; what ends and begins in one column of pixels is one.
+    // Darker while the compositor holds the buffer. Holds that end and begin in one column of pixels are joined.
     holds(row, it, y) {
         const { pen } = this, { view, colours } = this.app;
         const put = () => to > -Infinity && pen.fillRect(from, y + 5, Math.max(1, to - from), 10);
@@ -171,7 +171,7 @@ class Drawing {
         open.forEach((run, direction) => run && put(run, direction));
     }
 
-    // How many live, where there are too many for a row each.
+    // How many objects live, if there are too many for a row each.
     fold(row, y) {
         drawLabel(this, row, y);
         const { pen } = this, { colours, view } = this.app, base = y + row.height - 6;

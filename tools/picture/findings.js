@@ -1,5 +1,5 @@
 "use strict";
-// What is worth a look, in words. It is told soberly: a session without trouble has none of it.
+// What is worth a look, in words. A session without trouble has no findings.
 
 const RULES = {
     F1: ["bad message size", "A message has at least 8 bytes and at most the limit, in multiples of 4."],
@@ -29,7 +29,7 @@ function wayToBroken(session) {
     const named = session.signatures[session.signature[bad]].kinds.map((_, place) => place)
         .filter((place) => ["object", "new"].includes(session.signatures[session.signature[bad]].kinds[place][0]))
         .map((place) => session.named(bad, place));
-    // Of a new id, what its last object was.
+    // For a new id, what its last object was.
     const last = (object) => (object?.made >= 0 ? object : session.objects.findLast((it) => it.id === object?.id
         && it.made >= 0));
     for (const object of new Set([about, ...named].map(last).filter((it) => it))) {
@@ -125,7 +125,7 @@ function unansweredWords(session, { key, name, own, left, first, isMute }) {
         : `${name} was not answered ${several(left.length, "time")}.${sinceFirst}`;
 }
 
-// What is said if nothing is worth a look: only what is so.
+// What is said if nothing is worth a look. It must be true.
 function nothingFound(session) {
     const left = session.waits.filter((it) => it.to < 0 && it.key !== "held");
     if (!left.length) {

@@ -110,7 +110,7 @@ function writeHash(app) {
     history.replaceState(null, "", `#${app.hash}`);
 }
 
-// Takes over what the hash says, where it is not what the page itself wrote.
+// Applies the hash of the address, unless the page itself wrote it.
 function readHash(app) {
     const hash = location.hash.slice(1);
     if (hash === (app.hash ?? "")) {

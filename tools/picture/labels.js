@@ -6,7 +6,7 @@ const LABEL = {
     name: `11px ${MONO}`, id: `10px ${MONO}`,
 };
 
-// Writes a text on a row, but none that the edge of the picture would cut.
+// Writes a text on a row, unless the edge of the picture would cut it.
 function writeWhole(drawing, text, x, y, colour, font, align = "left") {
     if (y >= 9 && y <= drawing.height - 3) {
         write(drawing.pen, text, x, y, colour, font, align);

@@ -1,7 +1,7 @@
 "use strict";
-// Where everything is: the part of the session that is seen, and the rows of the picture.
+// The layout: the visible part of the session, and the rows of the picture.
 
-// The width of the names beside the bars, in a wide picture and in others; and that of the right edge. In a narrow
+// The widths of the names beside the bars, in a wide picture and in others, and of the right edge. In a narrow
 // picture the names are above their bars.
 const GUTTERS = { wide: 270, middle: 236, narrow: 12 }, EDGE = 14;
 const WIDE = 1200, NARROW = 600;
@@ -34,7 +34,7 @@ function purposeOf(session, object) {
         ? "globals" : found;
 }
 
-// What is seen of the session, by time or by order. Its unit is a microsecond, or a message.
+// The visible part of the session, by time in microseconds, or by order in messages.
 class View {
     constructor(session) {
         this.session = session;
@@ -189,7 +189,7 @@ const endOf = (session, object) => (object.end >= 0 ? object.end : session.count
 function lanesOf(session, objects) {
     const lanes = [], ends = [];
     for (const it of objects) {
-        // The heap of ends is short where lanes are few; where they are many, the rows are folded.
+        // With few lanes the heap of ends is short; with many, the rows are folded.
         let lane = lanes.length > 400 ? -1 : ends.findIndex((end) => end < beginOf(it));
         if (lane < 0) {
             lane = lanes.length;

@@ -10,7 +10,7 @@ function element(name, className = "", text = "") {
     return made;
 }
 
-// Lets long words go on in the next line behind a sign, and not in the middle of a name. A string of the wire has no
+// Lets long words break after a punctuation character, and not in the middle of a name. A string of the wire has no
 // zero byte.
 function addBreaks(place) {
     const texts = document.createTreeWalker(place, NodeFilter.SHOW_TEXT), found = [];
@@ -77,7 +77,7 @@ class List {
         this.draw();
     }
 
-    // Brings a message into view, and near the middle where it was far away.
+    // Brings a message into view; if it was far away, near the middle.
     reveal(message) {
         const at = firstFrom(this.rows, message) * LINE, { scrollTop, clientHeight } = this.place;
         if (at < scrollTop || at + LINE > scrollTop + clientHeight) {
@@ -124,7 +124,7 @@ class List {
         return line;
     }
 
-    // What stands at the end of a line: the rule that broke, how long the answer took, or that there is none.
+    // The end of a line: the rule that was broken, how long the answer took, or that there is none.
     behind(message) {
         const { session } = this.app;
         if (message === session.bad) {

@@ -191,7 +191,7 @@ class App {
         this.follow();
     }
 
-    // The list follows the picture, where none of its lines are in it.
+    // The list follows the picture if none of its lines are in the picture.
     follow() {
         const [first, last] = this.listed();
         if (first >= 0 && (this.view.at(last) < this.view.from || this.view.at(first) > this.view.to)) {

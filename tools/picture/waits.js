@@ -11,9 +11,9 @@ const WAITS = [
 ];
 const ACKED = new Set(["xdg_surface", "zxdg_surface_v6", "zwlr_layer_surface_v1", "ext_session_lock_surface_v1"]);
 const SLOW = { times: 2, more: 8000, over: 20000 };
-// Of fewer than these it is not known what is usual.
+// With fewer answers than this it is not known what is usual.
 const LEAST_USUAL = 3;
-// What is answered at once, or at least when the next frame is shown.
+// Questions that are answered at once, or at the latest when the next frame is shown.
 const PROMPT = new Set(["sync", "configure", "frame", "presented", "ping"]), SECOND = 1e6;
 
 function isSlow(took, usual) {
@@ -133,7 +133,7 @@ class Waiting {
         const serial = this.session.value(i, 0);
         const waits = this.serials.get(about.number);
         if (waits?.has(serial)) {
-            // What stood before it needs no answer any more.
+            // Earlier questions need no answer any more.
             for (const [number, wait] of waits) {
                 this.close(wait, i, number !== serial);
                 waits.delete(number);
@@ -236,7 +236,7 @@ function addWaits(session) {
         wait.took = (wait.to < 0 ? session.looked : session.time[wait.to]) - session.time[wait.from];
         new Set([wait.asked, wait.from]).forEach((it) => add(it, wait));
         if (wait.to >= 0 && !wait.isGone) {
-            // Of the answers to one commit the frame's is the first.
+            // The frame's answer is the first of the answers to one commit.
             [wait.asked, wait.from].filter((it) => session.answer[it] < 0).forEach((it) => {
                 session.answer[it] = wait.to;
             });
