@@ -25,8 +25,8 @@ os.execvp(sys.argv[3], sys.argv[3:])
 
 
 class Browser:
-    """A browser with one page. What its console says is kept in `said`, what goes wrong in `wrong`.
-    It is skipped where it is not installed, or does not come up."""
+    """A browser with one page. `said` has the output of its console, and `wrong` what went wrong. If it is not
+    installed, or does not start, the test is skipped."""
 
     def __init__(self, width=1400, height=900):
         name = next(filter(is_installed, NAMES), None)
@@ -56,7 +56,7 @@ class Browser:
             raise
 
     def come_up(self, width, height):
-        """Waits until there is a page, and lets it say what happens in it."""
+        """Waits until there is a page, and asks for its events."""
         pages = []
 
         def has_page():
@@ -80,7 +80,7 @@ class Browser:
         self.close()
 
     def close(self):
-        """Ends the browser, and what it started."""
+        """Ends the browser and the processes that it started."""
         for stream in (self.into, self.out):
             os.close(stream)
         try:
@@ -91,7 +91,7 @@ class Browser:
         shutil.rmtree(self.folder, ignore_errors=True)
 
     def answers(self, seconds):
-        """What has come from the browser, until nothing comes for this long."""
+        """The messages from the browser, until none comes for this long."""
         while True:
             while b"\0" in self.rest:
                 one, _, self.rest = self.rest.partition(b"\0")
@@ -104,7 +104,7 @@ class Browser:
             self.rest += new
 
     def heard(self, found):
-        """Keeps what the page says of itself."""
+        """Keeps the events of the page."""
         parts = found.get("params", {})
         if found.get("method") == "Runtime.exceptionThrown":
             detail = parts["exceptionDetails"]
@@ -147,7 +147,7 @@ class Browser:
             raise Failed(f"{code} has not come within {COMES_UP} seconds: {self.wrong}")
 
     def busy(self):
-        """The seconds that the main threads of pages have taken of a processor, whatever else runs beside them."""
+        """The processor seconds of the main threads of pages."""
         taken = 0
         for found in glob.glob("/proc/[0-9]*/cmdline"):
             try:
@@ -170,7 +170,7 @@ class Browser:
         self.wait_for("typeof window.app === 'object' && !document.getElementById('status')")
 
     def size(self, width, height):
-        """Gives the next page another size; below 500 it is that of a telephone."""
+        """Sets the size of the next page; a width below 500 is that of a telephone."""
         self.ask("Emulation.setDeviceMetricsOverride", width=width, height=height, deviceScaleFactor=1,
                  mobile=width < 500)
 
@@ -195,7 +195,7 @@ class Browser:
         self.pointer("mouseReleased", to_x, to_y, button="left", clickCount=1)
 
     def photograph(self, path):
-        """Writes what is seen as a picture."""
+        """Writes a picture of the visible page."""
         data = self.ask("Page.captureScreenshot", format="png")["data"]
         with open(path, "wb") as file:
             file.write(base64.b64decode(data))

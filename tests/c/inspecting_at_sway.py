@@ -40,12 +40,12 @@ class Sway(real_clients.RealClients):
         return {**self.env, "WAYLAND_DEBUG": "0"}
 
     def copy(self, text):
-        """Another client offers a text, until a later one does."""
+        """Another client offers a text until a later client offers one."""
         other = subprocess.Popen(["wl-copy", "--foreground", text], env=self.quiet())
         self.addCleanup(self.end_all, [other])
 
     def again_until(self, path, does, *wanted):
-        """Does something until the tool has said lines of all these forms."""
+        """Repeats an action until the tool has printed lines of all these forms."""
         def said_all():
             does()
             time.sleep(0.5)
@@ -54,12 +54,12 @@ class Sway(real_clients.RealClients):
             self.fail(f"not all of {wanted} came: {self.read(path)[-1000:]}")
 
     def runs(self, *words):
-        """What runs a command to its end."""
+        """Runs a command to its end."""
         return functools.partial(subprocess.run, words, env=self.quiet(), check=False, timeout=LONG,
                                  stdout=subprocess.DEVNULL)
 
     def test_wl_paste(self):
-        """The id of each offer is that of the one before it, which the client has destroyed."""
+        """Each offer has the id of the offer before it, which the client has destroyed."""
         offer = "zwlr_data_control_offer_v1@4278190080"
 
         def ended(path):
@@ -81,7 +81,7 @@ class Sway(real_clients.RealClients):
                        until=lambda said: ".set_selection(" in said)
 
     def test_gtk(self):
-        """It is offered what another client has copied, and copies and pastes its own."""
+        """A client gets an offer of what another client has copied, and copies and pastes a text of its own."""
         need("zenity", "wtype")
         self.env["GDK_BACKEND"] = "wayland"
         self.copy("another")

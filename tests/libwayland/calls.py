@@ -16,7 +16,7 @@ WITH_FAULT = re.compile(r"\berror (?!0|EPIPE)E")
 
 
 def each_signature_reaches_its_listener(library):
-    """Requests and events of each kind of signature, in their bytes and in what a listener gets."""
+    """Requests and events with each kind of signature: their bytes, and what a listener gets."""
     path = compiled("signatures")
     wanted = SYSTEM.succeeds([path])
     if library.succeeds([path]) != wanted:
@@ -46,7 +46,7 @@ def eight_threads_with_queues_of_their_own(library):
 
 
 def eight_threads_whose_compositor_dies(library):
-    """Each thread ends with an error, wherever that finds it."""
+    """Each thread ends with an error, whatever it is doing then."""
     path = compiled("threads")
     for requests in range(5, 400, 7):
         library.succeeds([path, "1000000", str(requests)])
@@ -59,8 +59,8 @@ def eight_threads_for_long(library):
 
 
 def compare(name, library, is_wrong):
-    """Runs a program that prints a line for each thing that it tries. A line that is another over the
-    system's library may be wrong."""
+    """Runs a program that prints a line for each thing that it tries. A line that differs from the system
+    library's may be wrong."""
     path = compiled(name)
     theirs, ours = (it.succeeds([path]).splitlines() for it in (SYSTEM, library))
     wrong = [it for it in ours if "CRASHED" in it or "DESCRIPTORS" in it]
@@ -75,9 +75,9 @@ def compare(name, library, is_wrong):
 
 
 def a_session_cut_at_each_byte_ends_as_libwayland_ends_it(library):
-    """Its errno, the error of the display, and the events that come before; with a byte that was
-    changed it does, or ends with a fault where libwayland goes on. No descriptor is left open,
-    whatever ends the session, and none is closed twice."""
+    """If the session is cut, errno, the error of the display and the earlier events are those of libwayland.
+    The same holds if a byte is changed, or else it ends with a fault while libwayland goes on. However the
+    session ends, no descriptor stays open, and none is closed twice."""
     compare("cuts", library, lambda ours, _: ours.split()[0] in EXACT or not WITH_FAULT.search(ours))
 
 
@@ -105,7 +105,7 @@ def a_session_cut_or_changed_at_each_byte_has_no_error_of_memory(library):
 
 
 def lines_of_wayland_debug_are_those_of_libwayland(library):
-    """Word for word, but for their times."""
+    """The lines are the same word for word, except for their times."""
     path = compiled("lines", "-D_GNU_SOURCE")
     theirs, ours = (
         re.sub(r"(?m)^\[ *[0-9]+\.[0-9]{3}\] ", "[time] ",
@@ -116,7 +116,7 @@ def lines_of_wayland_debug_are_those_of_libwayland(library):
 
 
 def each_allocation_refused_in_turn(library):
-    """No program is ended but by an error of the display, and no descriptor stays open."""
+    """A program ends only by an error of the display, and no descriptor stays open."""
     library.succeeds([compiled("memory")])
 
 
@@ -129,7 +129,7 @@ LONG_TESTS = (eight_threads_for_long, a_session_cut_or_changed_at_each_byte_has_
 
 
 def cases(library, is_whole):
-    """The tests, over a library."""
+    """The tests, with this library."""
     def over(test):
         def run():
             test(library)

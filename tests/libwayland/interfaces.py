@@ -55,7 +55,7 @@ def messages(interface):
 
 
 def differences(newer, older):
-    """What the newer library lacks, or has otherwise: a line each."""
+    """A line for each thing that the newer library lacks, or that differs in it."""
     for name in NAMES:
         ours, theirs = interface_of(newer, name), interface_of(older, name)
         if theirs is None:

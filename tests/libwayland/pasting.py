@@ -1,5 +1,5 @@
-"""Texts that are copied in one program and pasted in another, all over one library: programs of
-GTK 3, GTK 4 and Qt, foot, Firefox, and those of wl-clipboard, each with each."""
+"""Copies texts in one program and pastes them in another, all with one library: programs of GTK 3, GTK 4 and
+Qt, foot, Firefox, and those of wl-clipboard, each with each."""
 
 import itertools
 import os
@@ -95,12 +95,12 @@ class Program:
         return self.desktop.windows_of(self.process)
 
     def texts(self, what):
-        """The texts that it has said to be copied, or pasted."""
+        """The texts that it has reported as copied, or as pasted."""
         with open(self.said, encoding="utf-8", errors="replace") as file:
             return re.findall(rf"^{what} (.*)$", file.read(), re.M)
 
     def does(self, what, is_done):
-        """Presses the keys for that, and again, until this is so of what the program says."""
+        """Presses the keys, again and again, until a condition is true of the program's output."""
         began = time.monotonic()
         while not self.has_ended() and time.monotonic() - began < PASSES:
             windows = self.windows()
@@ -114,7 +114,7 @@ class Program:
         raise Failed(f"{self.kind} {how}: {what}, after {self.texts(what)[-3:]}")
 
     def begins(self, what):
-        """What is needed before keys are pressed."""
+        """Prepares the program for keys."""
 
     def copies(self):
         """Copies a new text, and returns it."""
@@ -123,7 +123,7 @@ class Program:
         return self.texts("copied")[-1]
 
     def pastes(self, text):
-        """Pastes until that is this text."""
+        """Pastes until this text comes."""
         before = len(self.texts("pasted"))
         self.does("pasted", lambda: text in self.texts("pasted")[before:])
 
@@ -161,7 +161,7 @@ class Firefox(Program):
         return [text for it in self.titles() for text in re.findall(rf"^{what} (.*)\.", it)]
 
     def begins(self, what):
-        """The title says the next one, even if it is the same."""
+        """The title changes with each text, even if the text is the same."""
         pressed(self.desktop, "-s 300 x -s 50")
         has_come(lambda: not self.texts(what), AGAIN)
 
@@ -207,7 +207,7 @@ CLASSES = {"foot": Foot, "firefox": Firefox, "wl-clipboard": WlClipboard}
 
 
 class Programs:
-    """The programs over one library, at a kept desktop; each is started when a test needs it."""
+    """The programs with one library, at a kept desktop. Each is started when a test first needs it."""
 
     def __init__(self, kept, library):
         self.kept, self.library = kept, library
@@ -230,13 +230,13 @@ class Programs:
 
 
 class Clipboard:
-    """What is copied, and by which program."""
+    """The copied text, and the program that copied it."""
 
     def __init__(self):
         self.owner, self.text = None, None
 
     def passes(self, source, target):
-        """A text that one program has copied is pasted in another."""
+        """Pastes in one program a text that another program has copied."""
         if self.owner is not source:
             self.owner, self.text = None, source.copies()
             self.owner = source
@@ -244,8 +244,8 @@ class Clipboard:
 
 
 def case(clipboard, source, target, copying, pasting, theirs):
-    """A pair of programs, as a test: of `copying` and of `pasting`. What fails over the system's
-    library, too, says nothing."""
+    """A test of a pair of programs, one that copies and one that pastes. If it also fails with the system's
+    library, it says nothing."""
     def test():
         try:
             clipboard.passes(copying(source), pasting(target))
@@ -276,8 +276,8 @@ def firefox_shows_a_page_and_quits(ours):
 
 
 def cases(ours, theirs, is_whole):
-    """All pairs, by the program that copies; of the whole, also those of one program over each
-    library. At last Firefox is closed."""
+    """All pairs, ordered by the program that copies; with --whole also pairs of one program with each of the
+    libraries. At the end Firefox is closed."""
     clipboard = Clipboard()
     libraries = [(ours, ours), *([(ours, theirs), (theirs, ours)] if is_whole else [])]
     found = [case(clipboard, source, target, *its, theirs)

@@ -1,4 +1,4 @@
-"""libwayland's own tests of its client, unchanged, over the library under test.
+"""Runs libwayland's own tests of its client, unchanged, with the library under test.
 
 They come with the distribution's source of wayland, which tools/dev/install-packages fetches, and
 are compiled against the system's headers and its libwayland-server. Two suites test little of the
@@ -51,7 +51,7 @@ def source():
 
 
 def names_of(suite):
-    """The names of a suite's tests, in their order."""
+    """The names of a suite's tests, in order."""
     with open(f"{source()}/tests/{suite}-test.c", encoding="utf-8") as file:
         return re.findall(r"^(?:FAIL_)?TEST\((\w+)\)", file.read(), re.M)
 
@@ -64,7 +64,7 @@ def written(path, text):
 
 @functools.cache
 def words_of_compiler():
-    """How a file of the source is compiled, with all that is made for that."""
+    """The command that compiles a file of the source, with the files that it needs."""
     need_headers()
     need("wayland-scanner")
     libffi = subprocess.run(["pkg-config", "--exists", "libffi"], check=False)
@@ -105,7 +105,7 @@ def built(suite):
 
 
 def ran(suite, library):
-    """Runs a suite, and returns how each of its tests ended and what all said."""
+    """Runs a suite, and returns how each of its tests ended, and the output of all."""
     env = library.env(TEST_BUILD_DIR=BUILT)
     env.pop("WAYLAND_DISPLAY", None)
     # A slow machine needs more time than the tests allow; those of the runner are of its limits.
@@ -132,8 +132,8 @@ def ended(suite, name, found):
 
 
 def case(suite, name, library):
-    """A test of a suite, as a function. One that fails is tried once more; if it fails over the
-    system's library, too, it says nothing of the other."""
+    """A test of a suite, as a function. If it fails, it is tried once more. If it also fails with the system's
+    library, it says nothing about the library under test."""
     def test():
         need("cc")
         how, is_well = ended(suite, name, first_run(suite, library)[0])
@@ -153,7 +153,7 @@ def case(suite, name, library):
 
 
 def cases(library):
-    """Each test of each suite; one that is skipped, or fails, if none can be compiled."""
+    """Each test of each suite. If none can be compiled, a single test that is skipped or fails."""
     try:
         words_of_compiler()
     except (Failed, Skipped) as why:

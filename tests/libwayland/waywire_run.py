@@ -1,4 +1,4 @@
-"""`waywire-run`, which runs a program over the library that `make` has built."""
+"""`waywire-run`, which runs a program with the library that `make` has built."""
 
 import os
 import re
@@ -12,7 +12,7 @@ TOOL = f"{TOP}/out/c/waywire-run"
 
 
 def need_tool(library):
-    """The tool runs programs over its own library alone."""
+    """The tool runs programs only with its own library."""
     if library.folder != os.path.realpath(f"{TOP}/out/c/wayland"):
         raise Skipped(f"waywire-run has another library than {library.path}")
     if not os.path.exists(TOOL):
@@ -20,7 +20,7 @@ def need_tool(library):
 
 
 def runs_a_program(desktop, library):
-    """A window opens, of a program that has loaded the library; its status is the tool's."""
+    """A program that has loaded the library opens a window. The tool ends with the program's status."""
     need("weston-flower")
     need_tool(library)
     process = desktop.start([TOOL, "weston-flower"])
@@ -37,7 +37,7 @@ def runs_a_program(desktop, library):
 
 
 def runs_a_program_that_is_inspected(desktop, library):
-    """What passes is printed, and is lawful; the program's output is there, too."""
+    """The messages are printed, and are lawful. The program's output is printed too."""
     need_tool(library)
     if not desktop.offers_text():
         raise Skipped("wl-copy has not come up")
