@@ -1,12 +1,12 @@
-//! Finds libwaywire: below `WAYWIRE_DIR`, if that is set, else by pkg-config. `WAYWIRE_DIR` is the folder where it is
-//! installed, or the repository's `out/c`, in which `make` builds it.
+//! Finds libwaywire: below `WAYWIRE_DIR` if that is set, otherwise by pkg-config. `WAYWIRE_DIR` is the folder where
+//! the library is installed, or the repository's `out/c`, in which `make` builds it.
 //!
-//! The archive is linked if it is there, else the shared library. The library's version is to be compatible
-//! with this package's: of one major number, and below 1 of one minor number. Without the library the package
-//! can be checked and documented; what is linked then fails.
+//! If the archive is there, it is linked, otherwise the shared library. The library's version must be compatible
+//! with this package's: the same major number and, below 1, the same minor number. Without the library, the
+//! package can be checked and documented, and linking fails.
 //!
-//! It also makes the modules of the examples from the protocols' files, with the installed tool. Without
-//! the file of wlr-data-control, which is rarely installed, the compositor is built without data-control.
+//! It also makes the modules of the examples from the protocols' files, with the installed tool. Without the file
+//! of wlr-data-control, which is rarely installed, the compositor is built without data-control.
 
 use std::env;
 use std::fs;
@@ -68,7 +68,7 @@ impl Installed {
         })
     }
 
-    /// In this folder, or as the repository has it where the folder has the archive itself.
+    /// The library in this folder; if the folder has the archive itself, it is that of the repository.
     fn below(folder: PathBuf) -> Installed {
         if folder.join("libwaywire.a").exists() {
             let top = folder.join("../..");
@@ -88,7 +88,7 @@ impl Installed {
     }
 }
 
-/// What pkg-config says of a package.
+/// The value of a package's variable, from pkg-config.
 fn asked(package: &str, variable: &str) -> Option<PathBuf> {
     let said = Command::new("pkg-config").args(["--variable", variable, package]).output().ok()?;
     said.status.success().then(|| PathBuf::from(String::from_utf8_lossy(&said.stdout).trim()))
@@ -132,7 +132,7 @@ fn named(variable: &str) -> Option<PathBuf> {
     env::var_os(variable).map(PathBuf::from)
 }
 
-/// The folder of a package's files, by pkg-config or where it usually is.
+/// The folder of a package's files, from pkg-config, or the usual folder.
 fn folder(package: &str, usual: &str) -> PathBuf {
     asked(package, "pkgdatadir").unwrap_or_else(|| usual.into())
 }
@@ -162,7 +162,7 @@ fn data_control() -> Option<PathBuf> {
     named("DATA_CONTROL").or_else(found).filter(|it| !it.as_os_str().is_empty())
 }
 
-/// Ends the build where the header's version is not compatible with this package's.
+/// Ends the build if the header's version is not compatible with this package's.
 fn is_compatible(header: &Path) {
     rerun(header);
     // To check this package alone takes no library.

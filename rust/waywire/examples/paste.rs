@@ -32,7 +32,7 @@ const TYPES: [&str; 3] = ["text/plain;charset=utf-8", "UTF8_STRING", "text/plain
 
 type Failure = Box<dyn std::error::Error>;
 
-/// What the compositor has told.
+/// What is known from the compositor's events.
 #[derive(Default)]
 struct Told {
     /// The names of its globals, by their interfaces.
@@ -107,7 +107,7 @@ impl Client {
         Ok(self.registry.bind(&mut self.link, *name, 1)?)
     }
 
-    /// Takes events until one has told this.
+    /// Dispatches events until this is known.
     fn until<T>(&mut self, told: impl Fn(&Told) -> Option<T>) -> Result<T, Failure> {
         loop {
             if let Some(found) = told(&self.told) {

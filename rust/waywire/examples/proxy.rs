@@ -122,13 +122,13 @@ impl Proxy {
                 Ok(())
             }
             Err(SendError::Stale | SendError::BadObject { .. }) => Ok(()),
-            // The registries of the client are told by `announce`.
+            // `announce` writes to the registries of the client.
             Err(SendError::NoSuchMessage) => Ok(()),
             Err(error) => Err(error.into()),
         }
     }
 
-    /// Destroys an object of the compositor's of which the client was not told.
+    /// Destroys an object of the compositor that the client does not know.
     fn keep_or_destroy(&mut self, made: Object) -> Result<(), Failure> {
         let compositor = &mut self.compositor_side;
         let (false, Some((interface, version))) =

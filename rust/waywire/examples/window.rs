@@ -12,7 +12,7 @@ const SIDE: i32 = 64;
 /// The bytes of a pixel: blue, green, red.
 const PIXEL: [u8; 4] = [0x99, 0x66, 0x33, 0xff];
 
-/// What the compositor has told: the names of its globals, and the serial of the last configure.
+/// What is known from the compositor's events: the names of its globals, and the serial of the last configure.
 #[derive(Default)]
 struct Told(HashMap<Vec<u8>, u32>, Option<u32>);
 

@@ -91,7 +91,7 @@ impl Pair {
     }
 }
 
-/// Whether a value is what was sent, where it makes no object.
+/// Whether a value is the one that was sent; it makes no object.
 fn is_sent(sent: &Arg<'_>, came: &Value<'_>, made: Option<Object>) -> bool {
     match (sent, came) {
         (Arg::Int(one), Value::Int(other)) => one == other,
@@ -302,7 +302,7 @@ fn an_event_makes_an_object() {
     assert_eq!(pair.client.made(), None);
 }
 
-/// Live objects of the server's whose ids others take over. Our server never does that, so the events are
+/// Live objects of the server that others replace. Our server never does that, so the events are
 /// bytes of their own.
 #[test]
 fn an_event_replaces_an_object() {

@@ -37,7 +37,7 @@ fn pieces() -> Vec<Piece> {
         .collect()
 }
 
-/// The front of a message's line in a trace, as far as it is known.
+/// The beginning of a message's line in a trace, as far as it is known.
 fn front_of(tables: &Tables, message: &Followed<'_>) -> String {
     let arrow = if message.sender() == Sender::Client { "->" } else { "<-" };
     let interface = message.object().and_then(|it| tables.name(it.interface));
@@ -167,7 +167,7 @@ fn what_is_not_judged_is_followed() {
     assert!(inspectors[1].verdict().unwrap().is_broken());
 }
 
-/// A header whose size no message has is handed on with all that came, and nothing behind it.
+/// If a header has a size that no message may have, the message has all bytes that came, and none follows it.
 #[test]
 fn a_bad_size_ends_a_direction() {
     let tables = tables_of(&[]);

@@ -169,7 +169,7 @@ fn arguments(args: Args<'_>) -> String {
     text
 }
 
-/// Moves at most so many bytes from one end to the other, and no more than the reader has room for.
+/// Moves at most this many bytes from one end to the other, and no more than the reader has room for.
 /// Returns them, and how many descriptors went with them.
 fn moved<A, B>(from: &mut Connection<A>, to: &mut Connection<B>, most: usize) -> (Vec<u8>, usize) {
     let room = to.in_room();
@@ -256,7 +256,7 @@ impl Player {
         self.names.learn(bound, interface)
     }
 
-    /// Carries so many bytes at most, as one piece.
+    /// Carries at most this many bytes, as one piece.
     fn carry(&mut self, to_server: bool, most: usize) -> String {
         let (client, server) = (&mut self.client, &mut self.server);
         let (sign, sender, (bytes, tokens)) = if to_server {

@@ -53,7 +53,7 @@ impl Answering {
     }
 }
 
-/// The names of the globals that were told.
+/// The names of the announced globals.
 #[derive(Default)]
 struct Told(Vec<u32>);
 
@@ -125,7 +125,7 @@ impl wl_registry::Events for Slow {
 
 waywire::event_handler!(Slow: wl_registry);
 
-/// A server that tells of globals without end, and answers no sync.
+/// A server that announces globals without end, and answers no sync.
 #[test]
 fn a_round_trip_ends_in_time_while_events_come() {
     let (mut client, mut server) = pair();
@@ -227,7 +227,7 @@ fn a_socket_that_takes_no_more_is_waited_for() {
         server.flush().unwrap();
         came
     });
-    // It sends all the while.
+    // It keeps sending while it waits.
     assert_eq!(client.wait(LONG).unwrap(), Came::Something);
     assert!(!client.wants_write());
     assert_eq!(reader.join().unwrap(), syncs);
@@ -260,7 +260,7 @@ fn folder() -> PathBuf {
     folder
 }
 
-/// What is said if no compositor is there names the path that was tried.
+/// If no compositor is there, the error names the path that was tried.
 fn no_compositor_is_there() {
     let error = |name: Option<&str>| socket::connect(name.map(Path::new)).unwrap_err();
     let missing = "No such file or directory (os error 2)";

@@ -1,4 +1,4 @@
-//! Typed calls where no generated test has them: globals and binds, events for objects that are gone,
+//! Typed calls that no generated test covers: globals and binds, events for objects that are gone,
 //! messages of other interfaces. And what goes from end to end without a buffer between.
 
 use waywire::wayland::{

@@ -14,7 +14,7 @@ const LONGEST_TYPE: usize = 255;
 
 /// What differs between the two protocols of a clipboard: rules, and the events of their objects.
 pub trait Protocol {
-    /// A device is told of the selection only while its client has the focus.
+    /// A device hears of the selection only while its client has the focus.
     fn needs_focus(&self) -> bool;
 
     /// The error of a device for which a source is set that was the selection before, if it is one.
@@ -56,7 +56,7 @@ struct Source {
     was_set: bool,
 }
 
-/// Who is told of the selection.
+/// The devices that hear of the selection.
 struct Device {
     protocol: &'static dyn Protocol,
     object: Object,
