@@ -205,8 +205,10 @@ def sessions(kept, is_whole):
 
 def main():
     parser = argparse.ArgumentParser(usage=__doc__.split("\n\n")[1].strip())
-    parser.add_argument("--whole", action="store_true")
-    parser.add_argument("words", nargs="*")
+    parser.add_argument("--whole", action="store_true",
+                        help="runs all programs that the tests of libwayland run at mutter")
+    parser.add_argument("words", nargs="*", metavar="WORD",
+                        help="runs only the sessions whose names contain one of the words")
     given = parser.parse_args()
     os.makedirs(OUT, exist_ok=True)
     kept = desktops.Kept(lambda: kwin_and_mutter.mutter(WAYLAND_DEBUG="server"))

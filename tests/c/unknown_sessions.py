@@ -232,9 +232,10 @@ def say_shortest(folder, tables, seed, steps):
 
 def main():
     parser = argparse.ArgumentParser()
-    parser.add_argument("--whole", action="store_true")
-    parser.add_argument("--seed", type=int)
-    parser.add_argument("--steps", type=int, default=STEPS)
+    parser.add_argument("--whole", action="store_true", help="plays 5,000 sessions instead of 300")
+    parser.add_argument("--seed", type=int, metavar="N", help="plays only the session of this seed")
+    parser.add_argument("--steps", type=int, default=STEPS, metavar="N",
+                        help=f"the most steps of a session [default: {STEPS}]")
     given = parser.parse_args()
     seeds = range(WHOLE if given.whole else COUNT) if given.seed is None else [given.seed]
     tables, counts, failed = played.everything(), Counter(), []
