@@ -89,13 +89,6 @@ pub called_good : (tables : List Interface) (k : KnownAtPlace) (d : Direction) (
     → called tables k d opcode (Ok r) ≡ Ok (record { direction = d; opcode = opcode; received = r })
 called_good tables k d opcode r h = rw h refl
 
-pub from_side : (tables : List Interface) (k : KnownAtPlace) (d : Direction) (header : Header) (body : List ℕ) (n : ℕ)
-    (side : Side) (x : Result Received Fault) → side ≡ side_of d
-    → x ≡ received tables side (reader_by tables k d) header body n
-    → x ≡ received tables (side_of d) (reader_by tables k d) header body n
-from_side tables k d header body n side x is h = h ∙ ap (λ (s : Side). received tables s (reader_by tables k d) header body n)
-    is
-
 -- the parts of a message, as the code lends them
 pub parts_are : (limit : ℕ) (tables : List Interface) (k : KnownAtPlace) (bytes : List ℕ) (frame : FramedMessage)
     (header : Header) (body : List ℕ) (x : Result Call Fault) → is_size limit frame.size ≡ true

@@ -2,6 +2,7 @@
 ghost use Rattle.std.specs.Prelude.{◌≡◌, ◌≤◌, true, length, is_some, None, OnErr, OnOk, IfOk};
 ghost use Rattle.wl_message.specs.Cut.{is_size};
 ghost use Rattle.wl_wire.specs.Word.{header_at};
+ghost use Rattle.wl_check.specs.Changes.{side_of};
 ghost use Rattle.wl_check.specs.Following.{announced, bytes_behind, bytes_in, changes_unread};
 ghost use Rattle.wl_check.specs.Following.{follower, if_certain, said, said_changes, said_in};
 ghost use Rattle.wl_check.specs.Following.{size_ahead, IsBehind, IsNewFollower, TellsAhead};
@@ -18,11 +19,10 @@ use std::alloc::{AllocError, Allocator, Global};
 use wl_message::Limit;
 use wl_object_map::{FIRST_SERVER_ID, MAX_IDS, MAX_SERVER_ID};
 use wl_objects::{
-    DISPLAY, Entry, Lookup, MAX_ARGS, Messages, NewId, ParsedArgs, State, Values, receive,
-    waits_for_request,
+    DISPLAY, Entry, Lookup, MAX_ARGS, NewId, ParsedArgs, State, Values, receive, waits_for_request,
 };
 use wl_recording::Direction;
-use wl_sigs::Tables;
+use wl_sigs::{Side, Tables};
 use wl_wire::{Header, Iface, ValueRef};
 
 /// Replaces an interface that the tables lack.
@@ -80,18 +80,31 @@ struct Step {
     changes: MessageChanges,
 }
 
-/// What the reader of a message knows when messages are not judged.
+/// What the reader of a direction's messages knows when messages are not judged.
 #[derive(Drop)]
 struct FollowerLookup<'a, A: Allocator = Global> {
     tables: &'a Tables,
     held: &'a Holdings<A>,
     unread: u64,
     place: u64,
+    direction: Direction,
 }
 
 impl<'a, A: Allocator> Lookup for FollowerLookup<'a, A> {
+    ghost tables = { λ lookup. lookup.tables.now };
+
+    ghost side = { λ lookup. side_of lookup.direction };
+
     ghost reader = { λ lookup.
         follower lookup.tables.now lookup.held.now lookup.unread lookup.place };
+
+    fn tables(&self) -> &Tables {
+        self.tables
+    }
+
+    fn side(&self) -> Side {
+        side_of(self.direction)
+    }
 
     fn object(&self, id: u32) -> Option<Entry> {
         if_certain(self.tables, self.unread, id, self.held.object(id))
@@ -172,18 +185,18 @@ fn changes_unread(direction: Direction, target: u32) -> MessageChanges
 
 impl<'a, A: Allocator> FollowerLookup<'a, A> {
     /// The changes by the message with this header and this body, and whether it could be read.
-    fn said(&self, direction: Direction, header: Header, body: &[u8]) -> (MessageChanges, bool)
-        ensures changes { result.0 ≡ said_changes self.now.tables.now direction header.object
-            (said self.now.tables.now self.now.held.now self.now.unread self.now.place direction
-            header body.now) }
+    fn said(&self, header: Header, body: &[u8]) -> (MessageChanges, bool)
+        ensures changes { result.0 ≡ said_changes self.now.tables.now self.now.direction
+            header.object (said self.now.tables.now self.now.held.now self.now.unread self.now.place
+            self.now.direction header body.now) }
         ensures is_read { result.1 ≡ is_some (said self.now.tables.now self.now.held.now
-            self.now.unread self.now.place direction header body.now) }
+            self.now.unread self.now.place self.now.direction header body.now) }
     {
+        let direction = self.direction;
         let side = side_of(direction);
         let tables = self.tables;
         let mut args = ParsedArgs::new();
-        let messages = Messages { tables, side };
-        match receive(&mut args, messages, self, header, body, MAX_ARGS) {
+        match receive(&mut args, self, header, body, MAX_ARGS) {
             Ok(message) => {
                 let changes = changes_of(tables, direction, side, header.opcode, &message);
                 let advertised = if is_global(side, message.entry.iface, header.opcode) {
@@ -202,22 +215,22 @@ impl<'a, A: Allocator> FollowerLookup<'a, A> {
     }
 
     /// The same for the message at the front of these bytes.
-    fn said_in(&self, limit: Limit, direction: Direction, bytes: &[u8]) -> (MessageChanges, bool)
+    fn said_in(&self, limit: Limit, bytes: &[u8]) -> (MessageChanges, bool)
         requires header { 8 ≤ length bytes.now }
         requires whole { is_size limit.bytes (header_at bytes.now).size ≡ true
             → (header_at bytes.now).size ≤ length bytes.now }
-        ensures changes { result.0 ≡ said_changes self.now.tables.now direction
+        ensures changes { result.0 ≡ said_changes self.now.tables.now self.now.direction
             (header_at bytes.now).object
             (said_in limit.bytes self.now.tables.now self.now.held.now self.now.unread
-            self.now.place direction bytes.now) }
+            self.now.place self.now.direction bytes.now) }
         ensures is_read { result.1 ≡ is_some (said_in limit.bytes self.now.tables.now
-            self.now.held.now self.now.unread self.now.place direction bytes.now) }
+            self.now.held.now self.now.unread self.now.place self.now.direction bytes.now) }
     {
         let header = Header::at_front_of(bytes);
         if !limit.allows(header.size) {
-            return (changes_unread(direction, header.object), false);
+            return (changes_unread(self.direction, header.object), false);
         }
-        self.said(direction, header, &bytes[8..header.size as usize])
+        self.said(header, &bytes[8..header.size as usize])
     }
 }
 
@@ -386,8 +399,9 @@ impl<'t, A: Allocator> Follower<'t, A> {
             held: &self.held,
             unread: self.unread,
             place: self.number,
+            direction,
         };
-        let (changes, is_read) = lookup.said_in(self.limit, direction, waiting);
+        let (changes, is_read) = lookup.said_in(self.limit, waiting);
         let bytes = if self.limit.allows(header.size) {
             &waiting[..header.size as usize]
         } else {

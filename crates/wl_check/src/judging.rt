@@ -19,7 +19,7 @@ use crate::known::{KnownState, ReaderLookup};
 use crate::session_state::{Output, Rules, Sink};
 use std::alloc::{AllocError, Allocator};
 use wl_objects::{
-    Fault, Messages, NewObject, ParsedArgs, REGISTRY, Received, Values, is_bind, is_delete_id,
+    Fault, NewObject, ParsedArgs, REGISTRY, Received, Values, is_bind, is_delete_id,
     made_by_message, receive,
 };
 use wl_recording::Direction;
@@ -114,8 +114,7 @@ fn judge_message<A: Allocator>(
     };
     let taken = known.taken(direction);
     let waiting = count(frame.tokens.saturating_sub(taken));
-    let messages = Messages { tables, side };
-    let received = receive(args, messages, &lookup, header, body, waiting);
+    let received = receive(args, &lookup, header, body, waiting);
     let message = match received {
         Ok(message) => message,
         Err(fault) => return Ok(Err(fault)),

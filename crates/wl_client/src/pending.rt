@@ -13,7 +13,7 @@ use crate::meaning::meaning_of;
 use crate::outline::Outline;
 use wl_connection::Endpoint;
 use wl_message::Frame;
-use wl_objects::{Entry, Fault, Messages, Objects, ObjectsLookup, ParsedArgs, Table, receive};
+use wl_objects::{Entry, Fault, Objects, ObjectsLookup, ParsedArgs, Table, receive};
 use wl_sigs::{Side, Tables};
 
 /// An event that was read and not yet taken: its report and its changes. It borrows nothing; its
@@ -63,14 +63,12 @@ fn pending_of<T: Table>(
         frame.entry.header frame.entry.body.now frame.entry.tokens) result }
 {
     let header = frame.header;
-    let side = Side::Event;
     let lookup = ObjectsLookup {
         tables,
-        side,
+        side: Side::Event,
         objects,
     };
-    let messages = Messages { tables, side };
-    let received = receive(args, messages, &lookup, header, frame.body, frame.tokens);
+    let received = receive(args, &lookup, header, frame.body, frame.tokens);
     let message = match received {
         Ok(message) => message,
         Err(fault) => return Err(fault),

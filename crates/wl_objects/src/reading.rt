@@ -14,7 +14,7 @@ ghost use Rattle.wl_objects.specs.contracts.parsed.ParsedArgs.{the_row};
 
 use crate::error::Fault;
 use crate::lookup::{Lookup, NewId};
-use crate::messages::{Messages, is_error};
+use crate::messages::is_error;
 use crate::parsed::{ParsedArgs, Parser};
 use crate::values::Values;
 use wl_object_map::{Entry, Object};
@@ -49,36 +49,35 @@ impl<'t, 'a> Received<'t, 'a> {
     }
 }
 
-/// Reads one whole message while this number of tokens waits, for anything that knows the objects
-/// and ids. Its arguments are parsed over those of the message before, and borrowed from there.
-/// Allocates nothing.
+/// Reads one whole message while this number of tokens waits, for anything that knows the tables,
+/// the side that writes it, the objects and the ids. Its arguments are parsed over those of the
+/// message before, and borrowed from there. Allocates nothing.
 ///
 /// Returns the first fault: F2; F3; for each argument from the left F4, F5, F6, F10; then F7 and
 /// F8. An object may be a zombie. In wl_display.error the object may be null or unknown.
 #[inline(always)]
 pub fn receive<'t: 'a, 'a, L: Lookup>(
     args: &'a mut ParsedArgs,
-    messages: Messages<'t>,
-    lookup: &L,
+    lookup: &'t L,
     header: Header,
     body: &'a [u8],
     waiting: usize,
 ) -> Result<Received<'t, 'a>, Fault>
     ensures* kept { sem 𝓛 (Rests the_row args.entry
         (λ after. IfOk result (λ m. after ≡ m.args.now))) }
-    ensures answer { received_in result ≡ received messages.entry.tables.now messages.entry.side
+    ensures answer { received_in result ≡ received (L.tables lookup.now) (L.side lookup.now)
         (L.reader lookup.now) header body.now waiting }
     ensures args { IfOk result
         (λ m. AreParsed (L.reader lookup.now) body.now m.args.now (received_of m).values) }
     ensures body { IfOk result (λ m. m.body.now ≡ body.now) }
     ensures tokens { IfOk result (λ m. m.tokens ≡ descriptors m.signature.now.kinds) }
     ensures error { IfOk result (λ m. m.is_error
-        ≡ is_error messages.entry.side m.entry.iface header.opcode) }
+        ≡ is_error (L.side lookup.now) m.entry.iface header.opcode) }
     // Always true; known here because the tables were read and the header was given.
-    ensures valid { IfOk result (λ _. Valid messages.entry.tables.now) }
+    ensures valid { IfOk result (λ _. Valid (L.tables lookup.now)) }
     ensures header { IsHeader header }
 {
-    let Messages { tables, side } = messages;
+    let (tables, side) = (lookup.tables(), lookup.side());
     let entry = match lookup.object(header.object) {
         Some(entry) => entry,
         None => return Err(Fault::UnknownObject),

@@ -20,8 +20,8 @@ use wl_connection::{DELETE_ID_LEN, Endpoint};
 use wl_message::Frame;
 use wl_object_map::FIRST_SERVER_ID;
 use wl_objects::{
-    Entry, Fault, Messages, NextError, Object, Objects, ObjectsLookup, ParsedArg, ParsedArgs,
-    Received, Table, made_by_message, receive,
+    Entry, Fault, NextError, Object, Objects, ObjectsLookup, ParsedArg, ParsedArgs, Received,
+    Table, made_by_message, receive,
 };
 use wl_sigs::{Destroys, Side, Tables};
 
@@ -111,14 +111,12 @@ fn pending_of<T: Table>(
         look objects.now request.outline.target.id ≡ Some request.entry) }
 {
     let header = frame.header;
-    let side = Side::Request;
     let lookup = ObjectsLookup {
         tables,
-        side,
+        side: Side::Request,
         objects,
     };
-    let messages = Messages { tables, side };
-    let received = receive(args, messages, &lookup, header, frame.body, frame.tokens);
+    let received = receive(args, &lookup, header, frame.body, frame.tokens);
     let message = match received {
         Ok(message) => message,
         Err(fault) => return Err(fault),

@@ -6,7 +6,7 @@ use Rattle.wl_trace_line.specs.Line.{line}
 use Rattle.wl_check.specs.Rules.{called, reader_by}
 use Rattle.wl_check.specs.Trace.{wanted}
 use Rattle.wl_check.specs.Seen.{call_of, known_in}
-use Rattle.wl_check.proofs.JudgedMessages.{judged_is, from_side, called_bad, called_good}
+use Rattle.wl_check.proofs.JudgedMessages.{judged_is, called_bad, called_good}
 use Rattle.wl_check.proofs.Outcomes.{no_changes, no_line, own_changes, own_line}
 use Rattle.wl_check.proofs.judging.judge_message.Goals as goal
 
@@ -16,9 +16,7 @@ returns-in-Err-clause-changes g c =
     c.args.whole.now.body.now
     c.count-waiting.result c.saturating_sub.result _ c.requires.valid c.count-waiting.ensures
     (c.saturating_sub.ensures ∙ rw c.taken-taken.ensures refl)
-    (from_side c.args.tables.now (known_in c.args.known.now) c.args.frame.now.direction c.args.whole.now.header
-    c.args.whole.now.body.now
-    c.count-waiting.result c.side_of-side.result _ c.side_of-side.ensures c.receive-received.ensures.answer) in
+    c.receive-received.ensures.answer in
     let is = sym (found ∙ rw c.in-Err.is refl) in
     no_changes c.args.tables.now _ c.in-Err.fault is
 
@@ -28,9 +26,7 @@ returns-in-Err-clause-text g c =
     c.args.whole.now.body.now
     c.count-waiting.result c.saturating_sub.result _ c.requires.valid c.count-waiting.ensures
     (c.saturating_sub.ensures ∙ rw c.taken-taken.ensures refl)
-    (from_side c.args.tables.now (known_in c.args.known.now) c.args.frame.now.direction c.args.whole.now.header
-    c.args.whole.now.body.now
-    c.count-waiting.result c.side_of-side.result _ c.side_of-side.ensures c.receive-received.ensures.answer) in
+    c.receive-received.ensures.answer in
     let is = sym (found ∙ rw c.in-Err.is refl) in
     no_line c.args.tables.now (known_in c.args.known.now) c.args.sink.now.output c.args.sink.now.text.items _
     c.in-Err.fault is
@@ -41,9 +37,7 @@ returns-then-is_disallowed_bind-clause-changes g c =
     c.args.whole.now.body.now
     c.count-waiting.result c.saturating_sub.result _ c.requires.valid c.count-waiting.ensures
     (c.saturating_sub.ensures ∙ rw c.taken-taken.ensures refl)
-    (from_side c.args.tables.now (known_in c.args.known.now) c.args.frame.now.direction c.args.whole.now.header
-    c.args.whole.now.body.now
-    c.count-waiting.result c.side_of-side.result _ c.side_of-side.ensures c.receive-received.ensures.answer) in
+    c.receive-received.ensures.answer in
     let message : received_in c.receive-received.result ≡ Ok (received_of c.in-Ok.message) = rw c.in-Ok.is refl in
     let is = sym (found ∙ ap (λ r. called c.args.tables.now
     (known_in c.args.known.now) c.args.frame.now.direction c.args.whole.now.header.opcode r) message
@@ -58,9 +52,7 @@ returns-then-is_disallowed_bind-clause-text g c =
     c.args.whole.now.body.now
     c.count-waiting.result c.saturating_sub.result _ c.requires.valid c.count-waiting.ensures
     (c.saturating_sub.ensures ∙ rw c.taken-taken.ensures refl)
-    (from_side c.args.tables.now (known_in c.args.known.now) c.args.frame.now.direction c.args.whole.now.header
-    c.args.whole.now.body.now
-    c.count-waiting.result c.side_of-side.result _ c.side_of-side.ensures c.receive-received.ensures.answer) in
+    c.receive-received.ensures.answer in
     let message : received_in c.receive-received.result ≡ Ok (received_of c.in-Ok.message) = rw c.in-Ok.is refl in
     let is = sym (found ∙ ap (λ r. called c.args.tables.now
     (known_in c.args.known.now) c.args.frame.now.direction c.args.whole.now.header.opcode r) message
@@ -75,9 +67,7 @@ returns-clause-changes g c =
     c.args.whole.now.body.now
     c.count-waiting.result c.saturating_sub.result _ c.requires.valid c.count-waiting.ensures
     (c.saturating_sub.ensures ∙ rw c.taken-taken.ensures refl)
-    (from_side c.args.tables.now (known_in c.args.known.now) c.args.frame.now.direction c.args.whole.now.header
-    c.args.whole.now.body.now
-    c.count-waiting.result c.side_of-side.result _ c.side_of-side.ensures c.receive-received.ensures.answer) in
+    c.receive-received.ensures.answer in
     let message : received_in c.receive-received.result ≡ Ok (received_of c.in-Ok.message) = rw c.in-Ok.is refl in
     let is = sym (found ∙ ap (λ r. called c.args.tables.now
     (known_in c.args.known.now) c.args.frame.now.direction c.args.whole.now.header.opcode r) message
@@ -94,9 +84,7 @@ returns-clause-text g c =
     c.args.whole.now.body.now
     c.count-waiting.result c.saturating_sub.result _ c.requires.valid c.count-waiting.ensures
     (c.saturating_sub.ensures ∙ rw c.taken-taken.ensures refl)
-    (from_side c.args.tables.now (known_in c.args.known.now) c.args.frame.now.direction c.args.whole.now.header
-    c.args.whole.now.body.now
-    c.count-waiting.result c.side_of-side.result _ c.side_of-side.ensures c.receive-received.ensures.answer) in
+    c.receive-received.ensures.answer in
     let message : received_in c.receive-received.result ≡ Ok (received_of c.in-Ok.message) = rw c.in-Ok.is refl in
     let is = sym (found ∙ ap (λ r. called c.args.tables.now
     (known_in c.args.known.now) c.args.frame.now.direction c.args.whole.now.header.opcode r) message
