@@ -489,6 +489,8 @@
 //!     fn reopen(&mut self, id: u32, iface: Iface, version: u32) -> Object
 //!     fn make_zombie(&mut self, id: u32)
 //!     fn close(&mut self, id: u32)
+//! Maker
+//!     fn of(id: u32) -> Maker
 //! Objects<T: Table>
 //!     fn new(alloc: T::Alloc, display: Iface) -> Result<Self, AllocError>
 //!     fn with_server_range(alloc: T::Alloc, display: Iface) -> Result<Self, AllocError>

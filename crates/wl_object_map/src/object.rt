@@ -1,5 +1,6 @@
 //! What a table keeps about an object, how callers identify one, and why none was opened.
 
+use super::table::FIRST_SERVER_ID;
 use std::error::Error;
 use std::fmt::{self, Display, Formatter};
 use wl_wire::Iface;
@@ -22,6 +23,23 @@ pub enum Maker {
     Client,
     /// The server, with ids from 0xff000000 on.
     Server,
+}
+
+impl Maker {
+    ghost use Rattle.std.specs.Prelude.{◌≡◌};
+    ghost use Rattle.wl_object_map.specs.Objects.{maker_of};
+
+    /// Who makes the objects with an id: the server from 0xff000000 on, else the client.
+    #[inline(always)]
+    pub fn of(id: u32) -> Maker
+        ensures { result ≡ maker_of id }
+    {
+        if id < FIRST_SERVER_ID {
+            Maker::Client
+        } else {
+            Maker::Server
+        }
+    }
 }
 
 /// What a table keeps about an object, besides its id.

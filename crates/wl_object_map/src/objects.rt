@@ -127,13 +127,13 @@ impl<T: Table> Objects<T> {
         if let Some(entry) = self.client.look(id) {
             return Some(entry);
         }
-        if id < FIRST_SERVER_ID {
-            return None;
+        match Maker::of(id) {
+            Maker::Client => None,
+            Maker::Server => match &self.server {
+                Some(table) => table.look(table_id(id)),
+                None => None,
+            },
         }
-        let Some(table) = &self.server else {
-            return None;
-        };
-        table.look(table_id(id))
     }
 
     /// Whether an id is freed or the next new one of its range, so that `open_at` returns neither
@@ -141,26 +141,26 @@ impl<T: Table> Objects<T> {
     pub fn is_free(&self, id: u32) -> bool
         ensures { result ≡ free_or_next self.now id }
     {
-        if id < FIRST_SERVER_ID {
-            return self.client.is_free(id);
+        match Maker::of(id) {
+            Maker::Client => self.client.is_free(id),
+            Maker::Server => match &self.server {
+                Some(table) => table.is_free(table_id(id)),
+                None => id == FIRST_SERVER_ID,
+            },
         }
-        let Some(table) = &self.server else {
-            return id == FIRST_SERVER_ID;
-        };
-        table.is_free(table_id(id))
     }
 
     /// Whether the limits of O1 leave room for an object at this id, in its range.
     pub fn has_room(&self, id: u32) -> bool
         ensures { result ≡ has_room self.now id }
     {
-        if id < FIRST_SERVER_ID {
-            return self.client.has_room(id);
+        match Maker::of(id) {
+            Maker::Client => self.client.has_room(id),
+            Maker::Server => match &self.server {
+                Some(table) => table.has_room(table_id(id)),
+                None => id <= MAX_SERVER_ID,
+            },
         }
-        let Some(table) = &self.server else {
-            return id <= MAX_SERVER_ID;
-        };
-        table.has_room(table_id(id))
     }
 
     /// Whether the limits leave room for one more object of this maker, so that `open_next` does
@@ -208,13 +208,13 @@ impl<T: Table> Objects<T> {
     pub fn births(&self, id: u32) -> u64
         ensures { result ≡ births self.now id }
     {
-        if id < FIRST_SERVER_ID {
-            return self.client.births();
+        match Maker::of(id) {
+            Maker::Client => self.client.births(),
+            Maker::Server => match &self.server {
+                Some(table) => table.births(),
+                None => 1,
+            },
         }
-        let Some(table) = &self.server else {
-            return 1;
-        };
-        table.births()
     }
 
     /// Opens an object of this maker: at the id of its range that was freed last, or at the next
@@ -281,21 +281,20 @@ impl<T: Table> Objects<T> {
         // Hence a free id has no entry.
         ensures sound { ObjectsAreSound self.old }
     {
-        if id < FIRST_SERVER_ID {
-            return self.client.open_at(id, iface, version);
+        match Maker::of(id) {
+            Maker::Client => self.client.open_at(id, iface, version),
+            Maker::Server => match &mut self.server {
+                Some(table) => {
+                    let object = table.open_at(table_id(id), iface, version)?;
+                    Ok(Object {
+                        id,
+                        birth: object.birth,
+                    })
+                }
+                None if id == FIRST_SERVER_ID => Err(TableError::Memory),
+                None => Err(TableError::NotNext),
+            },
         }
-        let Some(table) = &mut self.server else {
-            return Err(if id == FIRST_SERVER_ID {
-                TableError::Memory
-            } else {
-                TableError::NotNext
-            });
-        };
-        let object = table.open_at(table_id(id), iface, version)?;
-        Ok(Object {
-            id,
-            birth: object.birth,
-        })
     }
 
     /// Opens an object at an id that has an entry, live or zombie, and replaces that entry: the id
@@ -308,16 +307,18 @@ impl<T: Table> Objects<T> {
         ensures objects { self.new ≡ opened_at self.old id iface version }
         ensures object { result ≡ record { id = id; birth = births self.old id } }
     {
-        if id < FIRST_SERVER_ID {
-            return self.client.reopen(id, iface, version);
-        }
-        let Some(table) = &mut self.server else {
-            return Object { id, birth: 0 };
-        };
-        let object = table.reopen(table_id(id), iface, version);
-        Object {
-            id,
-            birth: object.birth,
+        match Maker::of(id) {
+            Maker::Client => self.client.reopen(id, iface, version),
+            Maker::Server => match &mut self.server {
+                Some(table) => {
+                    let object = table.reopen(table_id(id), iface, version);
+                    Object {
+                        id,
+                        birth: object.birth,
+                    }
+                }
+                None => Object { id, birth: 0 },
+            },
         }
     }
 
@@ -327,14 +328,14 @@ impl<T: Table> Objects<T> {
         requires not_display { id ≢ 1 }
         ensures { self.new ≡ zombied self.old id }
     {
-        if id < FIRST_SERVER_ID {
-            self.client.make_zombie(id);
-            return;
+        match Maker::of(id) {
+            Maker::Client => self.client.make_zombie(id),
+            Maker::Server => {
+                if let Some(table) = &mut self.server {
+                    table.make_zombie(table_id(id));
+                }
+            }
         }
-        let Some(table) = &mut self.server else {
-            return;
-        };
-        table.make_zombie(table_id(id));
     }
 
     /// Removes an object's entry and frees its id, which is then the first of its range to be
@@ -344,13 +345,13 @@ impl<T: Table> Objects<T> {
         requires not_display { id ≢ 1 }
         ensures { self.new ≡ closed self.old id }
     {
-        if id < FIRST_SERVER_ID {
-            self.client.close(id);
-            return;
+        match Maker::of(id) {
+            Maker::Client => self.client.close(id),
+            Maker::Server => {
+                if let Some(table) = &mut self.server {
+                    table.close(table_id(id));
+                }
+            }
         }
-        let Some(table) = &mut self.server else {
-            return;
-        };
-        table.close(table_id(id));
     }
 }

@@ -1,6 +1,4 @@
-use Rattle.std.proofs.Common.{◌≡◌, true, is_some, sym, ap, subst, arith}
-use Rattle.std.proofs.lemmas.Grind.{common_steps}
-use Rattle.std.proofs.lemmas.Bool.Decides.{nat_tests}
+use Rattle.std.proofs.Common.{◌≡◌, true, is_some, sym, ap, subst}
 use Rattle.wl_object_map.specs.View as table
 use Rattle.wl_object_map.specs.Objects.{Objects, ObjectsAreSound, server_view, is_held}
 use Rattle.wl_object_map.specs.ObjectsLaws.{ObjectsAreSound-closed}
@@ -14,20 +12,18 @@ invariant_of-self g c =
       server = server_view g.T.Table.view c.self.inside.server;
       has_server_range = is_some c.self.inside.server;
     } in
-    subst ObjectsAreSound (sym (client_changed table.closed o c.args.id
-    (grind (arith, common_steps, nat_tests, c.if-id-lt-FIRST_SERVER_ID.true)) c.close.ensures))
+    subst ObjectsAreSound (sym (client_changed table.closed o c.args.id c.of.ensures c.in-Client.is c.close.ensures))
     (ObjectsAreSound-closed o c.args.id c.self.invariant
     (subst (λ (x : Objects). is_held x c.args.id ≡ true) (sym c.self.view_is) c.requires.held) c.requires.not_display)
 
-pub invariant_of-self-2 : goal.invariant_of-self-2
-invariant_of-self-2 g c =
+pub invariant_of-self-in-Some : goal.invariant_of-self-in-Some
+invariant_of-self-in-Some g c =
     let o : Objects = record {
       client = g.T.Table.view c.self.inside.client;
       server = server_view g.T.Table.view c.self.inside.server;
       has_server_range = is_some c.self.inside.server;
     } in
-    subst ObjectsAreSound (sym (server_changed table.closed o c.args.id
-    (grind (arith, common_steps, nat_tests, c.if-id-lt-FIRST_SERVER_ID.false))
-    (ap (server_view g.T.Table.view) c.in-Some.is) (ap is_some c.in-Some.is) c.table_id.ensures c.close-2.ensures))
+    subst ObjectsAreSound (sym (server_changed table.closed o c.args.id c.of.ensures c.in-Server.is
+    (ap (server_view g.T.Table.view) c.in-Some.is) (ap is_some c.in-Some.is) c.table_id.ensures c.close-in-Some.ensures))
     (ObjectsAreSound-closed o c.args.id c.self.invariant
     (subst (λ (x : Objects). is_held x c.args.id ≡ true) (sym c.self.view_is) c.requires.held) c.requires.not_display)
