@@ -17,7 +17,7 @@ use crate::judging::{changes_of, is_global, side_of};
 use crate::overwritten::UndoList;
 use std::alloc::{AllocError, Allocator, Global};
 use wl_message::Limit;
-use wl_object_map::{FIRST_SERVER_ID, MAX_IDS, MAX_SERVER_ID};
+use wl_object_map::{FIRST_SERVER_ID, MAX_IDS, MAX_SERVER_ID, Maker};
 use wl_objects::{
     DISPLAY, Entry, Lookup, MAX_ARGS, NewId, ParsedArgs, State, Values, receive, waits_for_request,
 };
@@ -172,10 +172,9 @@ fn changes_unread(direction: Direction, target: u32) -> MessageChanges
         direction,
         made: None,
         deleted: None,
-        destroyed: if target >= FIRST_SERVER_ID {
-            Some(target)
-        } else {
-            None
+        destroyed: match Maker::of(target) {
+            Maker::Client => None,
+            Maker::Server => Some(target),
         },
         advertised: None,
         tokens: 0,

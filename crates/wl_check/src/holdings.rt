@@ -17,7 +17,7 @@ use crate::overwritten::{Overwritten, UndoList};
 use std::alloc::{AllocError, Allocator, Global};
 use std::collections::BTreeMap;
 use std::marker::Model;
-use wl_object_map::{DISPLAY_ID, FIRST_SERVER_ID};
+use wl_object_map::{DISPLAY_ID, FIRST_SERVER_ID, Maker};
 use wl_objects::{Entry, NewObject, State};
 
 /// The objects that are held (ending ones as zombies), and the globals that were advertised.
@@ -166,10 +166,9 @@ impl<A: Allocator> Holdings<A> {
     pub(crate) fn object(&self, id: u32) -> Option<Entry>
         ensures { result ≡ held_object self.now id }
     {
-        if id >= FIRST_SERVER_ID {
-            slot_of(self.server_objects.as_slice(), id - FIRST_SERVER_ID)
-        } else {
-            slot_of(self.objects.as_slice(), id)
+        match Maker::of(id) {
+            Maker::Client => slot_of(self.objects.as_slice(), id),
+            Maker::Server => slot_of(self.server_objects.as_slice(), id - FIRST_SERVER_ID),
         }
     }
 
@@ -177,10 +176,9 @@ impl<A: Allocator> Holdings<A> {
     pub(crate) fn slots_in(&self, id: u32) -> usize
         ensures { result ≡ slots_in self.now id }
     {
-        if id >= FIRST_SERVER_ID {
-            self.server_objects.len()
-        } else {
-            self.objects.len()
+        match Maker::of(id) {
+            Maker::Client => self.objects.len(),
+            Maker::Server => self.server_objects.len(),
         }
     }
 
@@ -201,10 +199,9 @@ impl<A: Allocator> Holdings<A> {
         ensures back { put_back (Object id (held_object self.old id) (slots_in self.old id))
             self.new ≡ self.old }
     {
-        if id >= FIRST_SERVER_ID {
-            write_slot(&mut self.server_objects, id - FIRST_SERVER_ID, entry)
-        } else {
-            write_slot(&mut self.objects, id, entry)
+        match Maker::of(id) {
+            Maker::Client => write_slot(&mut self.objects, id, entry),
+            Maker::Server => write_slot(&mut self.server_objects, id - FIRST_SERVER_ID, entry),
         }
     }
 
@@ -308,12 +305,12 @@ impl<A: Allocator> Holdings<A> {
         ensures { self.new ≡ put_back before self.old }
     {
         match before {
-            Overwritten::Object { id, entry, slots } if id >= FIRST_SERVER_ID => {
-                put_back_slot(&mut self.server_objects, id - FIRST_SERVER_ID, entry, slots)
-            }
-            Overwritten::Object { id, entry, slots } => {
-                put_back_slot(&mut self.objects, id, entry, slots)
-            }
+            Overwritten::Object { id, entry, slots } => match Maker::of(id) {
+                Maker::Client => put_back_slot(&mut self.objects, id, entry, slots),
+                Maker::Server => {
+                    put_back_slot(&mut self.server_objects, id - FIRST_SERVER_ID, entry, slots)
+                }
+            },
             Overwritten::Global {
                 key,
                 version: Some(version),
