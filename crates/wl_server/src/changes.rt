@@ -15,7 +15,7 @@ ghost use Rattle.wl_server.specs.Steps.{HasFreeId, HasRow, core_without, registr
 use crate::open_registries::OpenRegistries;
 use std::alloc::AllocError;
 use wl_connection::Core;
-use wl_object_map::FIRST_SERVER_ID;
+use wl_object_map::Maker;
 use wl_objects::{NewObject, Object, REGISTRY, Table, TableError};
 
 /// What a request changes at a server.
@@ -115,10 +115,9 @@ pub(crate) fn close_object<T: Table>(
     ensures past { registries.new.past ≤ registries.old.past }
 {
     let is_registry = is_registry(core, object.id);
-    if object.id < FIRST_SERVER_ID {
-        core.delete_object(object.id);
-    } else {
-        core.close(object.id);
+    match Maker::of(object.id) {
+        Maker::Client => core.delete_object(object.id),
+        Maker::Server => core.close(object.id),
     }
     if is_registry {
         registries.remove(object);
