@@ -1,4 +1,4 @@
--- In the form that the reading of streams needs: only some report can be out of memory.
+-- `next` runs out of memory only if there is a message to report, as the reading of streams needs.
 use Rattle.std.proofs.Common.{◌≡◌, ◌≢◌, true, false, Some, None, refl, sym, ◌∙◌, inl, inr}
 use Rattle.std.specs.Prelude.{Option, ◌||◌, IsOk}
 use Rattle.std.specs.declared.result.Result.{Result}

@@ -1,5 +1,5 @@
--- An accepted bind of a global that need not have been announced opens its object; and which of such binds
--- are refused for their interface and version.
+-- An accepted `bind_unannounced` opens its object. It is refused with S7 if and only if the tables
+-- do not have this interface with this version.
 use Rattle.std.proofs.Common.{◌≡◌, ◌≢◌, ℕ, Bool, true, false, not, List, Option, Some, None, refl, sym}
 use Rattle.std.proofs.Common.{ap, subst, ◌∙◌}
 use Rattle.std.specs.Prelude.{◌↔◌, ◌&&◌, bytes_eq, nat_le}
@@ -35,9 +35,9 @@ pub unannounced_opens : (state : State) (target : Object) (name : ℕ) (iface : 
 unannounced_opens state target name iface version entry global lives row registers there can room =
     rw (lives, row, registers, ap (can_bind state.core.tables iface version) there ∙ can, room) refl
 
--- ---- which binds are refused for their interface and version
+-- ---- which binds are refused with S7
 
--- an interface in whose place `place_of` answers
+-- `can_bind` for an interface that `place_of` finds
 fitting : (tables : List Interface) (iface : List ℕ) (name version place : ℕ) (i : Interface)
     → place_of tables iface ≡ Some (record { 0 = place }) → interface_at tables place ≡ Some i
     → can_bind tables iface version (any_global tables name iface)
@@ -78,7 +78,7 @@ known tables iface name version can = by_place (place_of tables iface) refl
               (and_parts (nat_le version n.interface.version) _ versions.1).0;
         }
 
--- what opens an object, or finds no id for it, is not refused for its interface and version
+-- opening the object is never refused with S7
 opens_or_not : (core : Core) (new : NewObject) (b : Bool) → can_open Client core.view ≡ b
     → opening_answer core Client (Some new) ≢ Err refusals.BadBind
 opens_or_not core new false is e =

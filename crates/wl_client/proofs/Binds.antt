@@ -1,4 +1,4 @@
--- An accepted bind is spelled.
+-- What an accepted bind writes is a spelling.
 use Rattle.std.proofs.Common.{◌≡◌, ℕ, ◌<◌, ◌^◌, Bool, true, false, not, List, [], ◌∷◌, Some, None}
 use Rattle.std.proofs.Common.{refl, sym, ap, subst, ◌∙◌, arith}
 use Rattle.std.specs.Prelude.{Option, bytes_eq, if◌then◌else◌}

@@ -1,4 +1,4 @@
--- What an end finds, where the frame of a message was told.
+-- What a client finds in the frame of its first message.
 use Rattle.std.proofs.Common.{◌≡◌, ℕ, ◌<◌, ◌≤◌, List, length, take, drop, get_or, refl, sym, ap, ◌∙◌}
 use Rattle.std.proofs.Common.{subst, arith}
 use Rattle.std.proofs.lemmas.List.{take-take}
@@ -35,8 +35,6 @@ use Rattle.wl_client.proofs.Makings.{can_open, event_makes_none}
 use Rattle.wl_connection.proofs.FoundStays.{IsFound, is_found, reported_own}
 use Rattle.wl_connection.proofs.Frames.{IsFrame, descriptors-le, found_frame, framed, same-body, same-tokens}
 
--- ---- what comes of a frame
-
 -- a message has at most twenty values and takes at most twenty tokens
 record FewOf (m : Received) : Type 0 where
   values : length m.values ≤ 20
@@ -66,9 +64,9 @@ report_own core f h =
     then delete_report core (deleted_id f) else x)
     (plain_own core f f.message.entry.state h)
 
--- ---- what comes of a frame
+-- ---- what is found in a frame
 
--- what is reported by the tokens that the message takes
+-- the tokens that the message takes are enough for its report
 own_reported : (core : Core) (h : Header) (body : List ℕ) (args : List ParsedArg) (event : PendingEvent) (m : Received)
     → found core event_side ≡ Ok (Some (headed h m)) → IsPending core.tables core.view body args (headed h m) event
     → outlined body args (take event.tokens core.inbox.tokens) event.outline ≡ report core (headed h m)
@@ -132,7 +130,7 @@ fault_is : (core : Core) (h : Header) (body : List ℕ) (waiting : ℕ) (fault :
     → found core event_side ≡ Err fault
 fault_is core h body waiting fault f s = found_frame core event_side h body waiting f ∙ ap (found_in h.size h.opcode) s
 
--- ---- as the code has it
+-- ---- with the values that the code has
 
 pub pending_told : (core before : Core) (args : List ParsedArg) (o : Option Frame) (f : Frame) (event : PendingEvent)
     → core ≡ before → o ≡ Some f → TellsFront core.inbox (Ok o) → IsHeader f.header → Valid core.tables
@@ -153,9 +151,9 @@ fault_told core before o f fault same e t h s =
     subst (λ (c : Core). found c event_side ≡ Err fault) same
     (fault_is core f.header f.body.now f.tokens fault (framed core o f e t h) s)
 
--- ---- the report that is copied
+-- ---- the owned report
 
--- the body and the tokens of an event in front, as they were told
+-- the body and the tokens of the first event, as the code read them
 pub front_told : (core inner : Core) (args held : List ParsedArg) (event : PendingEvent) (body tokens : List ℕ)
     → inner ≡ core → held ≡ args → CanTake core event
     → body ≡ drop 8 (take (message_size (in_front inner.inbox)) inner.inbox.bytes) → length tokens ≡ 20

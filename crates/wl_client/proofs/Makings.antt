@@ -1,4 +1,4 @@
--- Which events make an object, and that it can be opened.
+-- Which events make an object. That object can be opened.
 use Rattle.std.proofs.Common.{◌≡◌, ℕ, zero, suc, Bool, true, false, List, [], ◌∷◌, Some, None, refl, ap, subst}
 use Rattle.std.specs.Prelude.{Option, slice_get, option_map}
 use Rattle.std.specs.List.{list_any}
@@ -22,7 +22,7 @@ use Rattle.wl_objects.specs.Messages.{NewObject, Received, made, reader_of, rece
 use Rattle.wl_connection.proofs.NewIds.{new_free_at_client}
 use Rattle.wl_client.specs.Steps.{CanOpen}
 
--- ---- an event without a new object of the server makes none
+-- ---- an event makes no object if its signature has none
 
 none_made : (tables : List Interface) (version : ℕ) (ks : List Kind) (values : List Argument) → new_objects ks ≡ []
     → list_any is_by_server ks ≡ false → made tables version ks values ≡ None
@@ -38,7 +38,7 @@ none_made tables version (kinds.NewByServer iface ∷ ks) (v ∷ values) n s = a
 none_made tables version (kinds.Array ∷ ks) (v ∷ values) n s = none_made tables version ks values n s
 none_made tables version (kinds.Fd ∷ ks) (v ∷ values) n s = none_made tables version ks values n s
 
--- ---- so no event of wl_display makes one
+-- ---- no event of wl_display makes an object
 
 not_by_server : (opcode : ℕ) (m : MessageSignature) → slice_get (messages_of Event wl_display) opcode ≡ Some m
     → has_server_object m ≡ false
@@ -57,7 +57,7 @@ display_makes_none tables entry opcode version m values valid e is =
     none_made tables version m.kinds values (valid.few_objects_made.events entry.iface.0 opcode m e)
     (not_by_server opcode m of)
 
--- ---- nor any event of tables without new objects of the server
+-- ---- with tables without server-created objects, no event makes an object
 
 pub event_makes_none : (tables : List Interface) (place opcode version : ℕ) (m : MessageSignature)
     (values : List Argument) → Valid tables → has_server_objects tables ≡ false
@@ -76,7 +76,7 @@ event_makes_none tables place opcode version m values valid none e =
         any_true (λ (i : Interface). list_any has_server_object i.events) tables place at.interface at.at event in
         absurd (cc (none, some))
 
--- ---- what is made can be opened
+-- ---- the object that an event makes can be opened
 
 pub can_open : (tables : List Interface) (view : Objects) (h : Header) (body : List ℕ) (waiting : ℕ) (m : Received)
     (o : Option NewObject) → Valid tables

@@ -32,7 +32,7 @@ abbrev first_named : List Reported → Named
 first_named (Obj named ∷ list) = named
 first_named _ = named_as.Null
 
--- the object that was parsed first is the one of its id
+-- the object of the first parsed argument is the one with its id
 pub named_first : (r : Reader) (body : List ℕ) (parsed : List ParsedArg)
     → AreParsed r body parsed (spelled_in body parsed)
     → parsed_object (slice_get parsed 0) ≡ named_at r (id_in (argument (spelled_in body parsed) 0))
@@ -49,7 +49,7 @@ named_first r body (parsed_as.Bound len start version id ∷ parsed) h = refl
 named_first r body (parsed_as.Array len start ∷ parsed) h = refl
 named_first r body (parsed_as.Fd place ∷ parsed) h = refl
 
--- what is reported of wl_display.error and of wl_display.delete_id
+-- the reports of wl_display.error and wl_display.delete_id
 
 pub error_is_reported : (core : Core) (f : Found) → is_error_event f ≡ true
     → report core f ≡ error_report core f.message.values
@@ -92,7 +92,7 @@ delete_not_told tables globals f h =
 
 -- ---- what any other event changes
 
--- what an event of wl_display is, by the tests of its opcode
+-- if the test of interface and opcode holds, the interface is wl_display
 pub of_display : (iface : Iface) (b : Bool) → (same_iface iface display && b) ≡ true → same_iface iface display ≡ true
 of_display iface b h = (and_parts (same_iface iface display) b h).0
 
@@ -111,7 +111,7 @@ held_either : (b : Bool) (e : Entry) (o : Option Entry) → is_some o ≡ true �
 held_either true e o h = refl
 held_either false e o h = h
 
--- what has a row has one still when something is opened
+-- an id that has a row still has one after an object was opened
 pub held_opened : (view : Objects) (new : Option NewObject) (id : ℕ) (e : Entry) → look view id ≡ Some e
     → is_held (opens view new) id ≡ true
 held_opened view None id e h = ap is_some h

@@ -1,4 +1,4 @@
--- The names of interfaces can be written.
+-- A bind can spell the name of every interface of the tables.
 use Rattle.std.proofs.Common.{◌≢◌, ℕ, List, arith, inl, inr}
 use Rattle.std.proofs.lemmas.List.Elements.{All-weaker}
 use Rattle.wl_wire.specs.Spelling.{IsText}

@@ -1,4 +1,4 @@
--- Which reports need memory, and where there is a report.
+-- Which reports need memory, and when there is a report.
 use Rattle.std.proofs.Common.{◌≡◌, ◌≢◌, true, false, List, [], ◌∷◌, refl, ap, ◌∙◌}
 use Rattle.std.specs.Prelude.{not}
 use Rattle.std.specs.declared.option.Option.TheVariants.{Some}
@@ -13,7 +13,7 @@ use Rattle.wl_connection.specs.Roles.{front_answer}
 use Rattle.wl_connection.proofs.Roles.{answers}
 use Rattle.wl_client.specs.Streams.{client_reading}
 
--- a report of some arguments needs memory
+-- a report with arguments needs memory
 pub some_arguments : (args : List Reported) → args ≢ [] → not (is_none args) ≡ true
 some_arguments [] h = absurd (h refl)
 some_arguments (x ∷ args) h = refl

@@ -1,4 +1,4 @@
--- What a client reads of what waits stays the same when more follows it.
+-- What a client reads does not change when more arrives behind it.
 use Rattle.std.proofs.Common.{◌≡◌, ℕ, Bool, true, false, cond, List, refl, sym, ap}
 use Rattle.std.specs.declared.option.Option.{Option}
 use Rattle.std.specs.declared.option.Option.TheVariants.{None, Some}
@@ -74,7 +74,7 @@ last_by false core f =
     (deleted_not_last (deleted_id f) (table.look core.view.client (deleted_id f))))
     (plain_not_last core f f.message.entry.state)
 
--- ---- so a client reads as an end does
+-- ---- the laws of a role hold for a client
 
 pub is_role : IsRole client_role
 is_role = record {

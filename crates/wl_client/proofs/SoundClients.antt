@@ -1,5 +1,6 @@
--- A client stays sound, whatever it sends and reads, and over tables that extend its own: it frees no id
--- of the server's range, no event destroys an object that the server made, and events make such objects.
+-- A client stays sound, whatever it sends and reads, and with tables that extend its own: it frees
+-- no id of the server's range, no event destroys an object that the server made, and for each such
+-- object some event makes objects of its interface.
 use Rattle.std.proofs.Common.{◌≡◌, ℕ, List, ap, sym, subst, ◌∙◌}
 use Rattle.std.specs.Prelude.{IfOk, OnErr, OnOk}
 use Rattle.std.specs.declared.option.Option.{Option}
@@ -31,7 +32,7 @@ use Rattle.wl_client.specs.declared.changes.ObjectChange.TheVariants.{Nothing, Z
 use Rattle.wl_client.specs.State.{IsSound}
 use Rattle.wl_client.specs.Steps.{CanChange, changed}
 
--- what the objects decide
+-- soundness depends only on the tables and the objects
 pub sound_by : (core now : Core) → now.tables ≡ core.tables → now.view ≡ core.view → IsSound core → IsSound now
 sound_by core now tables view s = record {
   frees_none = ap (λ (v : Objects). v.server.freed) view ∙ s.frees_none;
@@ -48,7 +49,7 @@ sound_opened core new lasting by_some s = record {
   by_some = made_opened (IsMadeBySome core.tables) core.view new by_some s.by_some;
 }
 
--- after a change of an object that is there
+-- after a change to an existing object
 pub sound_changed : (core : Core) (change : ObjectChange) → CanChange core.view change → IsSound core
     → IsSound (with_view core (changed core.view change))
 sound_changed core Nothing can s =
@@ -79,7 +80,7 @@ sound_sent before now target opcode list (Ok new) ok err valid sound s =
     })
 sound_sent before now target opcode list (Err why) ok err valid sound s = subst IsSound (sym err) s
 
--- after the opening of what a bind makes
+-- after a bind opened its object
 pub sound_bound : (core : Core) (iface : Iface) (version : ℕ) → ObjectsAreSound core.view → IsSound core
     → IsSound (with_view core (opened_at core.view (next_id Client core.view) iface version))
 sound_bound core iface version sound s =
@@ -87,7 +88,7 @@ sound_bound core iface version sound s =
     (λ of_server. absurd (cc (next_of_client core.view sound, of_server)))
     (λ of_server. absurd (cc (next_of_client core.view sound, of_server))) s
 
--- over tables that extend the client's, or its own
+-- after a call that extends the tables, or is refused
 pub sound_extended : {X E : Type 0} (before now : Core) (tables : List Interface) (result : Result X E)
     → OnOk result (now ≡ with_tables before tables) → OnErr result (now ≡ before) → Valid tables
     → Extend before.tables tables → IsSound before → IsSound now

@@ -1,4 +1,4 @@
--- A zombie that is made a zombie stays one.
+-- Making a zombie a zombie again changes nothing.
 use Rattle.std.proofs.Common.{◌≡◌, ℕ, Bool, true, false, refl, sym, ap, ◌∙◌, cond, eqb, inl, inr}
 use Rattle.std.proofs.lemmas.Bool.{cases_Bool, eqb-true}
 use Rattle.std.specs.Ordering.{nat_cmp}
@@ -22,7 +22,7 @@ at_key : (rows : FinMap nat_cmp Entry) (id q : ℕ) (e : Entry) (b : Bool) → e
 at_key rows id q e false t h = refl
 at_key rows id q e true t h = sym h ∙ ap (get rows) (sym (eqb-true q id t))
 
--- what is there is put there
+-- inserting a row that is there changes nothing
 put_same : (rows : FinMap nat_cmp Entry) (id : ℕ) (e : Entry) → get rows id ≡ Some e → insert rows id e ≡ rows
 put_same rows id e h = same_map nat_cmp_total nat_cmp-IsAntisymmetric _ _
     (λ q. get_put rows id e q ∙ at_key rows id q e (eqb q id) refl h)
@@ -56,6 +56,6 @@ by_row : (view : Objects) (id : ℕ) (o : Option Entry) → look view id ≡ o �
 by_row view id None l h n = absurd (cc h)
 by_row view id (Some e) l h n = zombied_same view id e l (is_zombie e.state n)
 
--- what has a row and is not live stays as it is
+-- nothing changes for an id that has a row but no live object
 pub ended_same : (view : Objects) (id : ℕ) → is_held view id ≡ true → is_live view id ≡ false → zombied view id ≡ view
 ended_same view id h n = by_row view id (look view id) refl h n

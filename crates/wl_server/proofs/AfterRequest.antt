@@ -1,4 +1,4 @@
--- What a server is after the step of a request.
+-- The state of a server after it read a request.
 use Rattle.std.proofs.Common.{◌≡◌, ◌≢◌, ℕ, ◌+◌, ◌<◌, length, take, drop, get_or, Bool, true, false, List}
 use Rattle.std.proofs.Common.{[], ◌∷◌, ◌++◌, Some, None, map, refl, sym, ap, subst, ◌∙◌, inl, inr, arith}
 use Rattle.std.proofs.Common.{eqb, cond}
@@ -72,7 +72,7 @@ held-opened view None id h = h
 held-opened view (Some m) id h = ap is_some (look-opened_at view m.id m.iface m.version id)
     ∙ held-either (eqb id m.id) _ (look view id) h
 
--- ---- what is answered and left, by the step in front
+-- ---- the result, and the state that is left, from the step at the front
 
 answer-by : (core : Core) (f : Found) (b : Bool) → is_out_full core f ≡ b
     → report_of_step (step_found core (Ok (Some f))) ≡ front_answer server_role core (Ok (Some f))
@@ -125,7 +125,7 @@ left-checked state = by_failed state.core.failed
     by_failed true = refl
     by_failed false = sym (left-found state (request state))
 
--- ---- each way that a read goes
+-- ---- each way that a read can end
 
 pub after-is : (state : State) (x : Result (Option Step) NextError) → x ≡ checked_front state
     → after_front state x ≡ after_next state
@@ -142,7 +142,7 @@ seen-by state globals x h e g =
     subst (λ (l : List Global). x ≡ front_step (server_state state.core l)) e g
     ∙ sym (ap (λ (b : Bool). if b then Err errors.Failed else front_step state) h)
 
--- ---- where memory can be refused
+-- ---- if memory can be refused
 
 -- a request that opens an object has arguments
 made-nothing : (tables : List Interface) (version : ℕ) (ks : List Kind) → made tables version ks [] ≡ None
@@ -166,7 +166,7 @@ made-wants : (core : Core) (f : Found) → is_some (made_by_request core f.messa
 made-wants core f m = some_reported (reader_in core request_side) core.inbox.tokens f.message.values
     (made-some core f (not_none (made_by_request core f.message) m))
 
--- so where taking needs memory, the report does
+-- if taking the request needs memory, its report does, too
 either : (a b : Bool) → (b ≡ true → a ≡ true) → (a || b) ≡ true → a ≡ true
 either true b h o = refl
 either false b h o = h o
@@ -199,12 +199,12 @@ pub owned-next : (state : State) (result : Answer Report) → IsNext server_role
 owned-next state result (inl e) = inl e
 owned-next state result (inr w) = inr (w.0, wants-one state state.core.failed w.1 w.2, w.2)
 
--- the copy of a report needs memory where there are arguments
+-- an owned report needs memory if there are arguments
 pub copy-wants : (core : Core) (args : List ParsedArg) (p : PendingRequest) → args ≢ []
     → needs_memory (front_report core args p) ≡ true
 copy-wants core args p h = some-args (reported_of _ p.outline.birth _) args h
 
--- ---- what was taken last
+-- ---- the inbox after a request was taken
 
 inbox-without : (ended : Option Object) (core : Core) → (core_without ended core).inbox ≡ core.inbox
 inbox-without None core = refl
@@ -216,16 +216,16 @@ pub inbox-taken : (core : Core) (step : Step) → (core_by core step).inbox
 inbox-taken core step = inbox-without step.ended (past
     (with_view core (opens core.view step.made)) step.size step.tokens)
 
--- ---- the report that is lent
+-- ---- the borrowed report
 
 pub taken-is : (core now : Core) (args : List ParsedArg) (p : PendingRequest)
     → now ≡ core_by core (pending_in core args p) → taken_report now args p ≡ (pending_in core args p).report
 taken-is core now args p e = ap (λ (k : Core). taken_report k args p) e
     ∙ ap (λ (b : Arrived). outlined b.last args b.last_tokens p.outline) (inbox-taken core (pending_in core args p))
 
--- ---- the report that is copied
+-- ---- the owned report
 
--- the body and the tokens of a request in front, as they were told
+-- the body and the tokens of the first request, as the code read them
 pub front-told : (core inner : Core) (args held : List ParsedArg) (p : PendingRequest) (body tokens : List ℕ)
     → inner ≡ core → held ≡ args → CanTake core (pending_in core args p)
     → body ≡ drop 8 (take (message_size (in_front inner.inbox)) inner.inbox.bytes) → length tokens ≡ 20

@@ -9,11 +9,11 @@ use Rattle.std.proofs.lemmas.Nat.{and_le_l, trailing_le}
 use Rattle.std.proofs.lemmas.Nat.Bits.{bit_at_and, bit_at_not, bit_at_ones, bit_at_ones_above, bit_at-lt}
 use Rattle.std.proofs.lemmas.Nat.Bits.{bit_at-trailing_zeros, bit_at-zero, ones_shr}
 
--- the bits up to a place
+-- the mask of the bits up to a place
 abbrev passed : ℕ → ℕ
 passed p = (2 ^ 64 - 1) / 2 ^ (63 - p)
 
--- the bits of a word after it
+-- the bits of a word after a place
 abbrev pub behind : ℕ → ℕ → ℕ
 behind word p = bit_and word (bit_not w64 (passed p))
 
@@ -25,7 +25,7 @@ passed-is p l =
 passed-small : (p : ℕ) → passed p < 2 ^ 64
 passed-small p = omega (arith, div-le_self (2 ^ 64 - 1) (2 ^ (63 - p)))
 
--- after a place the bits stay, and up to it they are cleared
+-- the bits after a place stay, those up to it are cleared
 stays : (word p k : ℕ) → p < k → k < 64 → bit_at (behind word p) k ≡ 0 → bit_at word k ≡ 0
 stays word p k l m h = omega (
   arith,
@@ -46,7 +46,7 @@ cleared word p k l m = omega (
   bit_at_ones (p + 1) k (omega (arith, l)),
 )
 
--- the lowest of these is after the place, and none of the word's bits is in between
+-- the lowest of these bits is after the place; between the two, no bit of the word is set
 pub lowest : (word p : ℕ) → word < 2 ^ 64 → p < 64
     → (p < trailing_zeros w64 (behind word p))
     × ((k : ℕ) → p < k → k < trailing_zeros w64 (behind word p) → bit_at word k ≡ 0)

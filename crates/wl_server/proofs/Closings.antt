@@ -1,4 +1,4 @@
--- An object that is no registry leaves the registries as they are.
+-- Closing an object that is no registry does not change the registries.
 use Rattle.std.proofs.Common.{◌≡◌, ◌≢◌, ℕ, Bool, true, false, cond, List, [], ◌∷◌, Some, refl}
 use Rattle.std.proofs.Common.{sym, ap, subst, ◌∙◌, inl, inr}
 use Rattle.std.specs.Prelude.{Option}
@@ -17,7 +17,7 @@ use Rattle.wl_server.specs.Steps.{HasRow}
 use Rattle.wl_server.proofs.OneObject.{differ}
 use Rattle.wl_server.proofs.Registries.{has_opened, row_kept}
 
--- no registry is this object
+-- if no registry is this object, there is none to remove
 without-none : (object : Object) (rs : List Registry) → ((o : Object) → IsAmong o rs → o ≢ object)
     → without_object true object rs ≡ rs
 without-none object [] f = refl
@@ -44,7 +44,7 @@ not_same v id d b e f row is =
     let both : false ≡ true = sym f ∙ (e ∙ (told ∙ same)) in
     cc both
 
--- ---- once an object was opened
+-- ---- after an object was opened
 
 pub row_opened : (v w : Objects) (m : Option NewObject) (o : Object) → w ≡ opens v m → IsFreshId v m → HasRow v o
     → HasRow w o

@@ -1,4 +1,4 @@
--- What is at the front of a server's waiting bytes, and that it can be taken.
+-- What is at the front of a server's waiting bytes. A request there can be taken.
 use Rattle.std.proofs.Common.{◌≡◌, ◌≢◌, ℕ, zero, suc, ◌≤◌, Bool, true, false, List, [], ◌∷◌, length}
 use Rattle.std.proofs.Common.{take, drop, Some, None, refl, sym, ap, subst, ◌∙◌, inl, inr, arith}
 use Rattle.std.specs.Prelude.{Option, ◌&&◌, not, nat_lt, nat_eq, slice_get, IsTrue}
@@ -65,7 +65,7 @@ found_is core h body waiting s r e = found_frame core request_side h body waitin
 abbrev the_found : Header → Received → Found
 the_found h m = record { size = h.size; opcode = h.opcode; message = m }
 
--- ---- what is answered
+-- ---- the result of reading
 
 request_is : (core : Core) (globals : List Global) (h : Header) (body : List ℕ) (waiting : ℕ)
     → IsFrame core h body waiting → (r : Result Received Fault) → r ≡ read_by core h body waiting
@@ -114,7 +114,7 @@ front_ok : (core : Core) (globals : List Global) (h : Header) (body : List ℕ) 
 front_ok core globals h body waiting m s e b f = ap (step_found core) (request_some core globals h body waiting m s e b)
     ∙ rw f refl
 
--- ---- what is known of a request that was read
+-- ---- facts about a request that was read
 
 pub few_kinds : (tables : List Interface) → Valid tables → (place opcode : ℕ) (m : MessageSignature)
     → signature_at tables place request_side opcode ≡ Some m → length m.kinds ≤ 20
@@ -142,7 +142,7 @@ room_for : (core : Core) (owes : Bool) → (owes && nat_lt (room_of core.outbox)
 room_for core false f t = absurd (cc t)
 room_for core true f t = grind (arith, common_steps, nat_tests, f)
 
--- the reported object of a row that is there
+-- the reported object does not depend on the state of its row
 in_either : (s : State) (object : Object) → reported_object (Some (Obj (in_state s object))) ≡ object
 in_either Live object = refl
 in_either Zombie object = refl
@@ -153,7 +153,7 @@ pub named_object : (r : Reader) (tokens : List ℕ) (id : ℕ) (entry : Entry) �
     → reported_object (slice_get (reports_of r tokens (Obj id ∷ [])) 0) ≡ record { id = id; birth = entry.birth }
 named_object r tokens id entry z e = rw (z, e) (in_either entry.state (record { id = id; birth = entry.birth }))
 
--- what is known of the object that a request destroys
+-- facts about the object that a request destroys
 record IsEnded (core : Core) (object : Object) : Type 0 where
   row : HasRow core.view object
   other : object.id ≢ 1
@@ -207,14 +207,14 @@ ended_there core h body waiting m v d e object is = by_what m.signature.destroys
     by_what Target t k = subst (IsEnded core) (inside k) (ended_target core h body waiting m v d e t)
     by_what (Arg place) t k = subst (IsEnded core) (inside k) (ended_argument core h body waiting m place v d e t)
 
--- whether what a request destroys is answered by a delete_id
+-- whether a delete_id must follow the request
 owes_is : (what : Destroys) (report : Report) → needs_delete_id (ended_by_request what report)
     ≡ (destroys_one what && not (is_of_server (ended_object what report).id))
 owes_is Nothing report = refl
 owes_is Target report = refl
 owes_is (Arg place) report = refl
 
--- it is where the client made it
+-- it must if the client made the object
 owes_one : (core : Core) (f : Found) (object : Object)
     → ended_by_request f.message.signature.destroys (report core f) ≡ Some object
     → is_of_server object.id ≡ false → owes_delete_id core f ≡ true
@@ -229,7 +229,7 @@ ended_is core h body m args ended a k =
     ∙ ap (λ (l : List Reported). ended_by_request m.signature.destroys (report_with m.target h.opcode l))
     (a.reported core.inbox.tokens)
 
--- whether there is room for its delete_id
+-- whether there is room for the delete_id
 pub full_by : (core : Core) (h : Header) (body : List ℕ) (m : Received) (args : List ParsedArg) (ended : Option Object)
     (b : Bool) → AreParsed (reader_in core request_side) body args m.values → IsEndedBy m args ended
     → (needs_delete_id ended && nat_lt (room_of core.outbox) delete_id_len) ≡ b
@@ -239,7 +239,7 @@ full_by core h body m args ended b a k e =
     (sym (ap needs_delete_id (ended_is core h body m args ended a k)
     ∙ owes_is m.signature.destroys (report core (the_found h m)))) ∙ e
 
--- what a request makes can be opened
+-- the object that a request makes can be opened
 has_free : (view : Objects) (o : Option NewObject)
     → ((new : NewObject) → o ≡ Some new → (free_or_next view.client new.id ≡ true) × (has_room view.client new.id ≡ true))
     → HasFreeId view o
@@ -274,7 +274,7 @@ can_take_found core h body waiting m v d s e f =
           };
     }
 
--- ---- the request that was read is what is at the front
+-- ---- the request that was read is the one at the front
 
 -- its own tokens are enough for its report
 tokens_enough : (core : Core) (f : Found) → found core request_side ≡ Ok (Some f)
@@ -325,9 +325,9 @@ answers_ok core globals h body waiting m args ended s e b f a k =
     (same_step core h body waiting m args ended s e a k)
     ∙ sym (front_ok core globals h body waiting m s e b (full_by core h body m args ended false a k f))
 
--- ---- as the code has it
+-- ---- with the values that the code has
 
--- a fault of the message in front
+-- a fault of the first message
 pub fault_told : (core before : Core) (globals : List Global) (args : List ParsedArg) (o : Option Frame) (f : Frame)
     (fault : Fault) → core ≡ before → o ≡ Some f → TellsFront core.inbox (Ok o) → IsHeader f.header
     → IsPendingOf core.tables core.view globals f.header f.body.now args (read_by core f.header f.body.now f.tokens)
@@ -341,7 +341,7 @@ fault_told core before globals args o f fault same e t h (inr r) =
     (subst (λ (x : Fault). Answers core globals (Err (errors.Fault x core.read))) (sym r.0)
     (answers_bad core globals f.header f.body.now f.tokens r.1 (framed core o f e t h) (sym r.2) r.3))
 
--- a request that destroys an object, where there is no room for its delete_id
+-- a request that destroys an object, but there is no room for its delete_id
 pub full_told : (core before : Core) (globals : List Global) (args : List ParsedArg) (o : Option Frame) (f : Frame)
     (p : PendingRequest) → core ≡ before → o ≡ Some f → TellsFront core.inbox (Ok o) → IsHeader f.header
     → IsPendingOf core.tables core.view globals f.header f.body.now args (read_by core f.header f.body.now f.tokens)

@@ -25,11 +25,11 @@ use Rattle.wl_server.specs.Steps.{Step, core_by, core_without}
 use Rattle.wl_server.specs.Tellings.{IsAnnounced}
 use Rattle.wl_server.proofs.OwedEvents.{tables-dues, view-dues}
 
--- no event destroys what an end has
+-- no event destroys an object that the server made
 abbrev pub IsLasting : Core → Type 0
 IsLasting core = NoEventEndsMade core.tables core.view
 
--- that is so by the tables and the objects
+-- this depends only on the tables and the objects
 pub lasting_by : (core now : Core) → now.tables ≡ core.tables → now.view ≡ core.view → IsLasting core → IsLasting now
 lasting_by core now tables view h = rw (tables, view) h
 
@@ -63,14 +63,14 @@ lasting_send core now target opcode list (Ok x) ok err valid sound h =
     (lasting_sent core Event target opcode list valid sound h))
 lasting_send core now target opcode list (Err why) ok err valid sound h = subst IsLasting (sym err) h
 
--- after an object was dropped, or not
+-- after a call of drop_object
 pub lasting_drop : {X E : Type 0} (core now : Core) (object : Object) (result : Result X E)
     → OnOk result (now ≡ after_drop core object) → OnErr result (now ≡ core) → IsLasting core → IsLasting now
 lasting_drop core now object (Ok x) ok err h =
     subst IsLasting (sym ok) (made_closed (NoEventEnds core.tables) core.view object.id h)
 lasting_drop core now object (Err why) ok err h = subst IsLasting (sym err) h
 
--- after registries were told
+-- after a call of announce
 pub lasting_told : (core : Core) (rs : List Registry) (all : List Due) (told : Announced) (now : Core) (ms : List Registry)
     → IsAnnounced core rs all told now ms → IsLasting core → IsLasting now
 lasting_told core rs all told now ms t h =

@@ -1,4 +1,4 @@
--- Two objects are one exactly where their ids and births are.
+-- Two objects are the same if and only if their ids and births are.
 use Rattle.std.proofs.Common.{◌≡◌, ◌≢◌, Bool, true, false, refl, ap, subst}
 use Rattle.std.specs.Prelude.{nat_eq, ◌&&◌}
 use Rattle.std.proofs.lemmas.Bool.{and_parts, eqb-true, eq-eqb}

@@ -10,13 +10,13 @@ use Rattle.std.proofs.lemmas.Option.{unwrap_or-slice_get}
 use Rattle.wl_server.specs.State.{Global, Registry, has_name, with_name}
 use Rattle.wl_server.specs.Announcing.{Owing, Removal, Telling, owings, owes_removal, owes_telling, marked}
 
--- the first name is owed nothing
+-- nothing is owed for the first name
 pub owings-skip : (test : ℕ → Global → Bool) (owing : ℕ → Global → Owing) (i : ℕ) (globals : List Global) (x : Global)
     → i < length globals → x ≡ get_or globals i x → test (i + 1) x ≡ false
     → owings test owing (i + 1) (drop i globals) ≡ owings test owing (i + 1 + 1) (drop (i + 1) globals)
 owings-skip test owing i globals x l e t = rw (drop-cons globals i x l, ← e, t) (rw (add-one, add-one) refl)
 
--- the first name is owed an event
+-- an event is owed for the first name
 pub owings-take : (test : ℕ → Global → Bool) (owing : ℕ → Global → Owing) (i : ℕ) (globals : List Global) (x : Global)
     → i < length globals → x ≡ get_or globals i x → test (i + 1) x ≡ true
     → owings test owing (i + 1) (drop i globals) ≡ owing (i + 1) x
@@ -27,7 +27,7 @@ pub owings-end : (test : ℕ → Global → Bool) (owing : ℕ → Global → Ow
     → length globals ≤ i → owings test owing n (drop i globals) ≡ []
 owings-end test owing i n globals l = ap (owings test owing n) (drop_all i globals l)
 
--- and nor are those of the next n globals
+-- nothing is owed for the next n globals
 skip-next : (test : ℕ → Global → Bool) (owing : ℕ → Global → Owing) (i n : ℕ) (globals : List Global) (any : Global)
     → ((k : ℕ) (x : Global) → i ≤ k → k < i + n → k < length globals → x ≡ get_or globals k x → test (k + 1) x ≡ false)
     → owings test owing (i + 1) (drop i globals) ≡ owings test owing (i + n + 1) (drop (i + n) globals)
@@ -50,7 +50,7 @@ skip-next test owing i (suc n) globals any f =
     ] in
     front ∙ step ∙ ap (λ (j : ℕ). owings test owing (j + 1) (drop j globals)) next
 
--- those up to a later place
+-- nothing is owed for the globals up to a later place
 pub owings-skip-all : (test : ℕ → Global → Bool) (owing : ℕ → Global → Owing) (i j : ℕ) (globals : List Global) → i ≤ j
     → ((k : ℕ) (x : Global) → i ≤ k → k < j → k < length globals → x ≡ get_or globals k x → test (k + 1) x ≡ false)
     → owings test owing (i + 1) (drop i globals) ≡ owings test owing (j + 1) (drop j globals)
@@ -60,7 +60,7 @@ owings-skip-all test owing i j globals m f =
     (λ k x least less there e. f k x least (omega (arith, less, same)) there e)
     ∙ ap (λ (n : ℕ). owings test owing (n + 1) (drop n globals)) same
 
--- tests that are alike from this name on
+-- tests that agree from this name on
 owings-same : (test other : ℕ → Global → Bool) (owing : ℕ → Global → Owing) (n : ℕ) (globals : List Global)
     → ((k : ℕ) (x : Global) → n ≤ k → test k x ≡ other k x) → owings test owing n globals ≡ owings other owing n globals
 owings-same test other owing n [] h = refl
@@ -71,14 +71,14 @@ owings-same test other owing n (x ∷ globals) h =
     (h n x (omega arith))
     ∙ ap (λ (l : List Owing). if other n x then owing n x ∷ l else l) more
 
--- adding a name adds no other
+-- adding a name to a set neither adds nor removes a later one
 name-other : (names : List Bool) (n k : ℕ) → 0 < n → n < k → has_name (with_name names n) k ≡ has_name names k
 name-other names n k p l =
     let other : k - 1 ≢ n - 1 = λ e. omega (arith, e) in
     unwrap_or-slice_get (with_name names n) (k - 1) false
     ∙ (get_or-set_other names (n - 1) (k - 1) true false other ∙ sym (unwrap_or-slice_get names (k - 1) false))
 
--- adding a name changes nothing for the names after it
+-- sending the removal of a name changes nothing for the names after it
 pub removals-behind : (r : Registry) (owing : ℕ → Global → Owing) (n m : ℕ) (globals : List Global) → 0 < n → n < m
     → owings (owes_removal r) owing m globals ≡ owings (owes_removal (marked (Removal n) r)) owing m globals
 removals-behind r owing n m globals p l =

@@ -1,4 +1,4 @@
--- Events that are owed, one after another: what writing and marking them makes of an end and of registries.
+-- An end after owed events were written, one after another, and registries after they were marked.
 use Rattle.std.proofs.Common.{◌≡◌, ℕ, zero, suc, ◌+◌, ◌-◌, ◌<◌, ◌≤◌, Bool, true, false, List, []}
 use Rattle.std.proofs.Common.{◌∷◌, ◌++◌, length, take, get_or, set, refl, sym, subst, ◌∙◌, ap}
 use Rattle.std.proofs.Common.{arith, length-append}
@@ -21,7 +21,7 @@ use Rattle.wl_server.specs.Tellings.{dues_for}
 use Rattle.wl_server.specs.Announcing.{Due, Owing, Removal, Telling, due_len, owed_opcode, values_of}
 use Rattle.wl_server.specs.Announcing.{with_dues, marked, marked_in, all_marked}
 
--- ---- an end with events written
+-- ---- an end after events were written
 
 abbrev pub with_due : Core → Due → Core
 with_due core d = with_sent core d.object.id (owed_opcode d.owing) (values_of core.tables d.owing) []
@@ -54,7 +54,7 @@ room-sent o bytes e =
       length-append o.left (all_bytes (o.messages ++ queued bytes [] ∷ [])),
     )
 
--- each event takes its length of the room
+-- the room shrinks by the lengths of the events
 pub room-dues : (core : Core) (xs : List Due) → IsOrdinary core.outbox
     → room_of (with_dues core xs).outbox ≡ room_of core.outbox - due_len core.tables xs
 room-dues core [] o = omega arith
@@ -71,19 +71,19 @@ pub due_len-append : (tables : List Interface) (xs ys : List Due)
 due_len-append tables [] ys = omega arith
 due_len-append tables (x ∷ xs) ys = omega (arith, due_len-append tables xs ys)
 
--- no event is without bytes
+-- every event has bytes
 pub length-dues : (tables : List Interface) (xs : List Due) → length xs ≤ due_len tables xs
 length-dues tables [] = omega arith
 length-dues tables (x ∷ xs) = omega (arith, length-dues tables xs, len-least (values_of tables x.owing))
 
--- with the event after the first ones more bytes are needed
+-- more events than the first ones include the one after these
 pub due_len-take : (tables : List Interface) (xs : List Due) (d : Due) (ds : List Due) (n : ℕ) → length xs < n
     → due_len tables xs + message_len (values_of tables d.owing) ≤ due_len tables (take n (xs ++ d ∷ ds))
 due_len-take tables [] d ds (suc n) h = omega arith
 due_len-take tables (x ∷ xs) d ds (suc n) h = omega (arith, due_len-take tables xs d ds n (omega arith))
 due_len-take tables xs d ds zero h = absurd (omega arith)
 
--- ---- registries with events marked
+-- ---- registries after events were marked
 
 pub all_marked-append : (xs ys : List Due) (rs : List Registry)
     → all_marked (xs ++ ys) rs ≡ all_marked ys (all_marked xs rs)
@@ -180,7 +180,7 @@ all-marked-at (d ∷ ds) low high rs i r after h l e f m =
     ap (all_marked ds) one ∙ (all-marked-at ds low high (set rs i (marked d.owing r)) i
     (marked d.owing r) after rising within at for_it more ∙ set-set rs i (marked d.owing r) after)
 
--- a front of the events for an object is for it
+-- the first of the events for an object are for it
 pub front-for : (object : Object) (list : List Owing) (front rest : List Due) → dues_for object list ≡ front ++ rest
     → AreFor object front
 front-for object list [] rest e = tt

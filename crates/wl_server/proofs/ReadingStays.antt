@@ -1,4 +1,4 @@
--- What a server reads of what waits stays the same when more follows it.
+-- What a server reads does not change when more arrives behind it.
 use Rattle.std.proofs.Common.{◌≡◌, ◌≢◌, ℕ, zero, suc, Bool, true, false, cond, List, [], ◌∷◌, ◌++◌, refl, sym, ap}
 use Rattle.std.proofs.Common.{◌∙◌}
 use Rattle.std.specs.Prelude.{◌&&◌, not, nat_lt, slice_get}
@@ -45,7 +45,7 @@ following_arrived : (b : Bool) (id : ℕ) (core : Core) (bytes tokens : List ℕ
 following_arrived true id core bytes tokens = refl
 following_arrived false id core bytes tokens = refl
 
--- the object that an argument names is reported without its tokens
+-- which object an argument names does not depend on the tokens
 named_stays : (r : Reader) (a b : List ℕ) (values : List Argument) (place : ℕ)
     → reported_object (slice_get (reports_of r a values) place) ≡ reported_object (slice_get (reports_of r b values) place)
 named_stays r a b [] place = refl
@@ -128,7 +128,7 @@ front_stays state f bytes tokens e =
     ((is_found state.core request_side f t).stays bytes tokens)
     ∙ sym (ap (unless_bad_bind state) t) ∙ e
 
--- a fault is found, or it is a bind of what was never advertised
+-- a fault at the front stays; it can be a bind of what was never advertised
 fault_stays : (state : State) (what : Fault) (x : Result (Option Found) Fault) → found state.core request_side ≡ x
     → unless_bad_bind state x ≡ Err what → FrontFault server_role state what
 fault_stays state what (Err other) e j = of_found (e ∙ j)
@@ -138,9 +138,9 @@ fault_stays state what (Ok (Some f)) e j =
     own (λ bytes tokens. ap (unless_bad_bind (with_arrivals server_reading state bytes tokens))
     ((is_found state.core request_side f e).stays bytes tokens) ∙ j)
 
--- ---- what is left
+-- ---- the state that is left
 
--- what is written after a request does not change what comes in
+-- writing a delete_id does not change the inbox
 pub inbox_kept : (b : Bool) (id : ℕ) (core : Core) → (with_following b id core).inbox ≡ core.inbox
 inbox_kept true id core = refl
 inbox_kept false id core = refl
@@ -153,7 +153,7 @@ failed_kept : (b : Bool) (id : ℕ) (core : Core) → (with_following b id core)
 failed_kept true id core = refl
 failed_kept false id core = refl
 
--- the end, where its objects are those after a request
+-- the end with its objects as they are after a request
 abbrev viewed : State → Found → Core
 viewed state f = with_view (past_found state.core f) (after event_side state.core.view
     (made_by_request state.core f.message) f.message.signature.destroys (ended state.core f).id)
@@ -164,7 +164,7 @@ inbox_past state f = inbox_kept (owes_delete_id state.core f) (ended state.core 
 failed_past : (state : State) (f : Found) → (state_past state f).core.failed ≡ state.core.failed
 failed_past state f = failed_kept (owes_delete_id state.core f) (ended state.core f).id (viewed state f)
 
--- ---- so a server reads as an end does
+-- ---- the laws of a role hold for a server
 
 pub is_role : IsRole server_role
 is_role = record {
@@ -185,7 +185,7 @@ is_role = record {
   past_failed = λ state f s. failed_past state f ∙ s;
 }
 
--- a server has no last report
+-- a server has no last report: without a stop it has not failed
 pub sound_at_end : {state end : State} {reports : List Report} {stop : Option NextError}
     → Reads server_reading state reports stop end → stop ≡ None → end.core.failed ≡ false
 sound_at_end (none {state = state} e) n = sound_none server_role state e

@@ -1,4 +1,4 @@
--- Each open registry goes on standing in its server's list.
+-- A server's list always has exactly its open registries.
 use Rattle.std.proofs.Common.{◌≡◌, ◌≢◌, ◌≤◌, ◌⊎◌, ℕ, Bool, true, false, cond, eqb, List, [], ◌∷◌, ◌++◌}
 use Rattle.std.proofs.Common.{Some, None, refl, sym, ap, subst, ◌∙◌, inl, inr, arith, ⊎_elim}
 use Rattle.std.specs.Prelude.{Option, map, nat_eq, not, if◌then◌else◌}
@@ -74,7 +74,7 @@ among_if o object r rs true e ne h = elim h [
 ]
 among_if o object r rs false e ne h = h
 
--- taking another out
+-- removing another registry
 among_other : (o object : Object) (rs : List Registry) → o ≢ object → IsAmong o rs
     → IsAmong o (without_object true object rs)
 among_other o object [] ne h = absurd h
@@ -104,7 +104,7 @@ among_before o (x ∷ rs) r h = elim h as (λ _. (r.object ≡ o) ⊎ ((x.object
       [ inl q ↦ inl q | inr q ↦ inr (inr q) ]
 ]
 
--- what is in the list after an opening was there before, or has the next birth
+-- a registry in the list after an opening was there before, or has the next birth
 pub among_after : (core : Core) (rs : List Registry) (m : Option NewObject) (o : Object)
     → IsAmong o (registries_after core rs m) → IsAmong o rs ⊎ (o.birth ≡ core.view.client.births)
 among_after core rs None o h = inl h
@@ -129,7 +129,7 @@ left_if o object r rs ls false e f h = elim h as (λ _. (o ≢ object) × ((r.ob
   | inr p ↦ (let k = f p in (k.0, inr k.1))
 ]
 
--- what is left is another
+-- a registry that is left is not the removed object
 among_left : (o object : Object) (rs : List Registry) → IsAmong o (without_object true object rs)
     → (o ≢ object) × IsAmong o rs
 among_left o object [] h = absurd h
@@ -162,7 +162,7 @@ old_there : (rs : List Registry) (r : Registry) (b : Bool) (o : Object) → IsAm
 old_there rs r true o h = among_more o rs r h
 old_there rs r false o h = h
 
--- the rows that were there stay
+-- existing rows stay
 row_beside : (v : Objects) (m : NewObject) (id : ℕ) (d : Entry) → look v m.id ≡ None → look v id ≡ Some d
     → look (opens v (Some m)) id ≡ Some d
 row_beside v m id d free row =
@@ -233,7 +233,7 @@ registry_apart v object d o row is ne r =
     in ne (λ i. record { id = e i; birth = birth i }))) in
     record { entry = r.entry; row = look-closed v object.id o.id ∙ rw other r.row; birth = r.birth; iface = r.iface }
 
--- the object of this row
+-- closing the object of this row
 pub has_closed : (v : Objects) (rs : List Registry) (object : Object) (d : Entry) → look v object.id ≡ Some d
     → d.birth ≡ object.birth → HasRegistries v rs
     → HasRegistries (closed v object.id) (without_object true object rs)
@@ -252,7 +252,7 @@ registry_other v id o f r =
     let other : eqb o.id id ≡ false = ne_eqb o.id id (λ e. f r.entry (ap (look v) (sym e) ∙ r.row) r.iface) in
     record { entry = r.entry; row = look-closed v id o.id ∙ rw other r.row; birth = r.birth; iface = r.iface }
 
--- one that is no registry
+-- closing an object that is no registry
 pub has_fewer : (v : Objects) (rs : List Registry) (id : ℕ) → ((d : Entry) → look v id ≡ Some d → d.iface ≢ registry)
     → HasRegistries v rs → HasRegistries (closed v id) rs
 has_fewer v rs id f h = record {
@@ -263,7 +263,7 @@ has_fewer v rs id f h = record {
 
 -- ---- a request is read
 
--- whether or not a delete_id is written
+-- the objects are the same whether or not a delete_id is written
 view_without : (core : Core) (object : Object) → (core_without (Some object) core).view ≡ closed core.view object.id
 view_without core object = view_kept (not (is_of_server object.id)) object.id
     (with_view core (closed core.view object.id))
@@ -289,7 +289,7 @@ has_step core rs step can f h = by_ended step.ended can.ended
         (has_closed (opens core.view step.made) (registries_after core rs step.made) object is.entry
         (row_kept core.view step.made object.id is.entry f is.row) is.birth (has_opened core rs step.made f h))
 
--- the same of an end and a list that are these
+-- the same, with equations for the end and the list
 pub has_now : (core now : Core) (rs ms : List Registry) (step : Step) → CanTake core step → now ≡ core_by core step
     → ms ≡ registries_by core rs step
     → IsFreshId core.view step.made → HasRegistries core.view rs → HasRegistries now.view ms
@@ -299,12 +299,12 @@ has_now core now rs ms step can c m f h =
 
 -- ---- an event is written
 
--- of what it makes: the server's next id, and no registry
+-- what an event makes has the server's next id and is no registry
 record IsMade (n : ℕ) (m : NewObject) : Type 0 where
   id : m.id ≡ n
   iface : m.iface ≢ registry
 
--- no new object of the server is a registry
+-- a new object of the server, if the kind is one, is no registry
 abbrev MakesNoRegistry : Kind → Type 0
 MakesNoRegistry kind = (iface : Iface) → kind ≡ kinds.NewByServer iface → iface ≢ registry
 
@@ -326,7 +326,7 @@ made_is tables version n (k ∷ ks) (x ∷ list) m h a e =
       | inr p ↦ made_is tables version n ks list m (without_client k ks h) (All-tail MakesNoRegistry k ks a) p
     ]
 
--- the server makes no registry
+-- no event of valid tables makes a registry
 makes_no_registry : (tables : List Interface) (place opcode : ℕ) (m : MessageSignature) → Valid tables
     → signature_at tables place Event opcode ≡ Some m → All MakesNoRegistry m.kinds
 makes_no_registry tables place opcode m v s k d there iface is reg =
@@ -352,7 +352,7 @@ next_free v s =
     ∙ (ap (table.look v.server) (table_id-wire_id (table.next_id v.server))
     ∙ (free_is v.server (table.next_id v.server) s.server (free_or_next-next_id v.server)).no_row)
 
--- an object that is no registry is opened in the server's range
+-- opening an object in the server's range does not count as a birth in the client's
 births_beside : (v : Objects) (m : NewObject) → is_of_server m.id ≡ true
     → (opens v (Some m)).client.births ≡ v.client.births
 births_beside v m range = ap (λ (x : Objects). x.client.births)
@@ -374,7 +374,7 @@ has_beside v rs m free range other h = record {
   });
 }
 
--- what is sent to is no registry
+-- the target of a call of `send` is no registry
 not_sent_to : (iface : Iface) (opcode : ℕ) → is_hidden Event iface opcode ≡ false → iface ≢ registry
 not_sent_to iface opcode h is = let no : is_hidden Event registry opcode ≡ false =
     subst (λ (i : Iface). is_hidden Event i opcode ≡ false) is h in cc no
@@ -388,12 +388,12 @@ not_target core target opcode list m e d row is =
     let one : p.entry ≡ d = cc same in
     not_sent_to p.entry.iface opcode p.shown (ap (λ (x : Entry). x.iface) one ∙ is)
 
--- what is known of what an event makes, and of its target
+-- facts about the object that an event makes, and about its target
 record IsEvent (core : Core) (target : Object) (new : Option NewObject) : Type 0 where
   made : (m : NewObject) → new ≡ Some m → IsMade (next_id Server core.view) m
   others : (d : Entry) → look core.view target.id ≡ Some d → d.iface ≢ registry
 
--- the registries stay, once its object is opened
+-- the registries stay the same after the event's object is opened
 has_new : (core : Core) (target : Object) (rs : List Registry) (new : Option NewObject) → ObjectsAreSound core.view
     → IsEvent core target new → HasRegistries core.view rs → HasRegistries (opens core.view new) rs
 has_new core target rs None s f h = h
@@ -402,7 +402,7 @@ has_new core target rs (Some m) s f h =
     has_beside core.view rs m (ap (look core.view) k.id ∙ next_free core.view s)
     (ap is_of_server k.id ∙ next_of_server core.view s) k.iface h
 
--- and its target is no registry then either
+-- the event's target is then still no registry
 target_new : (core : Core) (target : Object) (new : Option NewObject) → IsEvent core target new
     → (d : Entry) → look (opens core.view new) target.id ≡ Some d → d.iface ≢ registry
 target_new core target None f d row = f.others d row
@@ -411,8 +411,8 @@ target_new core target (Some m) f d row = ⊎_elim
     (λ p. f.others d p.1)
     (row-opened_at core.view m.id m.iface m.version target.id d row)
 
--- What the objects are after an event: what it makes is opened, and where it destroys its target,
--- that is closed.
+-- The objects after an event: its new object is opened, and its target is closed if the event
+-- destroys it.
 data After (core : Core) (target : Object) (view : Objects) : Type 0 where
   refused : view ≡ core.view → After core target view
   stays : (new : Option NewObject) → IsEvent core target new → view ≡ opens core.view new → After core target view
@@ -459,7 +459,7 @@ has_sent core now rs target opcode list v s e h =
     (has_after core target rs (after_send core Event target opcode list).view s h
     (after_event core target opcode list v))
 
--- no fewer births are counted
+-- the number of births never falls
 births_opened : (v : Objects) (new : Option NewObject) → v.client.births ≤ (opens v new).client.births
 births_opened v None = omega arith
 births_opened v (Some m) = births-rise v m.id m.iface m.version
@@ -490,7 +490,7 @@ past_sent core now past target opcode list v e h =
 no_registry : (tables : List Interface) → Valid tables → is_ended_by_event (interface_at tables registry.0) ≡ false
 no_registry tables v = rw v.fixed_four.registry refl
 
--- what can be dropped is no registry
+-- an object that can be dropped is no registry
 not_dropped : (core : Core) (object : Object) → Valid core.tables → drop_refusal core object ≡ None → (d : Entry)
     → look core.view object.id ≡ Some d → d.iface ≢ registry
 not_dropped core object v e d row is = by_failed core.failed e

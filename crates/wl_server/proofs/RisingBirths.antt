@@ -1,29 +1,29 @@
--- The births of registries go on rising.
+-- The births of a server's registries stay in rising order.
 use Rattle.std.proofs.Common.{ℕ, suc, ◌+◌, ◌≤◌, Bool, true, false, List, [], ◌∷◌, ◌++◌, arith}
 use Rattle.std.specs.Prelude.{if◌then◌else◌}
 use Rattle.wl_object_map.specs.declared.object.Object.{Object}
 use Rattle.wl_server.specs.State.{Registry, RiseFrom, untold}
 use Rattle.wl_server.specs.Registries.{same_object, without_object}
 
--- the number that they are below may be greater
+-- the upper bound can be raised
 pub rise-below : (low high more : ℕ) (registries : List Registry) → high ≤ more → RiseFrom low high registries
     → RiseFrom low more registries
 rise-below low high more [] h r = omega (arith, h, r)
 rise-below low high more (x ∷ registries) h r = (r.0, rise-below (suc x.object.birth) high more registries h r.1)
 
--- and the first one less
+-- the lower bound can be lowered
 rise-above : (low least high : ℕ) (registries : List Registry) → least ≤ low → RiseFrom low high registries
     → RiseFrom least high registries
 rise-above low least high [] h r = omega (arith, h, r)
 rise-above low least high (x ∷ registries) h r = (omega (arith, h, r.0), r.1)
 
--- a new registry has the next birth
+-- appending a registry, which has the next birth
 pub rise-new : (low id high : ℕ) (registries : List Registry) → RiseFrom low high registries
     → RiseFrom low (high + 1) (registries ++ untold (record { id = id; birth = high }) ∷ [])
 rise-new low id high [] r = (r, omega arith)
 rise-new low id high (x ∷ registries) r = (r.0, rise-new (suc x.object.birth) id high registries r.1)
 
--- without one they rise
+-- removing a registry
 pub rise-without : (low high : ℕ) (object : Object) (registries : List Registry) → RiseFrom low high registries
     → RiseFrom low high (without_object true object registries)
 rise-without low high object [] r = r

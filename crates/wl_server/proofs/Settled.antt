@@ -1,4 +1,4 @@
--- A registry that was told all is owed nothing.
+-- A registry is owed nothing once it was sent every event that it needs.
 use Rattle.std.proofs.Common.{◌≡◌, ◌≢◌, ℕ, suc, ◌+◌, ◌-◌, ◌<◌, ◌≤◌, Bool, true, false, List, [], ◌∷◌, ◌++◌, length}
 use Rattle.std.proofs.Common.{get_or, refl, sym, ap, ◌∙◌, ◌⊎◌, inl, inr, arith}
 use Rattle.std.specs.Prelude.{not, ◌&&◌, if◌then◌else◌, map}
@@ -9,7 +9,7 @@ use Rattle.wl_server.specs.State.{Global, Registry, has_name, with_name}
 use Rattle.wl_server.specs.Announcing.{Owing, Removal, Telling, due_to, owings, owes_removal}
 use Rattle.wl_server.specs.Announcing.{owes_telling, marked}
 
--- the test fails of the first n of these globals, each with the name that its place gives it
+-- the test fails for each of the first n globals and its name: the global at place k has name k + 1
 abbrev pub NoneOf : (ℕ → Global → Bool) → List Global → ℕ → Type 0
 NoneOf test globals n =
     (k : ℕ) (x : Global) → k < n → k < length globals → x ≡ get_or globals k x → test (k + 1) x ≡ false
@@ -22,7 +22,7 @@ pub same-global : (globals : List Global) (k n : ℕ) (x y : Global) → k ≡ n
 same-global globals k n x y same there e d =
     d ∙ ap (λ (i : ℕ). get_or globals i y) same ∙ get_or_default globals n y x there ∙ sym e
 
--- the first n + 1, where another test fails as this one did, and fails of the next
+-- one more global, with another test that fails wherever this one does, and for the next global
 pub none-next : (test other : ℕ → Global → Bool) (globals : List Global) (n : ℕ) (x : Global)
     → ((k : ℕ) (y : Global) → k < n → test (k + 1) y ≡ false → other (k + 1) y ≡ false) → NoneOf test globals n
     → n < length globals → x ≡ get_or globals n x → other (n + 1) x ≡ false → NoneOf other globals (n + 1)
@@ -33,7 +33,7 @@ none-next test other globals n x keep h here e is k y l there d = elim (side k n
       ∙ ap (other (n + 1)) (same-global globals k n x y same here e d) ∙ is)
 ]
 
--- those up to a later place, where the test fails of those between
+-- the globals up to a later place, if the test fails for those between
 pub none-skip : (test : ℕ → Global → Bool) (globals : List Global) (i j : ℕ) → NoneOf test globals i
     → ((k : ℕ) (x : Global) → i ≤ k → k < j → k < length globals → x ≡ get_or globals k x → test (k + 1) x ≡ false)
     → NoneOf test globals j
@@ -42,7 +42,7 @@ none-skip test globals i j h f k x l there e = elim (side k i) [
   | inr least ↦ f k x least l there e
 ]
 
--- nothing is owed where the test fails of all
+-- nothing is owed if the test fails for all
 owings-none : (test : ℕ → Global → Bool) (owing : ℕ → Global → Owing) (n : ℕ) (globals : List Global)
     → ((k : ℕ) (x : Global) → k < length globals → x ≡ get_or globals k x → test (n + k) x ≡ false)
     → owings test owing n globals ≡ []
@@ -77,7 +77,7 @@ first-true : (b c : Bool) → (b && c) ≡ true → b ≡ true
 first-true true c e = refl
 first-true false c e = e
 
--- adding a name adds no other
+-- adding a name to a set neither adds nor removes another
 pub name-apart : (names : List Bool) (n k : ℕ) → 0 < n → 0 < k → k ≢ n → has_name (with_name names n) k ≡ has_name names k
 name-apart names n k p q ne =
     let other : k - 1 ≢ n - 1 = λ e. ne (omega (arith, e, p, q)) in
@@ -90,7 +90,7 @@ removed-kept r n k y ne h =
     ap (λ (b : Bool). (has_name r.told (k + 1) && not y.present) && not b)
     (name-apart r.removed (n + 1) (k + 1) (omega arith) (omega arith) (λ e. ne (omega (arith, e)))) ∙ h
 
--- after the removal of a name is sent, that of the next is next
+-- once the next removal is sent, no removal is owed for one name more
 pub removal-settled : (r : Registry) (globals : List Global) (n : ℕ) (x : Global)
     → NoneOf (owes_removal r) globals n → n < length globals → x ≡ get_or globals n x
     → has_name (with_name r.removed (n + 1)) (n + 1) ≡ true
@@ -107,7 +107,7 @@ told-kept r n k x y ne h =
     ap (λ (b : Bool). y.present && not b)
     (name-apart r.told (n + 1) (k + 1) (omega arith) (omega arith) (λ e. ne (omega (arith, e)))) ∙ h
 
--- and so for the telling of a name
+-- the same holds for announcing a global
 pub telling-settled : (r : Registry) (globals : List Global) (n : ℕ) (x : Global)
     → NoneOf (owes_telling r) globals n → n < length globals → x ≡ get_or globals n x
     → has_name (with_name r.told (n + 1)) (n + 1) ≡ true
@@ -126,7 +126,7 @@ same_or_apart k n = elim (side k n) [
   ]
 ]
 
--- which owes no removal of what is there
+-- announcing a global makes no removal owed
 pub removals-stay : (r : Registry) (globals : List Global) (n m : ℕ) (x : Global) → NoneOf (owes_removal r) globals m
     → n < length globals → x ≡ get_or globals n x → owes_telling r (n + 1) x ≡ true
     → NoneOf (owes_removal (marked (Telling (n + 1) x) r)) globals m

@@ -1,4 +1,4 @@
--- Slots of registries: what each change of them makes of the open ones.
+-- Slots of registries, and how each change to them changes the open registries.
 use Rattle.std.proofs.Common.{◌≡◌, ◌≢◌, ℕ, zero, suc, ◌+◌, ◌<◌, ◌≤◌, Bool, true, false, List, [], ◌∷◌, ◌++◌}
 use Rattle.std.proofs.Common.{length, length-append, take, drop, get_or, set, map, refl, sym, ap, subst, ◌∙◌, arith}
 use Rattle.std.proofs.Common.{add-one, drop-cons, inl, inr}
@@ -29,7 +29,7 @@ birth_in slot = slot.registry.object.birth
 abbrev pub is_open : Slot → Bool
 is_open slot = slot.is_open
 
--- what holds where a slot is open, and where it is closed
+-- a slot is open or closed
 either-way : (P : Type 0) (s : Slot) → (s.is_open ≡ true → P) → (s.is_open ≡ false → P) → P
 either-way P s f h = by_test s.is_open refl
   where
@@ -37,7 +37,7 @@ either-way P s f h = by_test s.is_open refl
     by_test true e = f e
     by_test false e = h e
 
--- ---- the open ones, slot by slot
+-- ---- the open registries, slot by slot
 
 pub open-first : (s : Slot) (xs : List Slot) → s.is_open ≡ true → open_in (s ∷ xs) ≡ s.registry ∷ open_in xs
 open-first s xs e = rw e refl
@@ -49,7 +49,7 @@ pub open-append : (xs ys : List Slot) → open_in (xs ++ ys) ≡ open_in xs ++ o
 open-append xs ys = ap (map (λ (s : Slot). s.registry)) (filter-append is_open xs ys)
     ∙ map-append (λ (s : Slot). s.registry) (filter is_open xs) (filter is_open ys)
 
--- those of the first slots are the first
+-- the open registries of the first slots come first
 pub take-open : (k : ℕ) (xs : List Slot) → take (length (open_in (take k xs))) (open_in xs) ≡ open_in (take k xs)
 take-open k xs =
     ap (take (length (open_in (take k xs))))
@@ -72,7 +72,7 @@ pub past-push : (xs : List Slot) (s : Slot) → past_of xs ≤ birth_in s → pa
 past-push [] s p = omega arith
 past-push (x ∷ xs) s p = let more = past-push xs s (omega (arith, p)) in omega (arith, more, p)
 
--- a slot is changed, but not its birth
+-- a change to a slot that keeps its birth
 pub rise-set : (low : ℕ) (xs : List Slot) (i : ℕ) (s t : Slot) → SlotsRise low xs → s ≡ get_or xs i s
     → birth_in t ≡ birth_in s → SlotsRise low (set xs i t)
 rise-set low [] i s t r e b = tt
@@ -107,7 +107,7 @@ at-least low (x ∷ xs) zero s r l e = subst (λ (n : ℕ). low ≤ n) (ap birth
 at-least low (x ∷ xs) (suc i) s r l e =
     let more = at-least (suc (birth_in x)) xs i s r.1 (omega (arith, l)) e in omega (arith, more, r.0)
 
--- the slot in place i, open or closed, is that of this object, and no other is
+-- closing the slot of an object removes that object, and no other, from the open registries
 pub without-closed : (object : Object) (low : ℕ) (xs : List Slot) (i : ℕ) (s t : Slot) → SlotsRise low xs
     → i < length xs → s ≡ get_or xs i s → s.registry.object ≡ object → t.is_open ≡ false
     → open_in (set xs i t) ≡ without_object true object (open_in xs)
@@ -131,7 +131,7 @@ without-closed object low (x ∷ xs) (suc i) s t r l e b c =
     (λ o. rw (o, other) (ap (λ (l : List Registry). x.registry ∷ l) more))
     (λ o. rw o more)
 
--- where no slot is that of this object, nothing is taken out
+-- if no slot is that of this object, nothing is removed
 pub without-other : (object : Object) (xs : List Slot)
     → ((k : ℕ) (x : Slot) → k < length xs → x ≡ get_or xs k x → x.registry.object ≢ object)
     → open_in xs ≡ without_object true object (open_in xs)
@@ -161,7 +161,7 @@ no-parts : (xs ys : List Due) → xs ++ ys ≡ [] → (xs ≡ []) × (ys ≡ [])
 no-parts [] ys e = (refl, e)
 no-parts (x ∷ xs) ys e = absurd (cc e)
 
--- a slot's registry is owed nothing, where it is open, and nor are the next
+-- the same slot in front of both lists
 settled-first : (globals : List Global) (x : Slot) (xs ys : List Slot)
     → (owed_in globals (open_in xs) ≡ [] → owed_in globals (open_in ys) ≡ [])
     → owed_in globals (open_in (x ∷ xs)) ≡ [] → owed_in globals (open_in (x ∷ ys)) ≡ []
@@ -189,7 +189,7 @@ settled-closed globals (suc k) (x ∷ xs) zero t c h =
 settled-closed globals (suc k) (x ∷ xs) (suc i) t c h =
     settled-first globals x (take k xs) (take k (set xs i t)) (settled-closed globals k xs i t c) h
 
--- the same of a part of the open registries
+-- the same, with the registries of the first k slots as the first of the open registries
 pub settled-shut : (globals : List Global) (k : ℕ) (xs : List Slot) (i : ℕ) (t : Slot) → t.is_open ≡ false
     → owed_in globals (take (length (open_in (take k xs))) (open_in xs)) ≡ []
     → owed_in globals (take (length (open_in (take k (set xs i t)))) (open_in (set xs i t))) ≡ []
@@ -197,7 +197,7 @@ settled-shut globals k xs i t c h =
     ap (owed_in globals) (take-open k (set xs i t))
     ∙ settled-closed globals k xs i t c (ap (owed_in globals) (sym (take-open k xs)) ∙ h)
 
--- ---- the closed slots are taken out
+-- ---- the closed slots are removed
 
 kept-first : (x : Slot) (xs : List Slot) → x.is_open ≡ true → filter is_open (x ∷ xs) ≡ x ∷ filter is_open xs
 kept-first x xs o = rw o refl
@@ -255,7 +255,7 @@ past-kept (x ∷ xs) =
     (λ o. rw o (omega (arith, more)))
     (λ o. rw o (omega (arith, more)))
 
--- ---- where a birth is looked for
+-- ---- the search for a birth
 
 higher : (birth a b : ℕ) → a ≤ b → ordering_index (nat_cmp a birth) ≤ ordering_index (nat_cmp b birth)
 higher birth a b l = grind (arith, nat_tests)
@@ -272,11 +272,11 @@ rising low (x ∷ xs) (suc i) zero d r l m = absurd (omega (arith, l))
 rising low (x ∷ xs) (suc i) (suc j) d r l m =
     rising (suc (birth_in x)) xs i j d r.1 (omega (arith, l)) (omega (arith, m))
 
--- a slot that was read twice
+-- reading a slot twice gives the same slot
 pub same-slot : (xs : List Slot) (i : ℕ) (s u : Slot) → i < length xs → s ≡ get_or xs i s → u ≡ get_or xs i u → s ≡ u
 same-slot xs i s u l e d = e ∙ get_or_default xs i s u l ∙ sym d
 
--- one birth is of one slot
+-- no two slots have the same birth
 pub one-slot : (low : ℕ) (xs : List Slot) (i k : ℕ) (s x : Slot) → SlotsRise low xs → i < length xs
     → k < length xs → s ≡ get_or xs i s → x ≡ get_or xs k x → birth_in s ≡ birth_in x → s ≡ x
 one-slot low [] i k s x r l m e d b = absurd (omega (arith, l))
@@ -290,7 +290,7 @@ one-slot low (y ∷ xs) (suc i) zero s x r l m e d b =
 one-slot low (y ∷ xs) (suc i) (suc k) s x r l m e d b =
     one-slot (suc (birth_in y)) xs i k s x r.1 (omega (arith, l)) (omega (arith, m)) e d b
 
--- where the slot of this birth is that of another id, nothing is taken out
+-- if the slot with this birth has another id, nothing is removed
 pub other-id : (object : Object) (low : ℕ) (xs : List Slot) (i : ℕ) (s : Slot) → SlotsRise low xs
     → i < length xs → s ≡ get_or xs i s → birth_in s ≡ object.birth → s.registry.object.id ≢ object.id
     → open_in xs ≡ without_object true object (open_in xs)
@@ -299,7 +299,7 @@ other-id object low xs i s r l e b n =
     let same : s ≡ x = one-slot low xs i k s x r l m e d (b ∙ sym (ap (λ (o : Object). o.birth) is)) in
     n (ap (λ (y : Slot). y.registry.object.id) same ∙ ap (λ (o : Object). o.id) is))
 
--- what the search for a birth answers
+-- the result of the search
 abbrev pub IsAnswer : ℕ → List Slot → Result ℕ ℕ → Type 0
 IsAnswer birth xs r = IsBinarySearchResult (λ s. nat_cmp (birth_in s) birth) xs r
 
@@ -343,7 +343,7 @@ rise-open low high (x ∷ xs) r l p =
     rise-open low high xs (rise-from (suc (birth_in x)) low xs (omega (arith, r.0)) r.1) l (omega (arith, p)) in
     either-way (RiseFrom low high (open_in (x ∷ xs))) x (λ o. rw o (r.0, rest)) (λ o. rw o more)
 
--- the open slot at place i is that of the registry after those before it
+-- the registry of an open slot comes right after those of the slots before it
 pub open-place : (xs : List Slot) (i : ℕ) (s : Slot) → i < length xs → s ≡ get_or xs i s → s.is_open ≡ true
     → before i xs < length (open_in xs)
 open-place [] i s l e o = absurd (omega (arith, l))
@@ -392,7 +392,7 @@ owed-append globals (r ∷ rs) ms =
     ap (λ (l : List Due). due_to globals r ++ l) (owed-append globals rs ms)
     ∙ sym (append_assoc (due_to globals r) (owed_in globals rs) (owed_in globals ms))
 
--- what is owed is owed to registries after the settled slots
+-- everything that is owed is owed to registries after the settled slots
 pub owed-behind : (globals : List Global) (k : ℕ) (xs : List Slot) → owed_in globals (open_in (take k xs)) ≡ []
     → owed_in globals (open_in xs) ≡ owed_in globals (open_in (drop k xs))
 owed-behind globals k xs none =
@@ -400,7 +400,7 @@ owed-behind globals k xs none =
     ∙ owed-append globals (open_in (take k xs)) (open_in (drop k xs))
     ∙ ap (λ (l : List Due). l ++ owed_in globals (open_in (drop k xs))) none
 
--- the next slot is settled: it is closed, or its registry was told all
+-- the next slot is settled if it is closed, or if all its registry's events were sent
 pub settled-past : (globals : List Global) (xs : List Slot) (i : ℕ) (s : Slot) → i < length xs → s ≡ get_or xs i s
     → s.is_open ≡ false → owed_in globals (open_in (take i xs)) ≡ []
     → owed_in globals (open_in (take (i + 1) xs)) ≡ []

@@ -1,4 +1,4 @@
--- What a server writes of itself is spelled.
+-- What a server writes on its own is a spelling.
 use Rattle.std.proofs.Common.{◌≡◌, ◌≢◌, ℕ, ◌≤◌, Bool, true, false, not, List, [], ◌∷◌, length, Some}
 use Rattle.std.proofs.Common.{None, refl, sym, ap, subst, ◌∙◌, inl, inr, arith, lit≤}
 use Rattle.std.specs.Prelude.{Option, nat_eq, nat_le, ◌||◌}
@@ -25,7 +25,7 @@ use Rattle.wl_server.specs.Requests.{fault_message}
 use Rattle.wl_server.specs.Announcing.{Due, Owing, Removal, Telling, name_at}
 use Rattle.wl_server.specs.Spelled.{DeleteSpells, ErrorSpells, DueSpells, IsSpelled}
 
--- the kinds of a message that valid tables have
+-- two signatures of one message have the same kinds
 kinds_in : (o : Option MessageSignature) (m signature : MessageSignature) → o ≡ Some m → o ≡ Some signature
     → m.kinds ≡ signature.kinds
 kinds_in o m signature e there = let same = sym e ∙ there in let is : m ≡ signature = cc same

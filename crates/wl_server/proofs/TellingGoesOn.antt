@@ -1,4 +1,4 @@
--- The telling goes on by one event, or by one registry, and comes to its end.
+-- Announcing proceeds event by event and registry by registry, and comes to an end.
 use Rattle.std.proofs.Common.{◌≡◌, ℕ, ◌+◌, ◌-◌, ◌<◌, ◌≤◌, Bool, true, false, List, [], ◌∷◌, ◌++◌}
 use Rattle.std.proofs.Common.{length, take, drop, get_or, set, refl, sym, subst, ◌∙◌, ap, arith}
 use Rattle.std.proofs.Common.{append_assoc, length-append}
@@ -27,12 +27,12 @@ use Rattle.wl_server.proofs.OwedEvents.{with_dues-append}
 pub begun : (core : Core) (rs : List Registry) (all : List Due) → Progress core rs all 0 core rs all
 begun core rs all = record { done = []; whole = refl; number = refl; written = refl; marks = refl; fit = omega arith }
 
--- so few events fit
+-- no more than 2^24 events fit
 pub count-small : (core : Core) (rs : List Registry) (all : List Due) (count : ℕ) (now : Core) (ms : List Registry)
     (rest : List Due) → IsOrdinary core.outbox → Progress core rs all count now ms rest → count ≤ 16777216
 count-small core rs all count now ms rest o p = omega (arith, p.number, p.fit, length-dues core.tables p.done, o.2)
 
--- one event more, for the one registry
+-- one more event, with only its registry
 pub told-one : (core : Core) (rs : List Registry) (all : List Due) (count : ℕ) (now new : Core) (r : Registry) (d : Due)
     (rest : List Due) → IsOrdinary core.outbox
     → Progress core rs all count now (r ∷ []) (d ∷ rest) → d.object ≡ r.object
@@ -56,7 +56,7 @@ told-one core rs all count now new r d rest o p own len w =
       fit = omega (arith, due_len-append core.tables p.done (d ∷ []), p.fit, room, short);
     }
 
--- what was sent to one registry is part of what was sent to all
+-- what was sent to one registry counts as sent among all
 pub told-registry : (core : Core) (rs : List Registry) (all : List Due) (count : ℕ) (now : Core) (ms : List Registry)
     (globals : List Global) (i low high : ℕ) (r after : Registry) (k : ℕ) (new : Core) (rest more : List Due)
     → IsOrdinary core.outbox → RiseFrom low high rs → Progress core rs all count now ms (due_to globals r ++ more)
@@ -88,7 +88,7 @@ pub blocked-more : (core : Core) (rest more : List Due) → IsBlocked core rest 
 blocked-more core [] more b = absurd b
 blocked-more core (d ∷ rest) more b = b
 
--- where the next event does not fit, no more would
+-- if the next event does not fit, no more events fit
 most : (core now : Core) (done rest : List Due) (n : ℕ) → now ≡ with_dues core done → IsOrdinary core.outbox
     → due_len core.tables done ≤ room_of core.outbox → IsBlocked now rest
     → due_len core.tables (take n (done ++ rest)) ≤ room_of core.outbox → n ≤ length done
@@ -104,7 +104,7 @@ most core now done (d ∷ ds) n w o fit b f =
       | inr within ↦ within
     ]
 
--- the end of the telling
+-- the server after announcing
 pub finished : (state : State) (told : Announced) (now : Core) (ms : List Registry) → IsOrdinary state.core.outbox
     → IsAnnounced state.core state.registries (owed state) told now ms
     → Fitting state told.count × (record { core = now; globals = state.globals; registries = ms }
@@ -141,7 +141,7 @@ finished state told now ms o t =
 
 -- ---- all registries
 
--- the telling once the next registry was told
+-- progress after announcing to the next registry
 told-next : (core : Core) (rs : List Registry) (all : List Due) (count : ℕ) (now : Core) (xs : List Slot)
     (globals : List Global) (i high : ℕ) (s u : Slot) (told : Announced) (new : Core) → IsOrdinary core.outbox
     → RiseFrom 0 high rs → Progress core rs all count now (open_in xs) (owed_in globals (open_in (drop i xs)))
@@ -168,7 +168,7 @@ some-left : (b : Bool) (now : Core) (rest : List Due) → b ≡ false → MatchB
 some-left true now rest e h = absurd (cc)
 some-left false now rest e h = h
 
--- if everything was sent, the registries after it are left
+-- if all its events were sent, the registries after it are left
 pub told-whole : (core : Core) (rs : List Registry) (all : List Due) (count : ℕ) (now : Core) (xs : List Slot)
     (globals : List Global) (i high : ℕ) (s u : Slot) (told : Announced) (new : Core) → IsOrdinary core.outbox
     → RiseFrom 0 high rs → Progress core rs all count now (open_in xs) (owed_in globals (open_in (drop i xs)))
@@ -185,7 +185,7 @@ told-whole core rs all count now xs globals i high s u told new o rise p l e is 
     (list ++ owed_in globals (open_in (drop (i + 1) xs)))) none
     (told-next core rs all count now xs globals i high s u told new o rise p l e is also t))
 
--- where it was not, the telling ends
+-- if not, announcing ends
 pub told-part : (core : Core) (rs : List Registry) (all : List Due) (count : ℕ) (now : Core) (xs : List Slot)
     (globals : List Global) (i high : ℕ) (s u : Slot) (told : Announced) (new : Core) → IsOrdinary core.outbox
     → RiseFrom 0 high rs → Progress core rs all count now (open_in xs) (owed_in globals (open_in (drop i xs)))
@@ -200,7 +200,7 @@ told-part core rs all count now xs globals i high s u told new o rise p l e is a
       (some-left told.all new t.rest part t.end);
 }
 
--- how many events were told
+-- how many events were sent
 pub told-count : (core : Core) (rs : List Registry) (all : List Due) (count : ℕ) (now : Core) (xs : List Slot)
     (globals : List Global) (i high : ℕ) (s u : Slot) (told : Announced) (new : Core) → IsOrdinary core.outbox
     → RiseFrom 0 high rs → Progress core rs all count now (open_in xs) (owed_in globals (open_in (drop i xs)))
@@ -211,7 +211,7 @@ told-count core rs all count now xs globals i high s u told new o rise p l e is 
     count-small core rs all (count + told.count) new (open_in (set xs i u)) _ o
     (told-next core rs all count now xs globals i high s u told new o rise p l e is also t)
 
--- a slot that is closed is passed over
+-- a closed slot is skipped
 pub told-none : (core : Core) (rs : List Registry) (all : List Due) (count : ℕ) (now : Core) (xs : List Slot)
     (globals : List Global) (i : ℕ) (s : Slot)
     → Progress core rs all count now (open_in xs) (owed_in globals (open_in (drop i xs)))

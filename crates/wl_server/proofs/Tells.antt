@@ -1,4 +1,4 @@
--- Telling one registry, name by name.
+-- Announcing globals to one registry, name by name.
 use Rattle.std.proofs.Common.{◌≡◌, ℕ, ◌+◌, ◌<◌, ◌≤◌, true, false, List, [], ◌∷◌, ◌++◌, length}
 use Rattle.std.proofs.Common.{drop, get_or, sym, subst, arith}
 use Rattle.wl_message.specs.Outgoing.{room_of}
@@ -23,14 +23,14 @@ told-blocked core rs all count now new ms d rest p h = record {
   end = subst (λ (c : Core). room_of c.outbox < message_len (values_of c.tables d.owing)) (sym h.1) h.0;
 }
 
--- the removals from this place on are left, and all that is new
+-- the removals from this place on are still owed, and all new globals
 abbrev pub Removing : Core → List Registry → List Due → Object → List Global → ℕ → ℕ → Core → Registry → Type 0
 Removing core rs all o globals i count now r =
     Progress core rs all count now (r ∷ []) (dues_for o
     (owings (owes_removal r) (λ name _. Removal name) (i + 1) (drop i globals)
     ++ owings (owes_telling r) Telling 1 globals))
 
--- what is new from this place on is left
+-- the new globals from this place on are still owed
 abbrev pub Adding : Core → List Registry → List Due → Object → List Global → ℕ → ℕ → Core → Registry → Type 0
 Adding core rs all o globals i count now r = Progress core rs all count now (r ∷ [])
     (dues_for o (owings (owes_telling r) Telling (i + 1) (drop i globals)))
@@ -40,7 +40,7 @@ pub along : {A B C : Type 0} (P : A → B → C → Type 0) (a a' : A) (b b' : B
 along P a a' b b' c c' p q r h = subst (λ x. P x b' c') (sym p)
     (subst (λ y. P a y c') (sym q) (subst (λ z. P a b z) (sym r) h))
 
--- a global of which the registry is owed no removal
+-- a global whose removal is not owed is skipped
 pub removal-skipped : (core : Core) (rs : List Registry) (all : List Due) (count : ℕ) (now : Core) (r : Registry)
     (o : Object) (globals : List Global) (i : ℕ) (x : Global) → i < length globals → x ≡ get_or globals i x
     → owes_removal r (i + 1) x ≡ false
@@ -51,7 +51,7 @@ removal-skipped core rs all count now r o globals i x l e t p =
     (dues_for o (list ++ owings (owes_telling r) Telling 1 globals)))
     (owings-skip (owes_removal r) (λ name _. Removal name) i globals x l e t) p
 
--- the globals up to a later place, of which it is owed no removal
+-- all globals up to a later place are skipped if none of their removals is owed
 pub removals-passed : (core : Core) (rs : List Registry) (all : List Due) (count : ℕ) (now : Core) (r : Registry)
     (o : Object) (globals : List Global) (i j : ℕ) → i ≤ j
     → ((k : ℕ) (x : Global) → i ≤ k → k < j → k < length globals → x ≡ get_or globals k x
@@ -63,7 +63,7 @@ removals-passed core rs all count now r o globals i j m none p =
     (dues_for o (list ++ owings (owes_telling r) Telling 1 globals)))
     (owings-skip-all (owes_removal r) (λ name _. Removal name) i j globals m none) p
 
--- a global of which it is owed the removal
+-- if the removal of a global is owed, it is next
 pub removal-next : (core : Core) (rs : List Registry) (all : List Due) (count : ℕ) (now : Core) (r : Registry)
     (o : Object) (globals : List Global) (i : ℕ) (x : Global) → i < length globals → x ≡ get_or globals i x
     → owes_removal r (i + 1) x ≡ true
@@ -76,7 +76,7 @@ removal-next core rs all count now r o globals i x l e t p =
     (dues_for o (list ++ owings (owes_telling r) Telling 1 globals)))
     (owings-take (owes_removal r) (λ name _. Removal name) i globals x l e t) p
 
--- and it is written and marked
+-- and then it is written and marked
 pub removal-told : (core : Core) (rs : List Registry) (all : List Due) (count : ℕ) (now new : Core) (r : Registry)
     (o : Object) (globals : List Global) (i : ℕ) (x : Global) → IsOrdinary core.outbox → r.object ≡ o
     → i < length globals → x ≡ get_or globals i x → owes_removal r (i + 1) x ≡ true
@@ -92,7 +92,7 @@ removal-told core rs all count now new r o globals i x ord own l e t p w =
     ++ owings (owes_telling r) Telling 1 globals)) ord
     (removal-next core rs all count now r o globals i x l e t p) (sym own) w.0 w.1)
 
--- a global that is not new to the registry
+-- a global that is not new to the registry is skipped
 pub telling-skipped : (core : Core) (rs : List Registry) (all : List Due) (count : ℕ) (now : Core) (r : Registry)
     (o : Object) (globals : List Global) (i : ℕ) (x : Global) → i < length globals → x ≡ get_or globals i x
     → owes_telling r (i + 1) x ≡ false
@@ -102,7 +102,7 @@ telling-skipped core rs all count now r o globals i x l e t p =
     subst (λ (list : List Owing). Progress core rs all count now (r ∷ []) (dues_for o list))
     (owings-skip (owes_telling r) Telling i globals x l e t) p
 
--- the globals up to a later place, which are not new to it
+-- all globals up to a later place are skipped if none is new to the registry
 pub tellings-passed : (core : Core) (rs : List Registry) (all : List Due) (count : ℕ) (now : Core) (r : Registry)
     (o : Object) (globals : List Global) (i j : ℕ) → i ≤ j
     → ((k : ℕ) (x : Global) → i ≤ k → k < j → k < length globals → x ≡ get_or globals k x
@@ -113,7 +113,7 @@ tellings-passed core rs all count now r o globals i j m none p =
     subst (λ (list : List Owing). Progress core rs all count now (r ∷ []) (dues_for o list))
     (owings-skip-all (owes_telling r) Telling i j globals m none) p
 
--- a global that is new to it
+-- a global that is new to the registry is next
 pub telling-next : (core : Core) (rs : List Registry) (all : List Due) (count : ℕ) (now : Core) (r : Registry)
     (o : Object) (globals : List Global) (i : ℕ) (x : Global) → i < length globals → x ≡ get_or globals i x
     → owes_telling r (i + 1) x ≡ true
@@ -124,7 +124,7 @@ telling-next core rs all count now r o globals i x l e t p =
     subst (λ (list : List Owing). Progress core rs all count now (r ∷ []) (dues_for o list))
     (owings-take (owes_telling r) Telling i globals x l e t) p
 
--- and it is written and marked
+-- and then it is written and marked
 pub telling-told : (core : Core) (rs : List Registry) (all : List Due) (count : ℕ) (now new : Core) (r : Registry)
     (o : Object) (globals : List Global) (i : ℕ) (x : Global) → IsOrdinary core.outbox → r.object ≡ o
     → i < length globals → x ≡ get_or globals i x → owes_telling r (i + 1) x ≡ true

@@ -23,7 +23,7 @@ word-name ws word k h l =
     ∙ ap (λ (o : Option Bool). unwrap_or o false) (bits_get 1024 0 place ws (omega (arith, h, l)))
     ∙ (λ i. bit_at (get_or ws (there i) 0) (bit i) == 1))
 
--- what three bits say
+-- a test of three bits, from arithmetic to Booleans
 none-of : (x y z : ℕ) → min (min x y) (1 - z) ≡ 0 → z < 2 → (((x == 1) && (y == 1)) && not (z == 1)) ≡ false
 none-of x y z h l = by_test (x == 1) (y == 1) (z == 1) refl refl refl
   where
@@ -89,7 +89,7 @@ unmarked (suc n) (suc k) = unmarked n k
 
 -- ---- what a registry is owed
 
--- of the globals between two places a registry is owed no removal
+-- no removal is owed for the globals between two places
 pub removal-none : (r : Registry) (globals : List Global) (withdrawn : List Bool) (place next : ℕ)
     → AreWithdrawn globals withdrawn → OwesNoRemoval r withdrawn place next → (k : ℕ) (x : Global) → place + 1 ≤ k
     → k < next → k < length globals → x ≡ get_or globals k x → owes_removal r (k + 1) x ≡ false
@@ -101,7 +101,7 @@ twice-not : (b : Bool) → not (not b) ≡ b
 twice-not true = refl
 twice-not false = refl
 
--- and no telling
+-- nor is their announcement owed
 pub telling-none : (r : Registry) (globals : List Global) (withdrawn : List Bool) (place next : ℕ)
     → AreWithdrawn globals withdrawn → OwesNoTelling r withdrawn place next → (k : ℕ) (x : Global) → place + 1 ≤ k
     → k < next → k < length globals → x ≡ get_or globals k x → owes_telling r (k + 1) x ≡ false

@@ -23,12 +23,12 @@ bits_get (suc n) p (suc k) ws h =
     let e : suc p + k ≡ p + suc k = omega arith in
     bits_get n (suc p) k ws (omega arith) ∙ ap (λ (q : ℕ). Some (has_bit ws q)) e
 
--- bits that are the same from a place on
+-- words that agree from a place on have the same bits there
 pub bits_same : (n p : ℕ) (ws vs : List ℕ) → ((q : ℕ) → p ≤ q → has_bit ws q ≡ has_bit vs q) → bits n p ws ≡ bits n p vs
 bits_same zero p ws vs h = refl
 bits_same (suc n) p ws vs h = λ i. h p (omega arith) i ∷ bits_same n (suc p) ws vs (λ q le. h q (omega arith)) i
 
--- one bit set
+-- the list after one bit was set
 pub bits_set : (n p k : ℕ) (ws vs : List ℕ) → k < n → has_bit vs (p + k) ≡ true
     → ((q : ℕ) → q ≢ p + k → has_bit vs q ≡ has_bit ws q) → bits n p vs ≡ slice_set (bits n p ws) k true
 bits_set zero p k ws vs h is others = absurd (omega arith)

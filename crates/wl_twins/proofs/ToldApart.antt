@@ -17,7 +17,7 @@ same_object : (x y : Object) → key_cmp (x.id, x.birth) (y.id, y.birth) ≡ Equ
 same_object x y tied = ap (λ (p : ℕ × ℕ). record { id = p.0; birth = p.1 })
     (exact_pairs nat_cmp nat_cmp exact_unsigned exact_unsigned (x.id, x.birth) (y.id, y.birth) tied)
 
--- another object is not at the place of this one
+-- different objects have different keys
 told_apart : (x y : Object) → y ≢ x → is_at (key_cmp (x.id, x.birth)) (y.id, y.birth) ≡ false
 told_apart x y differs = not_equal (key_cmp (x.id, x.birth) (y.id, y.birth))
     (λ tied. differs (sym (same_object x y tied)))
@@ -27,20 +27,20 @@ pub at_object : (m : BTreeMap (ℕ × ℕ) Object) (key : ℕ × ℕ) (x : Objec
     → get key_cmp m key ≡ twin_of m x
 at_object m key x is = ap (λ (k : ℕ × ℕ). get key_cmp m k) is
 
--- where a map changes at the key of x alone, any other object y keeps its twin
+-- if a map changes only at the key of x, any other object y keeps its twin
 pub others_keep : (old new : BTreeMap (ℕ × ℕ) Object) (key : ℕ × ℕ) (x y : Object) → key ≡ (x.id, x.birth)
     → ((q : ℕ × ℕ) → is_at (key_cmp key) q ≡ false → get key_cmp new q ≡ get key_cmp old q)
     → y ≢ x → twin_of new y ≡ twin_of old y
 others_keep old new key x y is others differs = others (y.id, y.birth)
     (subst (λ (k : ℕ × ℕ). is_at (key_cmp k) (y.id, y.birth) ≡ false) (sym is) (told_apart x y differs))
 
--- the twin that was found has none in this map
+-- a twin that was found has no twin in this map
 pub none_for_found : (found : Option Object) (twin : Object) (m : BTreeMap (ℕ × ℕ) Object) → Some twin ≡ found
     → twin_of m twin ≡ None → IfSome found (λ (t : Object). twin_of m t ≡ None)
 none_for_found found twin m is none =
     subst (λ (o : Option Object). IfSome o (λ (t : Object). twin_of m t ≡ None)) is none
 
--- who is no twin that was found is not this one
+-- an object that differs from the found twin differs from `twin`
 pub not_found : (found : Option Object) (twin other : Object) → Some twin ≡ found
     → IfSome found (λ (t : Object). other ≢ t) → other ≢ twin
 not_found found twin other is differs =

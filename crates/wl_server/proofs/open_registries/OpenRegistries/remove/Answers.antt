@@ -16,7 +16,7 @@ use Rattle.wl_server.proofs.Slots.{rise-set, same-slot}
 use Rattle.wl_server.proofs.Slots.{settled-shut, without-closed}
 use Rattle.wl_server.proofs.open_registries.OpenRegistries.remove.Goals as goal
 
--- what holds of the slots once one of them is closed
+-- the facts about the slots still hold after one of them is closed
 shut-keeps : (slots : List Slot) (closed settled place : ℕ) (slot other : Slot) → SlotsRise 0 slots
     → closed + length (open_in slots) ≡ length slots → settled ≤ length slots → place < length slots
     → slot ≡ get_or slots place slot → other ≡ get_or slots place other → other.is_open ≡ true
@@ -41,7 +41,7 @@ shut-keeps slots closed settled place slot other rising count front within here 
       settled = omega (arith, front, length-set slots place shut);
     }
 
--- the slot that was found is that of the object, where its id is the object's
+-- the slot that was found by birth is the object's if it has the object's id
 the-object : (slots : List Slot) (place : ℕ) (slot other : Slot) (object : Object) → place < length slots
     → slot ≡ get_or slots place slot → other ≡ get_or slots place other
     → other.registry.object.id ≡ object.id → birth_in slot ≡ object.birth → slot.registry.object ≡ object

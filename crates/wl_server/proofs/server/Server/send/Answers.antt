@@ -12,7 +12,7 @@ use Rattle.wl_server.proofs.LastingObjects.{lasting_send}
 use Rattle.wl_server.proofs.Registries.{has_sent, past_sent}
 use Rattle.wl_server.proofs.server.Server.send.Goals as goal
 
--- what held of the end before holds of it after, where it does after an accepted call
+-- a property of the end that accepted calls keep is kept by every call
 by_result : {X E : Type 0} (P : Core → Type 0) (r : Result X E) (before now sent : Core) → OnOk r (now ≡ sent)
     → OnErr r (now ≡ before) → IfOk r (λ _. Valid before.tables) → IfOk r (λ _. ObjectsAreSound before.view)
     → (Valid before.tables → ObjectsAreSound before.view → now ≡ sent → P now) → P before → P now
