@@ -1,4 +1,4 @@
--- What waits is read in one way, whatever comes behind it and however it is cut.
+-- What waits is read in only one way, whatever follows it and however it is cut.
 use Rattle.std.proofs.Common.{◌≡◌, ℕ, suc, inl, inr, true, false, List, [], ◌∷◌, ◌++◌, length, refl}
 use Rattle.std.proofs.Common.{sym, ap, subst, ◌∙◌, arith}
 use Rattle.std.specs.declared.option.Option.{Option}
@@ -27,20 +27,20 @@ use Rattle.wl_connection.proofs.Spelled.{begin_none, begin_more}
 
 -- ---- what both ends have in common
 
--- a report is that of a message that is found in front, and what is left waits behind it
+-- a report is for the message at the front; what waits behind that message is left
 pub record IsOfMessage {S R : Type 0} (e : Reading S R) (side : Side) (state : S) : Type 0 where
   pub message : Found
   pub there : found (e.core state) side ≡ Ok (Some message)
   pub left : waiting_part (e.core (e.after state)) ≡ waiting_part (past_found (e.core state) message)
   pub kept : (e.core (e.after state)).inbox.limit ≡ (e.core state).inbox.limit
 
--- a fault is there with more behind it too
+-- the fault is the same if more follows
 pub record IsFaultAgain {S R : Type 0} (e : Reading S R) (state : S) (what : Fault) (offset : ℕ)
     (bytes tokens : List ℕ) : Type 0 where
   pub is : e.answer (with_arrivals e state bytes tokens) ≡ Err (errors.Fault what offset)
   pub leaves : e.after (with_arrivals e state bytes tokens) ≡ with_arrivals e (e.after state) bytes tokens
 
--- a fault stays whatever comes, or as long as the same is found in front
+-- a fault stays, whatever follows, or as long as the same fault is found at the front
 pub data IsFault {S R : Type 0} (e : Reading S R) (side : Side) (state : S) (what : Fault) (offset : ℕ) : Type 0 where
   stays : ((bytes tokens : List ℕ) → IsFaultAgain e state what offset bytes tokens) → IsFault e side state what offset
   comes : found (e.core state) side ≡ Err what
@@ -62,7 +62,7 @@ pub record IsReading {S R : Type 0} (e : Reading S R) (side : Side) : Type 0 whe
   pub fault_leaves : (state : S) (what : Fault) (offset : ℕ) → e.answer state ≡ Err (errors.Fault what offset)
       → (e.core (e.after state)).inbox.bytes ≡ (e.core state).inbox.bytes
 
--- ---- what stands behind what is read stays there
+-- ---- what follows what is read stays
 
 pub some_stays : {S R : Type 0} {e : Reading S R} {side : Side} {state end : S} {reports : List R} → IsReading e side
     → (bytes tokens : List ℕ) → ReadsSome e state reports end
@@ -83,7 +83,7 @@ fault_again e state what offset bytes tokens f =
     subst (λ s. Reads e (with_arrivals e state bytes tokens) [] (Some (errors.Fault what offset)) s) f.leaves
     (fault f.is)
 
--- what is found at an end with more that came in
+-- what is found at an end after more arrived
 wants_more : {S R : Type 0} (e : Reading S R) (side : Side) → IsReading e side
     → (state : S) (bytes tokens : List ℕ) (need : _) → Wants (with_arrived (e.core state) bytes tokens) side need
     → Wants (e.core (with_arrivals e state bytes tokens)) side need
@@ -124,7 +124,7 @@ fault_by e side i state what offset later sound s (stays h) = h (part_bytes late
 fault_by e side i state what offset later sound s (comes h again) =
     fault_found e side i state what offset later sound s again (is_fault (e.core state) side what h)
 
--- once the first message is read, with its tokens, the others come in step
+-- after the first message and its tokens are read, the others come in step
 step_past : {S R : Type 0} (e : Reading S R) (side : Side) → IsReading e side → (state : S) (r : R) (later : List Part)
     → e.answer state ≡ Ok (Some r)
     → ComeInStep e side (with_arrivals e state (part_bytes later) (part_tokens later))
@@ -151,7 +151,7 @@ step_past e side i state r later a s needs b =
     (step_read (need_of m.message) needs (waiting_part (e.core state)) later
     (s (need_of m.message ∷ needs) begins) h.there h.enough)
 
--- What is read up to a fault or a last report is read in the same way when more comes in step.
+-- What is read up to a fault or a last report is read in the same way if more follows in step.
 pub reads_stay : {S R : Type 0} {e : Reading S R} {side : Side} {state end : S} {reports : List R} {stop : Option
     NextError} → IsReading e side → (later : List Part) → Reads e state reports stop end → (e.core end).failed ≡ true
     → ComeInStep e side (with_arrivals e state (part_bytes later) (part_tokens later))
@@ -202,7 +202,7 @@ any_cut e side i state end pieces count some reports stop t s h f =
     (taken_in_step needs (waiting_part (e.core state)) pieces count some t
     (s needs (subst (λ x. BeginsWithNeeds e side x needs) whole g)))))
 
--- ---- what waits is read in one way
+-- ---- what waits is read in only one way
 
 pub record Same {S R : Type 0} (reports others : List R) (stop halt : Option NextError) (last end : S) : Type 0 where
   pub same_reports : reports ≡ others
@@ -260,7 +260,7 @@ has_one_reading e side i = record {
   stays = λ state last reports bytes tokens h. some_stays i bytes tokens h;
 }
 
--- ---- what is read begins what waits
+-- ---- what is read is the front of what waits
 
 first : {S R : Type 0} (e : Reading S R) (side : Side) → IsReading e side
     → (state : S) (r : R) (count : ℕ) (rest : List ℕ) → e.answer state ≡ Ok (Some r)

@@ -1,4 +1,4 @@
--- An end of this role has one reading, whatever the cut.
+-- An end of this role reads a stream in only one way, however it is cut.
 use Rattle.std.proofs.Common.{◌≡◌, ◌≢◌, ℕ, true, false, Bool, cond, List, refl, sym, ap, ◌∙◌}
 use Rattle.std.specs.declared.option.Option.{Option}
 use Rattle.std.specs.declared.option.Option.TheVariants.{None, Some}
@@ -13,7 +13,7 @@ use Rattle.wl_connection.proofs.Roles.{later, FrontFault, own, of_found, IsRole,
 use Rattle.wl_connection.proofs.Roles.{not_failed, read, later_sound, later_read, answer_stays, after_stays}
 use Rattle.theory_cuts.proofs.AnyCut.{IsOfMessage, IsFaultAgain, IsFault, stays, comes, IsReading}
 
--- a fault of what stands in front
+-- a fault of the message at the front
 record Fails {S R : Type 0} (role : Role S R) (state : S) (what : Fault) (offset : ℕ) : Type 0 where
   sound : (role.core state).failed ≡ false
   front : role.in_front state ≡ Err what
@@ -42,7 +42,7 @@ module _ {S R : Type 0} (role : Role S R) where
       fails_by state what offset (role.in_front state) s refl (sym (answers role state s) ∙ e)
 
 module _ {S R : Type 0} (role : Role S R) (i : IsRole role) where
-  -- the same fault with more behind it
+  -- the same fault if more follows
   fault_again : (state : S) (what : Fault) (offset : ℕ) (bytes tokens : List ℕ) → Fails role state what offset
       → role.in_front (later role state bytes tokens) ≡ Err what
       → IsFaultAgain (role_reading role) state what offset bytes tokens

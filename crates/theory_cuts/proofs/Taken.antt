@@ -1,4 +1,4 @@
--- What was taken of pieces and what was not, and that both stay in step.
+-- What was taken of pieces and what was not are together all of them, and stay in step.
 use Rattle.std.proofs.Common.{◌≡◌, ℕ, zero, suc, ◌+◌, ◌<◌, ◌⊎◌, inl, inr, List}
 use Rattle.std.proofs.Common.{[], ◌∷◌, ◌++◌, length, take, drop, refl, sym, ap, subst, ◌∙◌, arith}
 use Rattle.std.proofs.lemmas.List.{append_assoc, append-nil, take-append-drop, take_all, drop_all}
@@ -9,7 +9,7 @@ use Rattle.wl_message.proofs.Steps.{step_joined, step_parted}
 use Rattle.wl_connection.specs.Core.{no_room}
 use Rattle.wl_connection.specs.Streams.{IsTaken, taken_bytes, taken_tokens, untaken, longer}
 
--- what was taken and what was not are all
+-- what was taken and what was not are together all of the pieces
 pub taken-untaken_bytes : (pieces : List Part) (count : ℕ) (some : Amounts)
     → taken_bytes pieces count some ++ part_bytes (untaken pieces count some) ≡ part_bytes pieces
 taken-untaken_bytes [] count some = refl

@@ -1,4 +1,4 @@
--- The bytes of a direction after a message that was gone past.
+-- The bytes of a direction after a message that was passed over.
 use Rattle.std.proofs.Common.{◌≡◌, ℕ, ◌+◌, Bool, true, false, not, List, drop, sym, ap, ◌∙◌}
 use Rattle.std.proofs.lemmas.List.{drop-drop}
 use Rattle.wl_check.specs.FollowedBytes.{FollowedBytes}

@@ -37,7 +37,7 @@ both_step : (a : Cutting) (f : ℕ → Cutting) (b : Bool) → a.has_bad_size �
 both_step a f true is = rw is (ap (λ (l : List Mark). a.marks ++ l) (drop_whole a.marks) ∙ append-nil a.marks)
 both_step a f false is = rw is (ap (λ (l : List Mark). a.marks ++ l) (drop_front a.marks (f a.place).marks))
 
--- what was complete, and what a piece completes, is all
+-- the earlier messages, followed by those that a piece completes, are all
 both : (limit : ℕ) (s t : List ℕ) → (cut limit s).marks ++ drop (length (cut limit s).marks) (cut limit (s ++ t)).marks
     ≡ (cut limit (s ++ t)).marks
 both limit s t = rw (more limit (length s) (length (s ++ t)) s t 0 (omega arith) (omega arith) (omega arith))

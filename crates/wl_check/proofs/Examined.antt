@@ -1,4 +1,4 @@
--- What is examined, what is counted, and the verdict.
+-- Which messages are examined, which are counted, and the verdict.
 use Rattle.std.proofs.Common.{◌≡◌, ℕ, zero, suc, ◌+◌, ◌^◌, ◌-◌, ◌<◌, ◌≤◌, Bool, true, false, cond}
 use Rattle.std.proofs.Common.{Some, None, List, [], ◌∷◌, slice_get, get_or, length, take, drop}
 use Rattle.std.proofs.Common.{refl, sym, ap, ◌∙◌, arith, subst, inl, inr, nat_lt, nat_eq, ◌↔◌}
@@ -44,7 +44,7 @@ use Rattle.wl_check.specs.Text.{IsExamined}
 use Rattle.wl_check.proofs.KnownBehindMessage.{known_next, named_next}
 use Rattle.wl_check.proofs.JudgedByPlaces.{reading, length_messages}
 
--- ---- what is examined
+-- ---- which messages are examined
 
 pub behind : (x : Judged) (xs : List Judged) (k : ℕ) → ArePassed (x ∷ xs) (suc k) → ArePassed xs k
 behind x xs k a j h = let p = a (suc j) (omega arith) in record { call = p.call; is = p.is; goes_on = p.goes_on }
@@ -78,7 +78,7 @@ end_examined (x ∷ xs) zero m e ends a = let is : x ≡ m = cc in let b : ends_
 end_examined (x ∷ xs) (suc k) m e ends a = rw (first_on x xs k a)
     (ap suc (end_examined xs k m e ends (behind x xs k a)))
 
--- ---- what breaks no rule
+-- ---- messages that break no rule
 
 none_either : (b : Bool) → cond b (fault_of None) None ≡ None
 none_either true = refl
@@ -118,7 +118,7 @@ lawful_end tables s k call e ends a j = elim (cases_order j k) [
   ]
 ]
 
--- ---- what is counted
+-- ---- which messages are counted
 
 count_more : (d : Direction) (fs : List FramedMessage) (k : ℕ) (f : FramedMessage) → slice_get fs k ≡ Some f
     → count_in d (take (k + 1) fs) ≡ count_in d (take k fs) + cond (same_direction f.direction d) 1 0
@@ -166,7 +166,7 @@ tallied_next s k d t u f e h is i =
 
 -- ---- a place of the session
 
--- the message is judged by what is known
+-- the message is judged with what is known there
 pub message_is : {A : Type 0} (tables : List Interface) (s : Session) (k : ℕ) (f : FramedMessage) (p : Progress A)
     → slice_get s.frames k ≡ Some f → IsAt tables s k p
     → slice_get (messages tables s) k ≡ Some (judged s.limit tables (known_in p.known) (s.streams f.direction) f)
@@ -243,7 +243,7 @@ passed_next ms k call a e on j h = elim (cases_order j k) [
   | inr o ↦ elim o [ inl less ↦ a j less | inr more ↦ absurd (omega arith) ]
 ]
 
--- the bytes from a message on are enough
+-- a message's judgement needs only the bytes from it on
 from_front : (limit : ℕ) (tables : List Interface) (k : KnownAtPlace) (stream rest : List ℕ) (f : FramedMessage)
     → drop f.start stream ≡ rest → judged_front limit tables k rest f ≡ judged limit tables k stream f
 from_front limit tables k stream rest f e =
@@ -252,7 +252,7 @@ from_front limit tables k stream rest f e =
     (judged_message tables k f (header_at (drop f.start stream)) (take (f.size - 8) b)) (Err BadSize))
     (drop-drop 8 f.start stream)
 
--- what the code finds at a place
+-- what the code finds is the judgement at that place
 pub found_is : {A : Type 0} (tables : List Interface) (s : Session) (k : ℕ) (f : FramedMessage) (p : Progress A)
     (rest : List ℕ) (x : Judged) → slice_get s.frames k ≡ Some f → IsAt tables s k p
     → drop f.start (s.streams f.direction) ≡ rest → x ≡ judged_front s.limit tables (known_in p.known) rest f
@@ -331,7 +331,7 @@ exact_from tables s (Broken d i o f) h = (
       (let none : breaks tables s h.place ≡ None = lawful h.place in let some = h.broken in absurd (cc)),
 )
 
--- ---- how many are examined, in words
+-- ---- how many messages are examined, in words
 
 from_none : (ms : List Judged) (j : ℕ) (m : Judged) → j < 0 → slice_get ms j ≡ Some m → ends_session m ≡ false
 from_none ms j m h e = absurd (omega arith)

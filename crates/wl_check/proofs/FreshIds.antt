@@ -1,4 +1,5 @@
--- A message that was read makes no object with an id that is held, and its id was used before or is the next.
+-- A message that was read makes no object with an id that is held. The new id was used before or is
+-- the next.
 use Rattle.std.proofs.Common.{◌≡◌, ℕ, zero, suc, ◌+◌, ◌<◌, ◌≤◌, Bool, true, false, not, ◌&&◌, cond}
 use Rattle.std.proofs.Common.{Some, None, List, [], ◌∷◌, refl, sym, ap, ◌∙◌, subst, ◌⊎◌, inl, inr, arith}
 use Rattle.std.proofs.Common.{nat_lt, nat_le, nat_eq, is_none, drop, take, ◌-◌, slice_get, length}
@@ -55,7 +56,7 @@ named_id : (o : Option Iface) (own id : ℕ) (m : NewObject)
 named_id None own id m e = absurd (cc)
 named_id (Some iface) own id m e = cc
 
--- what is made has an id that is free, for the client or for the server
+-- the new object, if there is one, has an id that is free for the client or for the server
 abbrev IsFreeMade : Reader → Option NewObject → Type 0
 IsFreeMade r o = (m : NewObject) → o ≡ Some m → (r.new_id m.id ≡ Free) ⊎ (r.new_server_id m.id ≡ Free)
 
@@ -166,9 +167,9 @@ free_by tables side r header body waiting None = tt
 free_by tables side r header body waiting (Some entry) =
     free_as tables side r header body waiting entry (signature_at tables entry.iface.0 side header.opcode)
 
--- ---- judged
+-- ---- a judged message
 
--- an id of either range is free there
+-- the id is free in its range
 record IsNewId (tables : List Interface) (k : KnownAtPlace) (id : ℕ) : Type 0 where
   of_client : is_of_server id ≡ false → is_free_id k id ≡ true
   of_server : is_of_server id ≡ true → is_free_server_id tables k id ≡ true

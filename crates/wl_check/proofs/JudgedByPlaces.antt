@@ -71,7 +71,7 @@ known_same s t p a =
     let k = fun_ext (λ d. taken_same s t p d a) in
     λ i. record { object = o i; used = u i; server_used = v i; advertised_version = g i; taken = k i }
 
--- ---- the messages of a front are those of the whole
+-- ---- the messages of the first frames are the first of all
 
 pub get_front : {A : Type 0} (xs ys : List A) (i : ℕ) → i < length xs → slice_get (xs ++ ys) i ≡ slice_get xs i
 get_front [] ys i below = absurd (omega arith)
@@ -134,7 +134,7 @@ reading_after limit tables streams e (x ∷ fs) (suc k) n f is at =
     let m = next_of limit tables streams e x in
     reading_after limit tables streams (e ++ m ∷ []) fs k n f is (omega (arith, length-append e (m ∷ [])))
 
--- a message is judged by what is known at its place
+-- a message is judged with what is known at its place
 pub reading : (tables : List Interface) (session : Session) (k : ℕ) (f : FramedMessage)
     → slice_get session.frames k ≡ Some f
     → slice_get (messages tables session) k ≡ Some

@@ -1,4 +1,4 @@
--- A message judged: how many tokens wait makes no difference beyond what any message takes.
+-- Judging a message. The number of waiting tokens does not matter beyond what any message takes.
 use Rattle.std.proofs.Common.{◌≡◌, ℕ, ◌+◌, ◌-◌, ◌≤◌, Bool, true, false, min, cond, take, drop, Some}
 use Rattle.std.proofs.Common.{None, List, [], ◌∷◌, length, refl, sym, ap, ◌∙◌, arith, nat_lt}
 use Rattle.std.specs.Prelude.{Option}
@@ -69,7 +69,7 @@ pub received_same : (tables : List Interface) (side : Side) (r : Reader) (header
 received_same tables side r header body w n valid is =
     rw is (by_same tables side r header body w (r.object header.object) valid)
 
--- what the code found, with what the rules say
+-- what the code found is the message's judgement
 pub judged_is : (tables : List Interface) (k : KnownAtPlace) (frame : FramedMessage) (header : Header) (body : List ℕ)
     (n w : ℕ) (x : Result Received Fault) → Valid tables
     → n ≡ min w 18446744073709551615 → w ≡ frame.tokens - k.taken frame.direction
@@ -89,7 +89,7 @@ pub called_good : (tables : List Interface) (k : KnownAtPlace) (d : Direction) (
     → called tables k d opcode (Ok r) ≡ Ok (record { direction = d; opcode = opcode; received = r })
 called_good tables k d opcode r h = rw h refl
 
--- the parts of a message, as the code lends them
+-- a message's header and body, as the code borrows them
 pub parts_are : (limit : ℕ) (tables : List Interface) (k : KnownAtPlace) (bytes : List ℕ) (frame : FramedMessage)
     (header : Header) (body : List ℕ) (x : Result Call Fault) → is_size limit frame.size ≡ true
     → header ≡ header_at bytes → body ≡ take (frame.size - 8) (drop 8 bytes)

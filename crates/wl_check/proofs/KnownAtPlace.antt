@@ -1,4 +1,4 @@
--- What is held, open, used and advertised at a place, by the messages before it.
+-- What is held, open, used and advertised at a place, given the messages before it.
 use Rattle.std.proofs.Common.{◌≡◌, ℕ, zero, suc, ◌+◌, ◌<◌, ◌≤◌, ◌-◌, Bool, true, false, ◌&&◌, ◌||◌, cond}
 use Rattle.std.proofs.Common.{Some, None, refl, sym, ap, ◌∙◌, subst, inl, inr, arith, nat_lt}
 use Rattle.std.proofs.Common.{nat_eq, max, ◌↔◌}
@@ -208,7 +208,7 @@ used_is s p i fresh of_client = (
   ),
 )
 
--- ---- used, of the server's range
+-- ---- used, in the server's range
 
 server_used_past : (s : ℕ → MessageChanges) (p i : ℕ) (new : NewObject) → (s p).made ≡ Some new
     → first_server_id ≤ new.id → new.id ≤ first_server_id + server_used s p

@@ -12,7 +12,7 @@ use Rattle.wl_check.specs.Places.{new_of, entry_made_at, object_named, unless_de
 use Rattle.wl_check.specs.Places.{used_after, server_used_after, advertised_after, taken_after, used, server_used}
 use Rattle.wl_check.specs.Places.{advertised_version, taken, KnownAtPlace, known, IsKnownBehind}
 
--- nothing is between a place and the next
+-- no message is between a place and the next
 is_ending_none : (s : ℕ → MessageChanges) (m p i : ℕ) → p ≤ suc m → is_ending s m p i ≡ false
 unfolding is_ending
 is_ending_none s m zero i below = refl
@@ -53,7 +53,7 @@ next : (s : ℕ → MessageChanges) (p i : ℕ) (made : Bool)
 next s p i true = ap (λ (e : Entry). Some e) (new s p i)
 next s p i false = kept s p i (deletes_id (s p) i) (destroys_id (s p) i) (holder s p i) refl (holder_before s p i)
 
--- what an id names after a message
+-- the object that an id names after a message
 pub named_next : (s : ℕ → MessageChanges) (p i : ℕ) → object_named s (suc p) i
     ≡ object_after p (s p) i (object_named s p i)
 unfolding holder

@@ -1,5 +1,5 @@
--- A piece brings the last byte of each message that it completes; and the messages are those that
--- the sizes alone cut off.
+-- A piece brings the last byte of each message that it completes. The messages are those that the
+-- sizes alone cut off.
 use Rattle.std.proofs.Common.{◌≡◌, ℕ, zero, suc, ◌+◌, ◌*◌, ◌<◌, ◌≤◌, Bool, true, false, cond, List}
 use Rattle.std.proofs.Common.{[], ◌∷◌, ◌++◌, length, drop, take, map, refl, sym, ap, ◌∙◌, arith}
 use Rattle.std.proofs.Common.{subst, length-append}
@@ -69,9 +69,9 @@ why limit zero s p within enough fine = front_past limit s p (omega arith)
 why limit (suc n) s p within enough fine = why_step limit n s p (front limit (drop p s)) refl within
     (λ z big there. why limit n s (p + z) there (omega arith)) fine
 
--- ---- what comes with a piece
+-- ---- the messages that a piece completes
 
--- if more bytes were needed, what is at the front with more of them is longer than what was there
+-- if more bytes were needed, the message found with more of them is longer than the bytes before
 longer_by : (limit : ℕ) (x y : List ℕ) (f : Front) → Seen limit x f → f ≡ More → (z : ℕ)
     → front limit (x ++ y) ≡ Whole z → length x < z
 longer_by limit x y f (short h) e z w = let s = front_stands limit (x ++ y) z w in let big = s.size.header
@@ -136,7 +136,7 @@ pub piece_brings : (limit : ℕ) (s t : List ℕ) → Brings limit (length s) (l
     (drop (length (cut limit s).marks) (cut limit (s ++ t)).marks)
 piece_brings limit s t = rw (new_marks limit s t) (brings_step limit s t (cut limit s).has_bad_size refl)
 
--- ---- the messages by their sizes
+-- ---- the messages that the sizes cut off
 
 abbrev parts : (limit : ℕ) → List ℕ → List Mark → List (List ℕ)
 parts limit s ms = map (part_of s) (sound limit ms)

@@ -20,7 +20,7 @@ use Rattle.wl_check.specs.Text.{IsPrinted}
 use Rattle.wl_check.proofs.Examined.{behind, first_call, first_some}
 use Rattle.wl_check.proofs.JudgedByPlaces.{length_messages}
 
--- ---- how many messages last
+-- ---- how many messages come before the verdict's end
 
 first_last : (x : Judged) (call : Call) (xs : List Judged) → x ≡ Ok call
     → lasting (x ∷ xs) ≡ cond (ends_session (Ok call)) 1 (suc (lasting xs))
@@ -45,7 +45,7 @@ lasting_broken [] k fault e a = absurd (cc)
 lasting_broken (x ∷ xs) zero fault e a = let is : x ≡ Err fault = cc in ap (λ (y : Judged). lasting (y ∷ xs)) is
 lasting_broken (x ∷ xs) (suc k) fault e a = on x xs k a ∙ ap suc (lasting_broken xs k fault e (behind x xs k a))
 
--- ---- of which messages there is a line
+-- ---- which messages have a line
 
 passed_more : (x : Judged) (xs : List Judged) (k : ℕ) (call : Call) → x ≡ Ok call → ends_session (Ok call) ≡ false
     → ArePassed xs k → ArePassed (x ∷ xs) (suc k)
@@ -86,13 +86,13 @@ printed_is ms k = (printed_from ms k, printed_at ms k)
 
 -- ---- the lines
 
--- none yet
+-- no line before the first message
 pub lines_none : (tables : List Interface) (s : Session) (o : Output) → [] ≡ wanted o (lines_within tables s 0)
 unfolding lines_within
 lines_none tables s Nothing = refl
 lines_none tables s Lines = refl
 
--- one line more
+-- one more line
 line_more : {A : Type 0} (tables : List Interface) (s : Session) (k : ℕ) (call : Call) (p : Progress A)
     → slice_get (messages tables s) k ≡ Some (Ok call) → IsAt tables s k p
     → lines_within tables s k ++ call_line tables (known_in p.known) call ≡ lines_within tables s (k + 1)

@@ -1,4 +1,4 @@
--- A longer recording: what was judged before stays, and what is known after one more message.
+-- A longer recording: earlier judgements stay, and what is known after one more message.
 use Rattle.std.proofs.Common.{◌≡◌, ℕ, zero, suc, ◌+◌, ◌-◌, ◌*◌, ◌%◌, ◌/◌, ◌≤◌, Bool, true, false}
 use Rattle.std.proofs.Common.{cond, None, Some, List, [], ◌∷◌, ◌++◌, slice_get, length, take, drop}
 use Rattle.std.proofs.Common.{refl, sym, ap, ◌∙◌, arith, append-nil, append_assoc, length-append}
@@ -89,7 +89,7 @@ after_more limit tables old new e (f ∷ fs) gs a =
     ap (λ (j : Judged). judged_after limit tables new (e ++ j ∷ []) (fs ++ gs)) (a.0 k)
     ∙ after_more limit tables old new (e ++ judged limit tables k (old f.direction) f ∷ []) fs gs a.1
 
--- ---- one piece more
+-- ---- one more piece
 
 get_seam : {A : Type 0} (xs : List A) (y : A) → slice_get (xs ++ y ∷ []) (length xs) ≡ Some y
 get_seam [] y = refl
@@ -153,7 +153,8 @@ all_along limit tables ps p (f ∷ fs) a = (
       a.1,
 )
 
--- A piece more: the messages before it are judged as they were, and those that it completes come behind them.
+-- One more piece: the judgements of the earlier messages stay, and those of the messages that it
+-- completes follow.
 pub messages_more : (limit : ℕ) (tables : List Interface) (ps : List Piece) (p : Piece)
     → messages tables (session_of limit (ps ++ p ∷ []))
     ≡ judged_after limit tables (λ d. stream_of d (ps ++ p ∷ [])) (messages tables (session_of limit ps))
@@ -164,7 +165,7 @@ messages_more limit tables ps p =
     ∙ after_more limit tables (λ d. stream_of d ps) (λ d. stream_of d (ps ++ p ∷ [])) [] (merged limit ps)
     (completed limit ps p) (all_along limit tables ps p (merged limit ps) (merged_lies limit ps (length ps)))
 
--- ---- one message more
+-- ---- one more message
 
 pub length_last : (e : List Judged) (j : Judged) → length (e ++ j ∷ []) ≡ suc (length e)
 length_last e j = omega (arith, length-append e (j ∷ []))

@@ -1,5 +1,5 @@
--- The messages of the merged list come with the pieces that bring their last bytes, and a bad size
--- is the last of its direction.
+-- The messages of the merged list come with the pieces that bring their last bytes. A bad size is
+-- the last of its direction.
 use Rattle.std.proofs.Common.{◌≡◌, ◌≢◌, ℕ, zero, suc, ◌+◌, ◌≤◌, true, cond, Some, List, [], ◌∷◌}
 use Rattle.std.proofs.Common.{◌++◌, slice_get, length, take, drop, map, refl, sym, ap, subst, ◌∙◌}
 use Rattle.std.proofs.Common.{arith}
@@ -32,7 +32,7 @@ order_more limit ps k from (f ∷ fs) gs l h g =
     let less = h.2 in
     (h.0, h.1, omega (arith, less), h.3, order_more limit ps k h.0 fs gs (omega (arith, less)) h.4 g)
 
--- what a piece completes comes with it
+-- the messages that a piece completes come with it
 come_with : (limit : ℕ) (ps : List Piece) (k : ℕ) (p : Piece) → slice_get ps k ≡ Some p → (ms : List Mark)
     → Brings limit (length (stream_of p.direction (take k ps)))
     (length (stream_of p.direction (take k ps) ++ p.bytes)) ms

@@ -1,4 +1,4 @@
--- One piece more.
+-- One more piece in the merged list.
 use Rattle.std.proofs.Common.{◌≡◌, ℕ, zero, suc, ◌+◌, ◌<◌, true, cond, Some, List, [], ◌∷◌, ◌++◌}
 use Rattle.std.proofs.Common.{length, get_or, take, map, refl, sym, ap, ◌∙◌, arith, append-nil}
 use Rattle.std.proofs.Common.{append_assoc, slice_get}

@@ -1,4 +1,4 @@
--- Any cut: the messages of s ++ t are those of s, and then those from where the cutting of s stops.
+-- The messages of s ++ t are those of s, followed by those from where the cutting of s stops.
 use Rattle.std.proofs.Common.{◌≡◌, ℕ, zero, suc, ◌+◌, ◌<◌, ◌≤◌, Bool, true, false, cond, Some, None}
 use Rattle.std.proofs.Common.{List, [], ◌∷◌, ◌++◌, length, drop, refl, sym, ap, ◌∙◌, arith, ltb}
 use Rattle.std.proofs.Common.{length-append, subst, get_or, Fits, w8}
@@ -14,7 +14,7 @@ use Rattle.wl_wire.proofs.Headers.{header-size}
 use Rattle.wl_check.specs.Seen.{size_of}
 use Rattle.wl_check.specs.Merged.{Mark, mark, Cutting, cutting, then_cut, cut_at, cut}
 
--- ---- what is at the front, according to the code's tests
+-- ---- what is at the front, from the code's tests
 
 front_tests : (limit : ℕ) (bytes : List ℕ) (a b c : Bool) → ltb (length bytes) 8 ≡ a
     → is_size limit (told_size bytes) ≡ b → ltb (length bytes) (told_size bytes) ≡ c
@@ -22,7 +22,7 @@ front_tests : (limit : ℕ) (bytes : List ℕ) (a b c : Bool) → ltb (length by
 unfolding front
 front_tests limit bytes a b c p q r = rw (p, q, r) refl
 
--- the size of the header that was read in front
+-- the size in the header that was read at the front
 pub told : (bytes : List ℕ) (h : Header) → ((i : ℕ) → Fits w8 (get_or bytes i 0)) → 8 ≤ length bytes
     → h ≡ header_at bytes → h.size ≡ told_size bytes
 told bytes h w l e = header-size bytes h.size (bytewise_from bytes w) l (ap (λ (x : Header). x.size) e)
@@ -64,7 +64,7 @@ next_within limit s p z h within = let w = front_stands limit (drop p s) z h
 front_more : (s t : List ℕ) (p : ℕ) → p ≤ length s → drop p (s ++ t) ≡ drop p s ++ t
 front_more s t p within = drop-append-le p s t within
 
--- the fuel, once enough, makes no difference
+-- any two amounts of fuel that are enough give the same result
 fuel_step : (limit n k : ℕ) (s : List ℕ) (p : ℕ) (f : Front) → front limit (drop p s) ≡ f → p ≤ length s
     → ((z : ℕ) → 8 ≤ z → p + z ≤ length s → cutting limit n s (p + z) ≡ cutting limit k s (p + z))
     → cut_at p f (cutting limit n s) ≡ cut_at p f (cutting limit k s)
@@ -82,13 +82,13 @@ fuel limit (suc n) zero s p within a b = rw (front_past limit s p (omega arith))
 fuel limit (suc n) (suc k) s p within a b = fuel_step limit n k s p (front limit (drop p s)) refl within
     (λ z big there. fuel limit n k s (p + z) there (omega arith) (omega arith))
 
--- one step, where the fuel is enough
+-- one step, with enough fuel
 pub step : (limit j : ℕ) (w : List ℕ) (p : ℕ) → p ≤ length w → length w ≤ j
     → cutting limit j w p ≡ cut_at p (front limit (drop p w)) (cutting limit j w)
 unfolding cutting
 step limit j w p within enough = fuel limit j (suc j) w p within (omega arith) (omega arith)
 
--- a cutting that goes on, unless it stopped at a bad size
+-- the first cutting, continued by the second unless it stopped at a bad size
 abbrev pub goes_on : Cutting → (ℕ → Cutting) → Cutting
 goes_on a b = cond a.has_bad_size a (record {
   marks = a.marks ++ (b a.place).marks;
@@ -126,7 +126,7 @@ more limit zero j s t p within a b = refl
 more limit (suc n) j s t p within a b = more_step limit n j s t p (front limit (drop p s)) refl within b
     (λ z big there. more limit n j s t (p + z) there (omega arith) b)
 
--- where the cutting stops is within the stream
+-- the place where the cutting stops is within the stream
 place_step : (limit n : ℕ) (s : List ℕ) (p : ℕ) (f : Front) → front limit (drop p s) ≡ f → p ≤ length s
     → ((z : ℕ) → p + z ≤ length s → (cutting limit n s (p + z)).place ≤ length s)
     → (cut_at p f (cutting limit n s)).place ≤ length s
@@ -148,7 +148,7 @@ pub drop_front : (xs ys : List Mark) → drop (length xs) (xs ++ ys) ≡ ys
 drop_front [] ys = refl
 drop_front (x ∷ xs) ys = drop_front xs ys
 
--- a piece: what is complete with it and was not before
+-- the messages that a piece completes
 new_step : (a : Cutting) (f : ℕ → Cutting) (b : Bool) → a.has_bad_size ≡ b
     → drop (length a.marks) (goes_on a f).marks ≡ cond b [] (f a.place).marks
 new_step a f true is = rw is (drop_whole a.marks)

@@ -1,4 +1,4 @@
--- A text tells one list of pieces, or has one first bad line.
+-- A text has exactly one list of pieces, or exactly one first bad line.
 use Rattle.std.proofs.Common.{◌≡◌, ℕ, List, ap, ◌∙◌, inl, inr, ◌⊎◌, subst}
 use Rattle.std.specs.Prelude.{Result, Ok, Err, IfOk, IfErr, MatchResult}
 use Rattle.wl_recording.specs.declared.recording.RecordingError.{RecordingError}

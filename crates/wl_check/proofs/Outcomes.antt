@@ -1,4 +1,4 @@
--- What a judged message comes to: its changes and its line, or the first rule that it breaks.
+-- The outcome of a judged message: its changes and its line, or the first rule that it breaks.
 use Rattle.std.proofs.Common.{◌≡◌, ℕ, List, ◌++◌, Some, refl, sym, ap, ◌∙◌, append-nil}
 use Rattle.std.specs.Prelude.{IfOk, OnOk}
 use Rattle.std.specs.declared.result.Result.{Result}
@@ -56,7 +56,7 @@ pub found_call : (tables : List Interface) (k : KnownAtPlace) (o : Output) (x : 
 found_call tables k o (Ok call) e old new h text = record { call = call; is = refl; changes_are = cc h; text = text }
 found_call tables k o (Err fault) e old new h text = absurd (cc h)
 
--- the same of a judgement that equals it
+-- the same for an equal judgement
 pub changes_so : {E : Type 0} (tables : List Interface) (r : Result (Result MessageChanges Fault) E)
     (x y : Result Call Fault) → x ≡ y → IfOk r (λ o. o ≡ changes_in tables x) → IfOk r (λ o. o ≡ changes_in tables y)
 changes_so tables (Ok o) x y e h = h ∙ ap (changes_in tables) e

@@ -1,4 +1,4 @@
--- What one carry adds to a recording: no piece, one, or two, of which the first has no bytes.
+-- What one carry adds to a recording: no piece; one piece; or two, the first of them without bytes.
 use Rattle.std.proofs.Common.{◌≡◌, ℕ, ◌+◌, ◌-◌, ◌<◌, Bool, true, false, cond, List, [], ◌∷◌, ◌++◌}
 use Rattle.std.proofs.Common.{length, drop, map, refl, sym, ap, subst, ◌∙◌, arith, append-nil}
 use Rattle.std.proofs.Common.{append_assoc, ltb, ◌&&◌, ◌==◌}
@@ -16,13 +16,13 @@ use Rattle.wl_check.proofs.LongerRecording.{stream_last, tokens_last, messages_m
 abbrev pub piece_of : Direction → List ℕ → ℕ → Piece
 piece_of d bytes tokens = record { direction = d; bytes = bytes; tokens = tokens }
 
--- the messages that bytes more complete
+-- the messages that more bytes complete
 abbrev pub new_frames : (limit : ℕ) → Direction → List ℕ → List ℕ → ℕ → List FramedMessage
 new_frames limit d stream bytes tokens = map (framed d tokens)
     (drop (length (cut limit stream).marks) (cut limit (stream ++ bytes)).marks)
 
--- These pieces bring so many bytes and tokens more in a direction, and the messages that they
--- complete come behind the others.
+-- More pieces bring these bytes and this number of tokens in a direction. The messages that they
+-- complete follow the others.
 pub record Brings (limit : ℕ) (tables : List Interface) (d : Direction) (before after : List Piece) (bytes : List ℕ)
     (tokens : ℕ) : Type 0 where
   pub own : stream_of d after ≡ stream_of d before ++ bytes
@@ -33,7 +33,7 @@ pub record Brings (limit : ℕ) (tables : List Interface) (d : Direction) (befor
       ≡ judged_after limit tables (λ x. stream_of x after) (messages tables (session_of limit before))
       (new_frames limit d (stream_of d before) bytes (piece_tokens d before + tokens))
 
--- no bytes complete nothing
+-- without bytes, no message is completed
 quiet : (limit : ℕ) (d : Direction) (stream : List ℕ) (tokens : ℕ) → new_frames limit d stream [] tokens ≡ []
 quiet limit d stream tokens =
     ap (λ (s : List ℕ). map (framed d tokens) (drop (length (cut limit stream).marks) (cut limit s).marks))

@@ -1,4 +1,4 @@
--- What is printed of a session while it goes on.
+-- What is printed for a session while it goes on.
 use Rattle.std.proofs.Common.{◌≡◌, ℕ, ◌+◌, true, Some, List, [], ◌∷◌, ◌++◌, slice_get, refl, sym}
 use Rattle.std.proofs.Common.{ap, ◌∙◌, subst, append-nil, append_assoc}
 use Rattle.std.specs.Prelude.{OnOk}
@@ -25,7 +25,7 @@ use Rattle.wl_check.proofs.SessionByMessage.{open_passed}
 use Rattle.wl_check.proofs.Lines.{lines_more, trace_all, trace_broken, trace_end}
 use Rattle.wl_check.proofs.SessionByPiece.{lines_same, one_more}
 
--- one line more
+-- writing one more line
 pub prints_line : {A : Type 0} (tables : List Interface) (s : Session) (o : Output) (k : ℕ) (call : Call)
     (p : Progress A) (old new : List ℕ) → slice_get (messages tables s) k ≡ Some (Ok call) → IsAt tables s k p
     → new ≡ old ++ wanted o (call_line tables (known_in p.known) call) → PrintsOn tables s o k (k + 1) old new
@@ -35,12 +35,12 @@ prints_line tables s o k call p old new m at new_is earlier old_is =
     ap (λ (x : List ℕ). earlier ++ x) new_is ∙ sym (append_assoc earlier old line) in
     lines_more tables s k o call p (earlier ++ old) (earlier ++ new) m at old_is more
 
--- none
+-- writing no line
 pub prints_none : (tables : List Interface) (s : Session) (o : Output) (k : ℕ) (old new : List ℕ) → new ≡ old
     → PrintsOn tables s o k k old new
 prints_none tables s o k old new same earlier old_is = ap (λ (x : List ℕ). earlier ++ x) same ∙ old_is
 
--- once and again
+-- writing twice
 pub prints_both : (tables : List Interface) (s : Session) (o x : Output) (first then last : ℕ)
     (old between new : List ℕ) → x ≡ o → PrintsOn tables s o first then old between
     → PrintsOn tables s x then last between new → PrintsOn tables s o first last old new
@@ -76,7 +76,7 @@ lines_reach : {A : Type 0} (limit : ℕ) (tables : List Interface) (ps : List Pi
     → lines_within tables (session_of limit ps) s.state.count ≡ trace_of tables (session_of limit ps)
 lines_reach limit tables ps s h = lines_reach_as limit tables ps s s.state.status refl h
 
--- what was written of a piece, where messages were judged up to the ends
+-- what was written for a piece whose messages were judged up to its end
 pub prints_piece : {A : Type 0} (limit : ℕ) (tables : List Interface) (o : Output) (ps : List Piece) (p : Piece)
     (s t : Scanner A) (old new : List ℕ) → IsAfter limit tables ps s → IsAfter limit tables (ps ++ p ∷ []) t
     → PrintsOn tables (session_of limit (ps ++ p ∷ [])) o s.state.count t.state.count old new
@@ -88,7 +88,7 @@ prints_piece limit tables o ps p s t old new h after prints earlier old_is =
     ∙ lines_same tables (session_of limit ps) w s.state.count (one_more limit tables ps p) h.judged.within in
     prints earlier (old_is ∙ ap (wanted o) same) ∙ ap (wanted o) (lines_reach limit tables (ps ++ p ∷ []) t after)
 
--- in the form in which the code has it
+-- the same with the values that the code has
 pub prints_so : {A E : Type 0} (limit : ℕ) (tables : List Interface) (o : Output) (p : Piece) (s t : Scanner A)
     (old new : List ℕ) (r : Result (Unit {0}) E)
     → OnOk r ((ps : List Piece) → IsAfter limit tables ps s → IsAfter limit tables (ps ++ p ∷ []) t)
@@ -99,7 +99,7 @@ prints_so limit tables o p s t old new (Ok x) after prints =
     λ ps h. prints_piece limit tables o ps p s t old new h (after ps h) (prints ps h)
 prints_so limit tables o p s t old new (Err e) after prints = tt
 
--- where nothing was written before a piece, what was written of it are its own lines
+-- if nothing was written before a piece, what was written for it are its own lines
 pub own_lines : (limit : ℕ) (tables : List Interface) (ps : List Piece) (p : Piece) (old new : List ℕ) → old ≡ []
     → PrintsPiece limit tables Lines ps p old new → AreOwnLines limit tables ps p new
 own_lines limit tables ps p old new none prints =
@@ -110,7 +110,7 @@ pub on_ok : {E : Type 0} {X Y : Type 0} (r : Result (Unit {0}) E) → (X → Y) 
 on_ok (Ok x) f a = f a
 on_ok (Err e) f a = tt
 
--- ---- pieces that pass one by one
+-- ---- pieces that pass through an inspector one by one
 
 trace_none : (limit : ℕ) (tables : List Interface) → trace_of tables (session_of limit []) ≡ []
 unfolding merged_within judged_after lines_within
@@ -120,12 +120,12 @@ wanted_none : (o : Output) → [] ≡ wanted o []
 wanted_none Nothing = refl
 wanted_none Lines = refl
 
--- nothing was written of no pieces
+-- nothing was written before the first piece
 pub written_none : (limit : ℕ) (tables : List Interface) (o : Output) (text : List ℕ) → text ≡ []
     → text ≡ wanted o (trace_of tables (session_of limit []))
 written_none limit tables o text none = none ∙ wanted_none o ∙ sym (ap (wanted o) (trace_none limit tables))
 
--- and of one piece more what goes on
+-- one more piece continues the output
 pub written_more : (limit : ℕ) (tables : List Interface) (o x : Output) (ps qs : List Piece) (p : Piece)
     (old new : List ℕ) → x ≡ o → ps ++ p ∷ [] ≡ qs → PrintsPiece limit tables x ps p old new
     → old ≡ wanted o (trace_of tables (session_of limit ps)) → new ≡ wanted o (trace_of tables (session_of limit qs))

@@ -1,4 +1,4 @@
--- A piece whose bytes were appended to those of its direction, and then judged.
+-- A piece: its bytes are appended to those of its direction, then its messages are judged.
 use Rattle.std.proofs.Common.{◌≡◌, ℕ, true, false, List, [], ◌∷◌, ◌++◌, refl, sym, ap, subst, ◌∙◌, append-nil}
 use Rattle.std.specs.Prelude.{Option, Some, None, IfNone, MatchOption, OnOk}
 use Rattle.std.specs.declared.result.Result.{Result}
@@ -22,7 +22,7 @@ use Rattle.wl_check.proofs.SessionByPiece.{after_client, after_server, along_cli
 abbrev scanner : {A : Type 0} → SessionState A → Stream A → Stream A → Scanner A
 scanner c server client = record { state = c; to_server = server; to_client = client }
 
--- a stream that has the bytes and the counts of another
+-- a stream with the bytes and the counts of another
 pub record AreSameBytes {A : Type 0} (stream copy : Stream A) : Type 0 where
   pub bytes : copy.bytes ≡ stream.bytes
   pub len : copy.len ≡ stream.len
@@ -43,7 +43,7 @@ stream_same limit d ps c s t same h = record {
   });
 }
 
--- what comes in no piece changes nothing
+-- without a new piece nothing changes
 pub still_after : {A : Type 0} (limit : ℕ) (tables : List Interface) (ps : List Piece) (c : SessionState A)
     (s t x y : Stream A) → AreSameBytes s t → AreSameBytes x y
     → IsAfter limit tables ps (scanner c s x) → IsAfter limit tables ps (scanner c t y)
@@ -93,7 +93,7 @@ come_client {A = A} limit tables ps p a s is r = record {
   tokens_are = r.appended_is.tokens;
 }
 
--- in the form in which the code has it
+-- the same with the values that the code has
 pub judged_server : {A E : Type 0} (limit : ℕ) (tables : List Interface) (a : Appended) (s : Scanner A)
     (n : SessionState A) (after : Stream A) (r : Result (Unit {0}) E) → a.direction ≡ ToServer
     → OnOk r ((ps : List Piece) (p : Piece) → HasCome limit tables ps p a s.state s.to_server
@@ -144,7 +144,7 @@ judged_client {A = A} limit tables a s n after (Ok x) is along going other = λ 
     still_after limit tables (ps ++ p ∷ []) n b.to_server s.to_server after after server (same_stream after) done
 judged_client {A = A} limit tables a s n after (Err e) is along going other = tt
 
--- and what was written of it
+-- the output for the piece was written
 pub prints_ready : {A E : Type 0} (limit : ℕ) (tables : List Interface) (o : Output) (a : Appended)
     (s t : Scanner A) (old new : List ℕ) (r : Result (Unit {0}) E)
     → OnOk r ((ps : List Piece) (p : Piece) → IsReady limit tables ps p a s

@@ -58,7 +58,7 @@ count_few tables s k p ToClient at = few_counted s k ToClient p.to_client at.to_
 
 -- ---- the next message
 
--- it lies within its stream
+-- the next message is within its stream
 pub message_within : {A : Type 0} (limit : ℕ) (tables : List Interface) (s : Session) (c : SessionState A)
     (f : FramedMessage) (rest : List ℕ) → Comes limit tables s c f rest → is_size limit f.size ≡ true
     → f.start + f.size ≤ length (s.streams f.direction)
@@ -81,7 +81,7 @@ taken_few tables s c ToServer j = let few = few_judged tables s c j in let taken
 taken_few tables s c ToClient j = let few = few_judged tables s c j in let taken = j.at.taken_to_client
     in omega (arith, few, taken)
 
--- what the code finds
+-- what the code finds is the session's next judgement
 pub next_is : {A : Type 0} (limit : ℕ) (tables : List Interface) (s : Session) (c : SessionState A)
     (f : FramedMessage) (rest : List ℕ) (x : Judged) → Comes limit tables s c f rest
     → x ≡ judged_front limit tables (known_in c.progress.known) rest f → slice_get (messages tables s) c.count ≡ Some x
@@ -109,7 +109,7 @@ judged_broken {A} limit tables s c n f rest fault h is n_is =
 
 -- ---- after a message that keeps the rules
 
--- What the code has done then.
+-- What the code did for the message.
 pub record Goes {A : Type 0} (tables : List Interface) (c n : SessionState A) (f : FramedMessage)
     (call : Call) (e : MessageChanges) : Type 0 where
   pub changes_are : e ≡ changes tables call
@@ -223,7 +223,7 @@ judged_end limit tables s c n f rest call e h is good g ends status =
     judged_so limit tables s c n f rest call e h is good g
     (subst (λ (x : SessionStatus). StatusIs tables s (c.count + 1) x) (sym status) last)
 
--- ---- the messages that are cut off bytes
+-- ---- the messages that are cut from bytes
 
 get_at_drop : {X : Type 0} (xs ys : List X) (k : ℕ) (x : X) → drop k xs ≡ x ∷ ys → slice_get xs k ≡ Some x
 get_at_drop [] ys zero x e = absurd (cc e)
@@ -234,7 +234,7 @@ get_at_drop (y ∷ xs) ys (suc k) x e = get_at_drop xs ys k x e
 drop_one_more : {X : Type 0} (xs ys : List X) (k : ℕ) (x : X) → drop k xs ≡ x ∷ ys → drop (k + 1) xs ≡ ys
 drop_one_more xs ys k x e = sym (drop-drop 1 k xs) ∙ ap (λ (l : List _). drop 1 l) e
 
--- what is at the front of the bytes from the place of the next message
+-- The size at the front of the bytes, which begin at the next message.
 pub record InFront (limit : ℕ) (w rest : List ℕ) (p z : ℕ) : Type 0 where
   pub header : 8 ≤ length rest
   pub whole : is_size limit z ≡ true → z ≤ length rest
@@ -373,7 +373,7 @@ all_judged limit tables s c d tokens rest h none =
       };
     }
 
--- a message ended the session, or broke a rule
+-- after a message that ended the session or broke a rule
 pub closed : {A : Type 0} (limit : ℕ) (tables : List Interface) (s : Session) (c : SessionState A)
     (d : Direction) (rest : List ℕ) → IsJudged tables s c → is_going c.status ≡ false
     → AllJudged limit tables s c d rest
@@ -384,6 +384,6 @@ closed limit tables s c d rest judged stopped_is =
       left = λ going. absurd (cc (going, stopped_is));
     }
 
--- the rest of the bytes, as the code lends it
+-- the rest of the bytes, as the code borrows it
 pub rest_is : (s : List ℕ) (p : ℕ) → p ≤ length s → take (length s - p) (drop p s) ≡ drop p s
 rest_is s p within = take_all (length s - p) (drop p s) (omega (arith, length-drop p s))

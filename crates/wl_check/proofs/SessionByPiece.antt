@@ -38,9 +38,9 @@ use Rattle.wl_check.proofs.LongerRecording.{merged_with, messages_more, stream_l
 use Rattle.wl_check.proofs.MergedPiece.{own, same_is}
 use Rattle.wl_check.proofs.JudgedByPlaces.{after_front, changes_at_same, get_front, known_same, length_messages}
 
--- ---- a session that goes on: its first messages stay
+-- ---- a session that is continued keeps its first messages
 
--- One session begins another.
+-- The second session continues the first.
 pub record Begins (tables : List Interface) (s t : Session) : Type 0 where
   pub more : List FramedMessage
   pub frames : t.frames ≡ s.frames ++ more
@@ -152,7 +152,7 @@ judged_more tables s t c b j = record {
   small_to_client = j.small_to_client;
 }
 
--- ---- one piece more
+-- ---- one more piece
 
 front : {X : Type 0} (xs ys : List X) → drop (length xs) (xs ++ ys) ≡ ys
 front [] ys = refl
@@ -170,7 +170,7 @@ own_tokens_of : (ps : List Piece) (p : Piece) → piece_tokens p.direction (ps +
 own_tokens_of ps p = tokens_last p.direction ps p
     ∙ ap (λ (b : Bool). piece_tokens p.direction ps + cond b p.tokens 0) (same_is p.direction)
 
--- what the piece brings is there to be judged
+-- the messages that the piece completes are the next to be judged
 pub follows_piece : {A : Type 0} (limit : ℕ) (tables : List Interface) (ps : List Piece) (p : Piece)
     (c : SessionState A) (stream : Stream A) (len tokens : ℕ) (bytes : List ℕ)
     → Along limit tables p.direction ps c stream → is_going c.status ≡ true → len ≡ stream.len + length p.bytes
@@ -214,7 +214,7 @@ follows_piece limit tables ps p c stream len tokens bytes h going len_is small t
       has_bad_size = ap (λ (x : Cutting). x.has_bad_size) place_is ∙ sym (ap (λ (x : Cutting). x.has_bad_size) all);
     }
 
--- it was judged
+-- the piece was judged
 pub along_piece : {A : Type 0} (limit : ℕ) (tables : List Interface) (ps : List Piece) (p : Piece)
     (c n : SessionState A) (stream after : Stream A) (rest : List ℕ)
     → Along limit tables p.direction ps c stream
@@ -239,7 +239,7 @@ along_piece limit tables ps p c n stream after rest h j len tokens bytes =
       };
     }
 
--- there was nothing to judge any more
+-- the session had ended before the piece
 pub along_closed : {A : Type 0} (limit : ℕ) (tables : List Interface) (ps : List Piece) (p : Piece)
     (c : SessionState A) (stream after : Stream A)
     → Along limit tables p.direction ps c stream → is_going c.status ≡ false → after.len ≡ stream.len + length p.bytes
@@ -438,7 +438,7 @@ pub answers_so : {A : Type 0} (limit : ℕ) (tables : List Interface) (ps : List
     → IsAfter limit tables ps s → IsVerdictOf tables (session_of limit ps) (verdict_of s.state.status s)
 answers_so limit tables ps s h = answers_as limit tables ps s s.state.status refl h
 
--- where the counted messages end is within what came
+-- the counted messages end within the bytes that came
 pub ends_within : {A : Type 0} (limit : ℕ) (tables : List Interface) (ps : List Piece) (s : Scanner A)
     → IsAfter limit tables ps s
     → (s.state.progress.to_server.end ≤ s.to_server.len) × (s.state.progress.to_client.end ≤ s.to_client.len)
@@ -449,7 +449,7 @@ ends_within limit tables ps s h =
     let d = h.to_client.len in
     (omega (arith, a, c), omega (arith, b, d))
 
--- both directions at once, in the form in which the code has it
+-- both directions at once, with the values that the code has
 pub takes_server : {A E : Type 0} (limit : ℕ) (tables : List Interface) (p : Piece) (s : Scanner A)
     (n : SessionState A) (after : Stream A) (r : Result (Unit {0}) E) → p.direction ≡ ToServer
     → OnOk r ((ps : List Piece) → Along limit tables p.direction ps s.state s.to_server

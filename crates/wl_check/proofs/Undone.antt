@@ -1,4 +1,4 @@
--- What was overwritten, put back.
+-- Restoring what was overwritten.
 use Rattle.std.proofs.Common.{◌≡◌, ℕ, Bool, true, false, List, [], ◌∷◌, ◌++◌, length, take}
 use Rattle.std.proofs.Common.{get_or, set, Option, Some, None, refl, sym, ap, ◌∙◌, inl, inr, arith, IsSome}
 use Rattle.std.proofs.lemmas.Bool.{cases_lt}
@@ -13,19 +13,19 @@ use Rattle.wl_check.specs.declared.overwritten.Overwritten.{Overwritten}
 use Rattle.wl_check.specs.declared.overwritten.Overwritten.TheVariants.{Global}
 use Rattle.wl_check.specs.Held.{pair_cmp, put_back, undone, Held}
 
--- the last that was overwritten is put back first
+-- what was overwritten last is restored first
 pub undone_last : (earlier : List Overwritten) (last : Overwritten) (held : Held)
     → undone (earlier ++ last ∷ []) held ≡ undone earlier (put_back last held)
 undone_last [] last held = refl
 undone_last (x ∷ xs) last held = ap (put_back x) (undone_last xs last held)
 
--- in the form in which the code has it: what it overwrote was written down before
+-- the same with the values that the code has: it records what it is about to overwrite
 pub undone_more : (earlier now : List Overwritten) (last : Overwritten) (old new : Held) → now ≡ earlier ++ last ∷ []
     → put_back last new ≡ old → undone now new ≡ undone earlier old
 undone_more earlier now last old new is back =
     ap (λ (l : List Overwritten). undone l new) is ∙ undone_last earlier last new ∙ ap (undone earlier) back
 
--- where nothing was overwritten yet, nothing changes
+-- if nothing was overwritten yet, nothing changes
 pub none_overwritten : (list : List Overwritten) (held : Held) → list ≡ [] → Some (undone list held) ≡ Some held
 none_overwritten list held none = ap (λ (l : List Overwritten). Some (undone l held)) none
 
@@ -39,12 +39,12 @@ slot_same xs more id = elim (cases_lt id (length xs)) [
   | inr past ↦ take-set-le (length xs) (xs ++ more) id (get_or xs id None) past ∙ take_at xs more (length xs) refl
 ]
 
--- also where slots were made for it
+-- restoring a slot, also if slots were added for it
 pub slot_back : {X : Type 0} (xs more : List (Option X)) (id : ℕ) (x : Option X)
     → take (length xs) (set (set (xs ++ more) id x) id (get_or xs id None)) ≡ xs
 slot_back xs more id x = ap (take (length xs)) (set-set (xs ++ more) id x (get_or xs id None)) ∙ slot_same xs more id
 
--- nothing was written yet
+-- restoring a slot that was not overwritten
 pub slot_stays : {X : Type 0} (xs : List (Option X)) (id : ℕ)
     → take (length xs) (set xs id (get_or xs id None)) ≡ xs
 slot_stays xs id = ap (take (length xs)) (set-get_or xs id None) ∙ take_all (length xs) xs (omega arith)
@@ -59,7 +59,7 @@ module _ {K X : Type 0} where
   none_removed_as test e es false is none more =
       rw is (ap (λ (l : List (K × X)). e ∷ l) (more (rw is at none)))
 
-  -- none is there to be taken out
+  -- removing a key that is not there
   pub none_removed : (test : K → Bool) (es : List (K × X)) → lookup test es ≡ None → remove_entry test es ≡ es
   none_removed test [] none = refl
   none_removed test (e ∷ es) none = none_removed_as test e es (test e.0) refl none (none_removed test es)
@@ -71,7 +71,7 @@ module _ {K X : Type 0} where
   none_set_as test e es w false is none more =
       rw is (ap (λ (l : List (K × X)). e ∷ l) (more (rw is at none)))
 
-  -- or to be written over
+  -- overwriting a key that is not there
   pub none_set : (test : K → Bool) (es : List (K × X)) (w : X) → lookup test es ≡ None → set_value test es w ≡ es
   none_set test [] w none = refl
   none_set test (e ∷ es) w none = none_set_as test e es w (test e.0) refl none (none_set test es w)
@@ -85,7 +85,7 @@ module _ {K X : Type 0} where
   put_as cmp k v e es Greater same is none more =
       rw (is, is) (ap (λ (l : List (K × X)). e ∷ l) (more (rw is at none)))
 
-  -- what was put in is taken out
+  -- removing a key that was inserted
   pub put_removed : (cmp : K → K → Ordering) (k : K) (v : X) (es : List (K × X)) → cmp k k ≡ Equal
       → lookup (is_at (cmp k)) es ≡ None → remove_entry (is_at (cmp k)) (insert_entry cmp es k v) ≡ es
   put_removed cmp k v [] same none = rw same refl
@@ -109,7 +109,7 @@ module _ {K X : Type 0} where
       let same : e.0 ∷ keys_of (insert_entry cmp es k w) ≡ e.0 ∷ keys_of es = rw is at keys in
       rw (is, is) (ap (λ (l : List (K × X)). e ∷ l) (more (rw is at some) (cc same)))
 
-  -- what was written over is written again
+  -- restoring a value that was overwritten
   pub set_again : (cmp : K → K → Ordering) (k : K) (v w : X) (es : List (K × X))
       → lookup (is_at (cmp k)) es ≡ Some v → keys_of (insert_entry cmp es k w) ≡ keys_of es
       → set_value (is_at (cmp k)) (insert_entry cmp es k w) v ≡ es
@@ -120,7 +120,7 @@ module _ {K X : Type 0} where
 pub pair_itself : (key : ℕ × ℕ) → pair_cmp key key ≡ Equal
 pair_itself key = rw (tied_itself nat_cmp_total key.0, tied_itself nat_cmp_total key.1) refl
 
--- the version of a global, where it was not put in after all
+-- restoring the version of a global that had none, if none was inserted
 pub put_back_none : (key : ℕ × ℕ) (version : Option ℕ) (objects server : List (Option Entry))
     (old new : List ((ℕ × ℕ) × ℕ))
     → version ≡ lookup (is_at (pair_cmp key)) old → lookup (is_at (pair_cmp key)) old ≡ None → new ≡ old
@@ -133,7 +133,7 @@ put_back_none key version objects server old new found absent same =
       globals = (ap (remove_entry (is_at (pair_cmp key))) same ∙ none_removed (is_at (pair_cmp key)) old absent) i;
     })
 
--- and where it was
+-- the same if one was inserted or overwritten
 pub put_back_global : (key : ℕ × ℕ) (version : Option ℕ) (w : ℕ) (objects server : List (Option Entry))
     (old new : List ((ℕ × ℕ) × ℕ)) → version ≡ lookup (is_at (pair_cmp key)) old → new ≡ insert_entry pair_cmp old key w
     → (IsSome version → keys_of new ≡ keys_of old)

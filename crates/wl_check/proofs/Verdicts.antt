@@ -9,7 +9,7 @@ use Rattle.wl_check.specs.declared.verdict.Verdict.{Verdict}
 use Rattle.wl_check.specs.declared.verdict.Verdict.TheVariants.{Lawful, Broken}
 use Rattle.wl_check.specs.Session.{Session, IsVerdictOf, Breaks, breaks, count_in}
 
--- two least places that break a rule are one
+-- there is only one first place that breaks a rule
 place_once : (tables : List Interface) (s : Session) (p q : ℕ) (f g : Fault) → Breaks tables s p f → Breaks tables s q g
     → ((e : ℕ) → e < p → breaks tables s e ≡ None)
     → ((e : ℕ) → e < q → breaks tables s e ≡ None) → (b c : Bool) → nat_lt p q ≡ b → nat_lt q p ≡ c → p ≡ q

@@ -30,7 +30,7 @@ second_apart Less x y apart = refl
 second_apart Equal x y apart = rw (ne_eqb x y apart) (unequal_last (nat_lt x y))
 second_apart Greater x y apart = refl
 
--- w is put in at the global's key
+-- w is inserted at the global's key
 pub version_more : (global : AdvertisedGlobal) (old new : List ((ℕ × ℕ) × ℕ)) (q : ℕ × ℕ) (w : ℕ)
     → w ≡ max global.version (unwrap_or (lookup (is_at (pair_cmp (global.name, global.iface.0))) old) 0)
     → lookup (is_at (pair_cmp q)) new ≡ cond (is_at (pair_cmp (global.name, global.iface.0)) q) (Some w)
@@ -59,7 +59,7 @@ version_more global old new q w w_is now = elim (cases_eq global.name q.0) [
       rw (ne_eqb global.name q.0 a) (ap (λ o. unwrap_or o 0) found)
 ]
 
--- no version is greater with it, where one as great was advertised before
+-- nothing changes if a version at least as great was advertised before
 pub version_same : (global : AdvertisedGlobal) (old : List ((ℕ × ℕ) × ℕ)) (q : ℕ × ℕ)
     → global.version ≤ unwrap_or (lookup (is_at (pair_cmp (global.name, global.iface.0))) old) 0
     → unwrap_or (lookup (is_at (pair_cmp q)) old) 0

@@ -1,4 +1,4 @@
--- Each message lies within its stream.
+-- Each message is within its stream.
 use Rattle.std.proofs.Common.{◌≡◌, ℕ, zero, suc, ◌+◌, ◌≤◌, true, cond, Some, None, List, [], ◌∷◌}
 use Rattle.std.proofs.Common.{◌++◌, slice_get, length, take, drop, map, refl, ap, arith, subst}
 use Rattle.std.proofs.Common.{length-append}

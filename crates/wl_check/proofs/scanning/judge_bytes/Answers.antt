@@ -5,7 +5,7 @@ use Rattle.wl_check.specs.SessionState.{AllJudged, CutFollows}
 use Rattle.wl_check.proofs.SessionByMessage.{rest_is}
 use Rattle.wl_check.proofs.scanning.judge_bytes.Goals as goal
 
--- where none waited, the bytes from a place on are left
+-- if none waited, the bytes from the place on are left
 left_is : (none left bytes : List ℕ) (place : ℕ) → place ≤ length bytes → none ≡ []
     → left ≡ none ++ take (length bytes - place) (drop place bytes) → left ≡ drop place bytes
 left_is none left bytes place within empty is =

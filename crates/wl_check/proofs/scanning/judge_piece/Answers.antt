@@ -15,8 +15,7 @@ use Rattle.wl_check.proofs.scanning.judge_piece.Goals as goal
 use Rattle.wl_check.proofs.scanning.judge_piece.Goals.{in-Off+in_ok-judge_bytes-in-Off}
 use Rattle.wl_check.proofs.scanning.judge_piece.Goals.{in-On+in_ok-judge_or_go_back-in-On}
 
--- Where writing went on, it did so in other words for how many messages there are now and for what
--- was written of them.
+-- The same continuation of writing, with equal values for the number of messages and the output.
 prints_same : (tables : List Interface) (s : Session) (output : Output) (before : ℕ) (old : List ℕ)
     (after n : ℕ) (new text : List ℕ) → after ≡ n → new ≡ text
     → PrintsOn tables s output before after old new → PrintsOn tables s output before n old text

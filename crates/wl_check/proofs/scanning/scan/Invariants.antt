@@ -5,7 +5,7 @@ use Rattle.wl_check.specs.SessionState.{IsAfter}
 use Rattle.wl_check.specs.Trace.{trace_of, wanted}
 use Rattle.wl_check.proofs.scanning.scan.Given as goal
 
--- the messages of the pieces so far were judged, and what is wanted of them was written
+-- the messages of the pieces so far were judged, and the wanted output for them was written
 abbrev pub invariant-pieces : goal.invariant-pieces
 invariant-pieces g l = record {
   after : IsAfter l.fn.limit.bytes l.tables (take l.piece-index (map recorded_piece l.pieces)) l.scanner;

@@ -6,7 +6,8 @@ use Rattle.wl_check.specs.SessionState.{IsAfter}
 use Rattle.wl_check.specs.Trace.{trace_of, wanted}
 use Rattle.wl_check.proofs.scanning.scan_text.Given as goal
 
--- the lines so far tell pieces, whose messages were judged, and what is wanted of these was written
+-- The lines so far are those of pieces. Their messages were judged, and the wanted output for these
+-- was written.
 abbrev pub invariant-pieces : goal.invariant-pieces
 invariant-pieces g l = (pieces : List Piece) × IsReadUpTo l.text l.reader.rest.now l.reader.number pieces
     × IsAfter l.fn.limit.bytes l.tables pieces l.scanner

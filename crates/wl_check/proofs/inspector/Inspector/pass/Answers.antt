@@ -18,7 +18,7 @@ abbrev with_scanner : {A : Type 0} (i : Inspector A) (s : Scanner A)
 with_scanner i s begun =
     record { tables = i.tables; limit = i.limit; scanner = s; lines = i.lines; begun = begun }
 
--- that there are pieces is known in one way alone
+-- two proofs that the scanner is after some pieces are the same
 same_inspector : {A : Type 0} (i : Inspector A) (s : Scanner A)
     (begun : ∥ ((ps : List Piece) × IsAfter i.limit.bytes i.tables.now ps s) ∥₁) → s ≡ i.scanner
     → with_scanner i s begun ≡ i

@@ -7,8 +7,8 @@ use Rattle.wl_check.specs.Printed.{PrintsOn}
 use Rattle.wl_check.specs.Session.{Session}
 use Rattle.wl_check.proofs.session_state.SessionState.judge_all.Given as goal
 
--- what is left of the bytes is what the session has after the messages so far, whose lines were
--- written
+-- The remaining bytes are those of the session after the messages so far. The lines of these
+-- messages were written.
 abbrev pub invariant-messages : goal.invariant-messages
 invariant-messages g l = record {
   within : l.place ≤ length l.bytes;
