@@ -1,6 +1,6 @@
 -- The state of a client: an end, and the globals that were announced to it.
-use Rattle.std.specs.Prelude.{◌≡◌, ℕ, Bool, nat_eq, List, [], Option, None}
-use Rattle.std.specs.List.{find}
+use Rattle.std.specs.Prelude.{◌≡◌, ◌≤◌, ℕ, Bool, nat_eq, List, [], Option, None}
+use Rattle.std.specs.List.{All, find}
 use Rattle.wl_sigs.specs.Tables.{Interface}
 use Rattle.wl_message.specs.declared.amounts.Sizes.{Sizes}
 use Rattle.wl_object_map.specs.declared.object.Object.{Object}
@@ -24,6 +24,10 @@ is_named name global = nat_eq global.name name
 -- the remembered global with a name
 abbrev pub global_of : List Global → ℕ → Option Global
 global_of globals name = find (is_named name) globals
+
+-- no global has a greater name than this
+abbrev pub AreNamedUpTo : ℕ → List Global → Type 0
+AreNamedUpTo greatest globals = All (λ global. global.name ≤ greatest) globals
 
 abbrev pub new_state : List Interface → Sizes → State
 new_state tables sizes =

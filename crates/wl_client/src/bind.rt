@@ -17,7 +17,7 @@ impl<'t, T: Table> Client<'t, T> {
     pub fn remembers(&self, name: u32) -> bool
         ensures { result ≡ is_some (global_of self.now.globals name) }
     {
-        self.kept.globals.get(name).is_some()
+        self.kept.globals.has(name)
     }
 
     /// Binds an announced global, by its name and interface, and returns the new object, which has

@@ -1,5 +1,6 @@
 //! The globals that were announced to a client.
 ghost use Rattle.std.specs.Prelude.{◌≡◌, ◌<◌, ◌≤◌, [], ◌∷◌, ◌++◌, IfOk, length, map, if◌then◌else◌};
+ghost use Rattle.std.specs.Prelude.{is_some};
 ghost use Rattle.wl_client.specs.State.{global_of, is_named};
 ghost use Rattle.wl_client.specs.Reports.{forgotten, with_replaced, remembered};
 ghost use Rattle.wl_client.specs.Steps.{with_global_change};
@@ -25,16 +26,19 @@ pub struct Global {
 /// The globals that a client remembers, no name twice, in the order in which their names were
 /// announced.
 ///
+/// Names nearly always rise: a name greater than `greatest` is known to be new without a search.
 /// `new` allocates all memory.
 #[derive(Drop)]
 pub(crate) struct Remembered<A: Allocator> {
     items: Vec<Global, A>,
+    /// The greatest name that was ever remembered; 0 before the first.
+    greatest: u32,
 }
 
 impl<A: Allocator> Model for Remembered<A> {
     ghost use Rattle.std.specs.Prelude.{List, ◌≤◌, length, vec_capacity};
     ghost use Rattle.wl_connection.specs.Core.{max_globals};
-    ghost use Rattle.wl_client.specs.State.{Global};
+    ghost use Rattle.wl_client.specs.State.{AreNamedUpTo, Global};
 
     ghost Value = { List Global };
 
@@ -43,6 +47,7 @@ impl<A: Allocator> Model for Remembered<A> {
     ghost invariant = { λ r. record {
       few : length r.items.items ≤ max_globals;
       reserved : max_globals ≤ vec_capacity r.items;
+      named : AreNamedUpTo r.greatest r.items.items;
     } };
 }
 
@@ -53,6 +58,7 @@ impl<A: Allocator> Remembered<A> {
     {
         Ok(Remembered {
             items: Vec::with_capacity(alloc, MAX_GLOBALS)?,
+            greatest: 0,
         })
     }
 
@@ -63,11 +69,27 @@ impl<A: Allocator> Remembered<A> {
         global_of(self.items.as_slice(), name)
     }
 
+    /// Whether a global with this name is remembered. Only a name that is neither that of the last
+    /// global nor greater than all takes a search.
+    pub(crate) fn has(&self, name: u32) -> bool
+        ensures { result ≡ is_some (global_of self.now name) }
+    {
+        if self.greatest < name {
+            return false;
+        }
+        match self.items.last() {
+            Some(last) if last.name == name => true,
+            _ => global_of(self.items.as_slice(), name).is_some(),
+        }
+    }
+
     /// Removes the global with a name.
     pub(crate) fn forget(&mut self, name: u32)
         ensures { self.new ≡ forgotten name self.old }
     {
-        self.items.retain(|global| global.name != name);
+        if name <= self.greatest {
+            self.items.retain(|global| global.name != name);
+        }
     }
 
     /// Changes what is remembered, as an event says.
@@ -85,9 +107,10 @@ impl<A: Allocator> Remembered<A> {
     pub(crate) fn remember(&mut self, global: Global)
         ensures { self.new ≡ remembered global self.old }
     {
-        if global_of(self.items.as_slice(), global.name).is_some() {
+        if self.has(global.name) {
             replace(&mut self.items, global);
         } else if self.items.len() < MAX_GLOBALS {
+            self.greatest = self.greatest.max(global.name);
             self.items.push_reserved(global);
         }
     }
