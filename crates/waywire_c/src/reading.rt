@@ -15,7 +15,7 @@ ghost use Rattle.waywire_c.specs.Reports.{entry_told, entry_told_by, event_entry
 ghost use Rattle.waywire_c.specs.Reports.{told_event, told_request};
 
 use crate::held::HeldEnd;
-use crate::reports::{Report, global_told, incoming, nothing, request, unread};
+use crate::reports::{Report, global_told, nothing, put_incoming, request, unread};
 use crate::statuses::{OK, next_status};
 use crate::values::{CObject, ReportArg};
 use wl_client::Client;
@@ -63,8 +63,8 @@ fn read_event<'t>(
 {
     match client.next_with_entry() {
         Ok(Some(read)) => {
+            put_incoming(read, args, report);
             let global = global_told(read);
-            *report = incoming(read, args);
             if let Some(object) = client.replaced() {
                 report.replaced = CObject::of(object);
             }

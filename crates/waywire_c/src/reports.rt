@@ -1,10 +1,12 @@
 //! Reports as C has them.
-ghost use Rattle.std.specs.Prelude.{◌≡◌, min, length, None, Some};
+ghost use Rattle.std.specs.Prelude.{◌≡◌, min, length, true, Option, None, Some};
+ghost use Rattle.wl_object_map.specs.declared.object.Entry.{Entry};
 ghost use Rattle.wl_objects.specs.Parsed.{seen_args};
 ghost use Rattle.wl_client.specs.Outlines.{lent_report as lent_event};
 ghost use Rattle.wl_server.specs.Seen.{lent_report as lent_request};
 ghost use Rattle.waywire_c.specs.Reports.{args_of_event, told_global_name, of_kind, TellsArgs};
 ghost use Rattle.waywire_c.specs.Reports.{told_by, entry_told, entry_told_by, told_incoming};
+ghost use Rattle.waywire_c.specs.Reports.{is_registry_entry};
 ghost use Rattle.waywire_c.specs.Reports.{told_message, told_unread};
 
 use crate::statuses::{fault_place, fault_spelling};
@@ -156,16 +158,25 @@ pub fn request(read: &mut RequestWithEntry<'_>, slots: &mut [ReportArg]) -> Repo
 pub fn global_told(read: IncomingWithEntry<'_>) -> Option<u32>
     ensures { result ≡ told_global_name read.entry.entry (lent_event read.entry.incoming) }
 {
-    let Incoming::Event {
-        opcode,
-        mut args,
-        ..
-    } = read.incoming
-    else {
-        return None;
-    };
     match read.entry {
-        Some(entry) if entry.iface == REGISTRY && opcode == GLOBAL => match args.next() {
+        Some(entry) if entry.iface == REGISTRY => name_told(read.incoming),
+        _ => None,
+    }
+}
+
+/// The name in an event of a registry, if it is wl_registry.global. It is kept apart from the other
+/// events, which need none of it.
+#[inline(never)]
+fn name_told(read: Incoming<'_>) -> Option<u32>
+    ensures { (entry : Option Entry) → is_registry_entry entry ≡ true
+        → result ≡ told_global_name entry (lent_event read.entry) }
+{
+    match read {
+        Incoming::Event {
+            opcode,
+            mut args,
+            ..
+        } if opcode == GLOBAL => match args.next() {
             Some(GotRef::Uint(name)) => Some(name),
             _ => None,
         },
@@ -173,22 +184,28 @@ pub fn global_told(read: IncomingWithEntry<'_>) -> Option<u32>
     }
 }
 
-/// The report of what a client read, with the entry of the object that it is about.
+/// Writes the report of what a client read, with the entry of the object that it is about.
 #[inline(always)]
-pub fn incoming(read: IncomingWithEntry<'_>, slots: &mut [ReportArg]) -> Report
-    ensures report { told_by result
+pub fn put_incoming(read: IncomingWithEntry<'_>, slots: &mut [ReportArg], report: &mut Report)
+    ensures report { told_by report.new
         ≡ told_incoming (length slots.old) (lent_event read.entry.incoming) }
-    ensures entry { entry_told_by result ≡ entry_told read.entry.entry }
+    ensures entry { entry_told_by report.new ≡ entry_told read.entry.entry }
     ensures args { TellsArgs (args_of_event (lent_event read.entry.incoming)) slots.old slots.new }
 {
-    with_entry(event(read.incoming, slots), read.entry)
+    put_event(read.incoming, slots, report);
+    if let Some(entry) = read.entry {
+        report.interface = entry.iface.0;
+        report.version = entry.version;
+    }
 }
 
-/// The report of what a client read.
+/// Writes the report of what a client read, case by case: a report that is returned would go
+/// through registers that the cases share.
 #[inline(always)]
-fn event(read: Incoming<'_>, slots: &mut [ReportArg]) -> Report
-    ensures report { told_by result
+fn put_event(read: Incoming<'_>, slots: &mut [ReportArg], report: &mut Report)
+    ensures report { told_by report.new
         ≡ told_incoming (length slots.old) (lent_event read.entry) }
+    ensures entry { entry_told_by report.new ≡ entry_told None }
     ensures args { TellsArgs (args_of_event (lent_event read.entry)) slots.old slots.new }
 {
     match read {
@@ -196,28 +213,34 @@ fn event(read: Incoming<'_>, slots: &mut [ReportArg]) -> Report
             target,
             opcode,
             mut args,
-        } => Report {
-            opcode: u32::from(opcode),
-            target: CObject::of(target),
-            arg_count: put_shown(&mut args, slots),
-            ..plain(MESSAGE)
-        },
+        } => {
+            *report = Report {
+                opcode: u32::from(opcode),
+                target: CObject::of(target),
+                arg_count: put_shown(&mut args, slots),
+                ..plain(MESSAGE)
+            };
+        }
         Incoming::Discarded {
             target,
             opcode,
             tokens,
-        } => Report {
-            opcode: u32::from(opcode),
-            target: CObject::of(target),
-            tokens: start_of_tokens(tokens),
-            token_count: tokens.len(),
-            ..plain(DISCARDED)
-        },
-        Incoming::Deleted { object } => Report {
-            target: CObject::of(object),
-            ..plain(DELETED)
-        },
-        Incoming::Stray { id } => Report { id, ..plain(STRAY) },
+        } => {
+            *report = Report {
+                opcode: u32::from(opcode),
+                target: CObject::of(target),
+                tokens: start_of_tokens(tokens),
+                token_count: tokens.len(),
+                ..plain(DISCARDED)
+            };
+        }
+        Incoming::Deleted { object } => {
+            *report = Report {
+                target: CObject::of(object),
+                ..plain(DELETED)
+            };
+        }
+        Incoming::Stray { id } => *report = Report { id, ..plain(STRAY) },
         Incoming::Error {
             id,
             named: object,
@@ -225,7 +248,7 @@ fn event(read: Incoming<'_>, slots: &mut [ReportArg]) -> Report
             text,
         } => {
             let about = named(object);
-            Report {
+            *report = Report {
                 id,
                 code,
                 named: about.kind,
@@ -233,7 +256,7 @@ fn event(read: Incoming<'_>, slots: &mut [ReportArg]) -> Report
                 text: start_of_text(text),
                 text_length: text.len(),
                 ..plain(ERROR)
-            }
+            };
         }
     }
 }
