@@ -7,7 +7,7 @@ ghost use Rattle.wl_check.specs.SessionState.{IsAfter};
 use crate::frames::LentPiece;
 use crate::overwritten::UndoList;
 use crate::scanning::Scanner;
-use crate::session_state::{Journal, Output, Rules, Sink};
+use crate::session_state::{Journal, Output, Protocol, Sink};
 use crate::verdict::Verdict;
 use std::alloc::{AllocError, Allocator, Global};
 use wl_message::Limit;
@@ -81,11 +81,11 @@ impl<'t, A: Allocator + Clone> Inspector<'t, A> {
             bytes,
             tokens,
         };
-        let rules = Rules {
+        let protocol = Protocol {
             tables: self.tables,
             limit: self.limit,
         };
-        self.scanner.judge(&piece, &rules, &mut journal)?;
+        self.scanner.judge(&piece, &protocol, &mut journal)?;
         self.lines = journal.sink.text;
         Ok(())
     }

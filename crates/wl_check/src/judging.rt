@@ -16,7 +16,7 @@ ghost use Rattle.wl_check.specs.Trace.{judged_line, wanted};
 use crate::changes::{AdvertisedGlobal, MessageChanges};
 use crate::frames::FramedMessage;
 use crate::known::{KnownState, ReaderLookup};
-use crate::session_state::{Output, Rules, Sink};
+use crate::session_state::{Output, Protocol, Sink};
 use std::alloc::{AllocError, Allocator};
 use wl_objects::{
     Fault, NewObject, ParsedArgs, REGISTRY, Received, Values, is_bind, is_delete_id,
@@ -47,34 +47,34 @@ pub(crate) fn side_of(direction: Direction) -> Side
 /// arguments are read over those of the message before.
 pub(crate) fn judge<A: Allocator>(
     args: &mut ParsedArgs,
-    rules: &Rules<'_>,
+    protocol: &Protocol<'_>,
     known: &KnownState<A>,
     bytes: &[u8],
     frame: &FramedMessage,
     sink: &mut Sink<A>,
 ) -> Result<Result<MessageChanges, Fault>, AllocError>
-    requires valid { Valid rules.now.tables.now }
+    requires valid { Valid protocol.now.tables.now }
     requires header { 8 ≤ length bytes.now }
-    requires whole { is_size rules.now.limit.bytes frame.now.size ≡ true
+    requires whole { is_size protocol.now.limit.bytes frame.now.size ≡ true
         → frame.now.size ≤ length bytes.now }
     requires taken { taken_of_direction known.now frame.now.direction < 2 ^ 127 }
-    ensures changes { IfOk result (λ r. r ≡ changes_in rules.now.tables.now
-        (judged_front rules.now.limit.bytes rules.now.tables.now (known_in known.now) bytes.now
-        frame.now)) }
+    ensures changes { IfOk result (λ r. r ≡ changes_in protocol.now.tables.now
+        (judged_front protocol.now.limit.bytes protocol.now.tables.now (known_in known.now)
+        bytes.now frame.now)) }
     ensures text { OnOk result (sink.new.text.items ≡ sink.old.text.items
-        ++ wanted sink.old.output (judged_line rules.now.tables.now (known_in known.now)
-        (Some (judged_front rules.now.limit.bytes rules.now.tables.now (known_in known.now)
+        ++ wanted sink.old.output (judged_line protocol.now.tables.now (known_in known.now)
+        (Some (judged_front protocol.now.limit.bytes protocol.now.tables.now (known_in known.now)
         bytes.now frame.now)))) }
     ensures output { sink.new.output ≡ sink.old.output }
 {
-    if !rules.limit.allows(frame.size) {
+    if !protocol.limit.allows(frame.size) {
         return Ok(Err(Fault::BadSize));
     }
     let whole = WholeMessage {
         header: Header::at_front_of(bytes),
         body: &bytes[8..frame.size as usize],
     };
-    judge_message(args, rules.tables, known, frame, &whole, sink)
+    judge_message(args, protocol.tables, known, frame, &whole, sink)
 }
 
 /// The header of a message, and the bytes after it.

@@ -17,7 +17,7 @@ ghost use Rattle.wl_check.specs.Trace.{trace_of, wanted};
 
 use crate::frames::{LentPiece, Stream, WaitingBytes, append_next, empty_stream};
 use crate::overwritten::UndoList;
-use crate::session_state::{Journal, Output, Rules, SessionState, SessionStatus, Sink};
+use crate::session_state::{Journal, Output, Protocol, SessionState, SessionStatus, Sink};
 use crate::verdict::Verdict;
 use std::alloc::{AllocError, Allocator, Global};
 use wl_message::Limit;
@@ -42,21 +42,22 @@ fn judge_bytes<A: Allocator + Clone>(
     waiting: &mut WaitingBytes<A>,
     piece: &LentPiece<'_>,
     tokens: u128,
-    rules: &Rules<'_>,
+    protocol: &Protocol<'_>,
     journal: &mut Journal<A>,
 ) -> Result<(), AllocError>
-    requires valid { Valid rules.now.tables.now }
-    requires follows { ∥ ((s : Session) × CutFollows rules.now.limit.bytes rules.now.tables.now s
-        state.old piece.now.direction tokens (waiting.old ++ piece.now.bytes.now)) ∥₁ }
+    requires valid { Valid protocol.now.tables.now }
+    requires follows { ∥ ((s : Session) × CutFollows protocol.now.limit.bytes
+        protocol.now.tables.now s state.old piece.now.direction tokens (waiting.old ++
+        piece.now.bytes.now)) ∥₁ }
     ensures judged { OnOk result ((s : Session)
-        → CutFollows rules.now.limit.bytes rules.now.tables.now s state.old piece.now.direction
-        tokens (waiting.old ++ piece.now.bytes.now)
-        → AllJudged rules.now.limit.bytes rules.now.tables.now s state.new piece.now.direction
+        → CutFollows protocol.now.limit.bytes protocol.now.tables.now s state.old
+        piece.now.direction tokens (waiting.old ++ piece.now.bytes.now)
+        → AllJudged protocol.now.limit.bytes protocol.now.tables.now s state.new piece.now.direction
         waiting.new) }
     ensures lines { OnOk result ((s : Session)
-        → CutFollows rules.now.limit.bytes rules.now.tables.now s state.old piece.now.direction
-        tokens (waiting.old ++ piece.now.bytes.now)
-        → PrintsOn rules.now.tables.now s journal.old.sink.output state.old.count state.new.count
+        → CutFollows protocol.now.limit.bytes protocol.now.tables.now s state.old
+        piece.now.direction tokens (waiting.old ++ piece.now.bytes.now)
+        → PrintsOn protocol.now.tables.now s journal.old.sink.output state.old.count state.new.count
         journal.old.sink.text.items journal.new.sink.text.items) }
     ensures other { OnOk result (OthersStay piece.now.direction state.old state.new) }
     ensures output { journal.new.sink.output ≡ journal.old.sink.output }
@@ -65,14 +66,20 @@ fn judge_bytes<A: Allocator + Clone>(
     ensures waiting { OnErr result (take (length waiting.old) waiting.new ≡ waiting.old) }
 {
     if waiting.len() == 0 {
-        let place = state.judge_all(piece.bytes, piece.direction, tokens, rules, journal)?;
+        let place = state.judge_all(piece.bytes, piece.direction, tokens, protocol, journal)?;
         if place < piece.bytes.len() {
             waiting.append(&piece.bytes[place..])?;
         }
         return Ok(());
     }
     waiting.append(piece.bytes)?;
-    let place = state.judge_all(waiting.as_slice(), piece.direction, tokens, rules, journal)?;
+    let place = state.judge_all(
+        waiting.as_slice(),
+        piece.direction,
+        tokens,
+        protocol,
+        journal,
+    )?;
     waiting.keep_from(place);
     Ok(())
 }
@@ -83,21 +90,22 @@ fn judge_or_go_back<A: Allocator + Clone>(
     waiting: &mut WaitingBytes<A>,
     piece: &LentPiece<'_>,
     tokens: u128,
-    rules: &Rules<'_>,
+    protocol: &Protocol<'_>,
     journal: &mut Journal<A>,
 ) -> Result<(), AllocError>
-    requires valid { Valid rules.now.tables.now }
-    requires follows { ∥ ((s : Session) × CutFollows rules.now.limit.bytes rules.now.tables.now s
-        state.old piece.now.direction tokens (waiting.old ++ piece.now.bytes.now)) ∥₁ }
+    requires valid { Valid protocol.now.tables.now }
+    requires follows { ∥ ((s : Session) × CutFollows protocol.now.limit.bytes
+        protocol.now.tables.now s state.old piece.now.direction tokens (waiting.old ++
+        piece.now.bytes.now)) ∥₁ }
     ensures judged { OnOk result ((s : Session)
-        → CutFollows rules.now.limit.bytes rules.now.tables.now s state.old piece.now.direction
-        tokens (waiting.old ++ piece.now.bytes.now)
-        → AllJudged rules.now.limit.bytes rules.now.tables.now s state.new piece.now.direction
+        → CutFollows protocol.now.limit.bytes protocol.now.tables.now s state.old
+        piece.now.direction tokens (waiting.old ++ piece.now.bytes.now)
+        → AllJudged protocol.now.limit.bytes protocol.now.tables.now s state.new piece.now.direction
         waiting.new) }
     ensures lines { OnOk result ((s : Session)
-        → CutFollows rules.now.limit.bytes rules.now.tables.now s state.old piece.now.direction
-        tokens (waiting.old ++ piece.now.bytes.now)
-        → PrintsOn rules.now.tables.now s journal.old.sink.output state.old.count state.new.count
+        → CutFollows protocol.now.limit.bytes protocol.now.tables.now s state.old
+        piece.now.direction tokens (waiting.old ++ piece.now.bytes.now)
+        → PrintsOn protocol.now.tables.now s journal.old.sink.output state.old.count state.new.count
         journal.old.sink.text.items journal.new.sink.text.items) }
     ensures other { OnOk result (OthersStay piece.now.direction state.old state.new) }
     ensures output { journal.new.sink.output ≡ journal.old.sink.output }
@@ -107,7 +115,7 @@ fn judge_or_go_back<A: Allocator + Clone>(
 {
     let numbers = state.numbers();
     let len = waiting.len();
-    match judge_bytes(state, waiting, piece, tokens, rules, journal) {
+    match judge_bytes(state, waiting, piece, tokens, protocol, journal) {
         Ok(()) => Ok(()),
         Err(error) => {
             state.go_back(numbers, &mut journal.undo);
@@ -124,23 +132,24 @@ fn judge_piece<A: Allocator + Clone>(
     state: &mut SessionState<A>,
     stream: &mut Stream<A>,
     piece: &LentPiece<'_>,
-    rules: &Rules<'_>,
+    protocol: &Protocol<'_>,
     journal: &mut Journal<A>,
 ) -> Result<(), AllocError>
-    requires valid { Valid rules.now.tables.now }
-    requires along { ∥ ((ps : List Piece) × Along rules.now.limit.bytes rules.now.tables.now
+    requires valid { Valid protocol.now.tables.now }
+    requires along { ∥ ((ps : List Piece) × Along protocol.now.limit.bytes protocol.now.tables.now
         piece.now.direction ps state.old stream.old) ∥₁ }
     ensures along { OnOk result ((ps : List Piece)
-        → Along rules.now.limit.bytes rules.now.tables.now piece.now.direction ps state.old
+        → Along protocol.now.limit.bytes protocol.now.tables.now piece.now.direction ps state.old
         stream.old
-        → Along rules.now.limit.bytes rules.now.tables.now piece.now.direction
+        → Along protocol.now.limit.bytes protocol.now.tables.now piece.now.direction
         (ps ++ piece_in piece.now ∷ []) state.new stream.new) }
     ensures lines { OnOk result ((ps : List Piece)
-        → Along rules.now.limit.bytes rules.now.tables.now piece.now.direction ps state.old
+        → Along protocol.now.limit.bytes protocol.now.tables.now piece.now.direction ps state.old
         stream.old
-        → PrintsOn rules.now.tables.now
-        (session_of rules.now.limit.bytes (ps ++ piece_in piece.now ∷ [])) journal.old.sink.output
-        state.old.count state.new.count journal.old.sink.text.items journal.new.sink.text.items) }
+        → PrintsOn protocol.now.tables.now
+        (session_of protocol.now.limit.bytes (ps ++ piece_in piece.now ∷ []))
+        journal.old.sink.output state.old.count state.new.count journal.old.sink.text.items
+        journal.new.sink.text.items) }
     ensures going { OnOk result (is_going state.new.status ≡ true
         → is_going state.old.status ≡ true) }
     ensures other { OnOk result (OthersStay piece.now.direction state.old state.new) }
@@ -165,8 +174,8 @@ fn judge_piece<A: Allocator + Clone>(
     let waiting = &mut stream.bytes;
     match journal.undo {
         // Nothing will be restored, so nothing is recorded for that.
-        UndoList::Off => judge_bytes(state, waiting, piece, tokens, rules, journal)?,
-        UndoList::On(_) => judge_or_go_back(state, waiting, piece, tokens, rules, journal)?,
+        UndoList::Off => judge_bytes(state, waiting, piece, tokens, protocol, journal)?,
+        UndoList::On(_) => judge_or_go_back(state, waiting, piece, tokens, protocol, journal)?,
     }
     stream.len = len;
     stream.tokens = tokens;
@@ -179,20 +188,22 @@ fn judge_waiting<A: Allocator + Clone>(
     state: &mut SessionState<A>,
     stream: &mut Stream<A>,
     piece: &Appended,
-    rules: &Rules<'_>,
+    protocol: &Protocol<'_>,
     journal: &mut Journal<A>,
 ) -> Result<(), AllocError>
-    requires valid { Valid rules.now.tables.now }
+    requires valid { Valid protocol.now.tables.now }
     requires come { ∥ ((ps : List Piece) × (p : Piece)
-        × HasCome rules.now.limit.bytes rules.now.tables.now ps p piece.now state.old
+        × HasCome protocol.now.limit.bytes protocol.now.tables.now ps p piece.now state.old
         stream.old) ∥₁ }
     ensures along { OnOk result ((ps : List Piece) (p : Piece)
-        → HasCome rules.now.limit.bytes rules.now.tables.now ps p piece.now state.old stream.old
-        → Along rules.now.limit.bytes rules.now.tables.now p.direction (ps ++ p ∷ []) state.new
-        stream.new) }
+        → HasCome protocol.now.limit.bytes protocol.now.tables.now ps p piece.now state.old
+        stream.old
+        → Along protocol.now.limit.bytes protocol.now.tables.now p.direction (ps ++ p ∷ [])
+        state.new stream.new) }
     ensures lines { OnOk result ((ps : List Piece) (p : Piece)
-        → HasCome rules.now.limit.bytes rules.now.tables.now ps p piece.now state.old stream.old
-        → PrintsOn rules.now.tables.now (session_of rules.now.limit.bytes (ps ++ p ∷ []))
+        → HasCome protocol.now.limit.bytes protocol.now.tables.now ps p piece.now state.old
+        stream.old
+        → PrintsOn protocol.now.tables.now (session_of protocol.now.limit.bytes (ps ++ p ∷ []))
         journal.old.sink.output state.old.count state.new.count journal.old.sink.text.items
         journal.new.sink.text.items) }
     ensures going { OnOk result (is_going state.new.status ≡ true
@@ -214,7 +225,7 @@ fn judge_waiting<A: Allocator + Clone>(
         return Ok(());
     }
     let waiting = stream.bytes.as_slice();
-    let place = state.judge_all(waiting, piece.direction, tokens, rules, journal)?;
+    let place = state.judge_all(waiting, piece.direction, tokens, protocol, journal)?;
     stream.bytes.remove_front(place);
     Ok(())
 }
@@ -237,30 +248,42 @@ impl<A: Allocator + Clone> Scanner<A> {
     pub(crate) fn judge(
         &mut self,
         piece: &LentPiece<'_>,
-        rules: &Rules<'_>,
+        protocol: &Protocol<'_>,
         journal: &mut Journal<A>,
     ) -> Result<(), AllocError>
-        requires valid { Valid rules.now.tables.now }
+        requires valid { Valid protocol.now.tables.now }
         requires after { ∥ ((ps : List Piece)
-            × IsAfter rules.now.limit.bytes rules.now.tables.now ps self.old) ∥₁ }
+            × IsAfter protocol.now.limit.bytes protocol.now.tables.now ps self.old) ∥₁ }
         ensures after { OnOk result ((ps : List Piece)
-            → IsAfter rules.now.limit.bytes rules.now.tables.now ps self.old
-            → IsAfter rules.now.limit.bytes rules.now.tables.now (ps ++ piece_in piece.now ∷ [])
-            self.new) }
+            → IsAfter protocol.now.limit.bytes protocol.now.tables.now ps self.old
+            → IsAfter protocol.now.limit.bytes protocol.now.tables.now (ps ++ piece_in piece.now ∷
+            []) self.new) }
         ensures lines { OnOk result ((ps : List Piece)
-            → IsAfter rules.now.limit.bytes rules.now.tables.now ps self.old
-            → PrintsPiece rules.now.limit.bytes rules.now.tables.now journal.old.sink.output ps
-            (piece_in piece.now) journal.old.sink.text.items journal.new.sink.text.items) }
+            → IsAfter protocol.now.limit.bytes protocol.now.tables.now ps self.old
+            → PrintsPiece protocol.now.limit.bytes protocol.now.tables.now journal.old.sink.output
+            ps (piece_in piece.now) journal.old.sink.text.items journal.new.sink.text.items) }
         ensures output { journal.new.sink.output ≡ journal.old.sink.output }
         ensures err { OnErr result (undone_by journal.old.undo self.old.state.progress.known.held
             ≡ Some self.old.state.progress.known.held → self.new ≡ self.old) }
     {
         match piece.direction {
             Direction::ToServer => {
-                judge_piece(&mut self.state, &mut self.to_server, piece, rules, journal)
+                judge_piece(
+                    &mut self.state,
+                    &mut self.to_server,
+                    piece,
+                    protocol,
+                    journal,
+                )
             }
             Direction::ToClient => {
-                judge_piece(&mut self.state, &mut self.to_client, piece, rules, journal)
+                judge_piece(
+                    &mut self.state,
+                    &mut self.to_client,
+                    piece,
+                    protocol,
+                    journal,
+                )
             }
         }
     }
@@ -270,27 +293,39 @@ impl<A: Allocator + Clone> Scanner<A> {
     fn judge_appended(
         &mut self,
         piece: &Appended,
-        rules: &Rules<'_>,
+        protocol: &Protocol<'_>,
         journal: &mut Journal<A>,
     ) -> Result<(), AllocError>
-        requires valid { Valid rules.now.tables.now }
+        requires valid { Valid protocol.now.tables.now }
         requires ready { ∥ ((ps : List Piece) × (p : Piece)
-            × IsReady rules.now.limit.bytes rules.now.tables.now ps p piece.now self.old) ∥₁ }
+            × IsReady protocol.now.limit.bytes protocol.now.tables.now ps p piece.now self.old) ∥₁ }
         ensures after { OnOk result ((ps : List Piece) (p : Piece)
-            → IsReady rules.now.limit.bytes rules.now.tables.now ps p piece.now self.old
-            → IsAfter rules.now.limit.bytes rules.now.tables.now (ps ++ p ∷ []) self.new) }
+            → IsReady protocol.now.limit.bytes protocol.now.tables.now ps p piece.now self.old
+            → IsAfter protocol.now.limit.bytes protocol.now.tables.now (ps ++ p ∷ []) self.new) }
         ensures lines { OnOk result ((ps : List Piece) (p : Piece)
-            → IsReady rules.now.limit.bytes rules.now.tables.now ps p piece.now self.old
-            → PrintsPiece rules.now.limit.bytes rules.now.tables.now journal.old.sink.output ps p
-            journal.old.sink.text.items journal.new.sink.text.items) }
+            → IsReady protocol.now.limit.bytes protocol.now.tables.now ps p piece.now self.old
+            → PrintsPiece protocol.now.limit.bytes protocol.now.tables.now journal.old.sink.output
+            ps p journal.old.sink.text.items journal.new.sink.text.items) }
         ensures output { journal.new.sink.output ≡ journal.old.sink.output }
     {
         match piece.direction {
             Direction::ToServer => {
-                judge_waiting(&mut self.state, &mut self.to_server, piece, rules, journal)
+                judge_waiting(
+                    &mut self.state,
+                    &mut self.to_server,
+                    piece,
+                    protocol,
+                    journal,
+                )
             }
             Direction::ToClient => {
-                judge_waiting(&mut self.state, &mut self.to_client, piece, rules, journal)
+                judge_waiting(
+                    &mut self.state,
+                    &mut self.to_client,
+                    piece,
+                    protocol,
+                    journal,
+                )
             }
         }
     }
@@ -329,7 +364,7 @@ pub(crate) fn scan<A: Allocator + Clone>(
     ensures verdict { IfOk result
         (λ r. IsVerdictOf tables.now (session_of limit.bytes (map recorded_piece pieces.now)) r.1) }
 {
-    let rules = Rules { tables, limit };
+    let protocol = Protocol { tables, limit };
     let mut scanner = Scanner::new(alloc, tables)?;
     let lines = Vec::new(alloc.clone()?);
     let mut journal = Journal {
@@ -346,7 +381,7 @@ pub(crate) fn scan<A: Allocator + Clone>(
             bytes: piece.bytes.as_slice(),
             tokens: piece.tokens as usize,
         };
-        scanner.judge(&lent, &rules, &mut journal)?;
+        scanner.judge(&lent, &protocol, &mut journal)?;
     }
     let verdict = scanner.verdict();
     Ok((journal.sink.text, verdict))
@@ -366,7 +401,7 @@ pub(crate) fn scan_text<A: Allocator + Clone>(
     ensures bad { IfErr result
         (λ e. (e ≡ Memory) ⊎ ((n : ℕ) × (e ≡ BadLine n) × IsFirstBad text.now n)) }
 {
-    let rules = Rules { tables, limit };
+    let protocol = Protocol { tables, limit };
     let mut scanner = Scanner::new(alloc, tables)?;
     let lines = Vec::new(alloc.clone()?);
     let mut journal = Journal {
@@ -383,7 +418,7 @@ pub(crate) fn scan_text<A: Allocator + Clone>(
         &mut scanner.to_server.bytes,
         &mut scanner.to_client.bytes,
     )? {
-        scanner.judge_appended(&piece, &rules, &mut journal)?;
+        scanner.judge_appended(&piece, &protocol, &mut journal)?;
     }
     let verdict = scanner.verdict();
     Ok((journal.sink.text, verdict))

@@ -48,9 +48,9 @@ pub(crate) struct SessionState<A: Allocator = Global> {
     pub status: SessionStatus,
 }
 
-/// What messages are judged with.
+/// The tables and the limit by which messages are judged.
 #[derive(Clone, Copy)]
-pub(crate) struct Rules<'t> {
+pub(crate) struct Protocol<'t> {
     pub tables: &'t Tables,
     pub limit: Limit,
 }
@@ -107,24 +107,24 @@ impl<A: Allocator + Clone> SessionState<A> {
         bytes: &[u8],
         direction: Direction,
         tokens: u128,
-        rules: &Rules<'_>,
+        protocol: &Protocol<'_>,
         journal: &mut Journal<A>,
     ) -> Result<usize, AllocError>
-        requires valid { Valid rules.now.tables.now }
+        requires valid { Valid protocol.now.tables.now }
         requires follows { ∥ ((s : Session)
-            × CutFollows rules.now.limit.bytes rules.now.tables.now s
+            × CutFollows protocol.now.limit.bytes protocol.now.tables.now s
             self.old direction tokens bytes.now) ∥₁ }
         ensures place { IfOk result (λ place. place ≤ length bytes.now) }
         ensures judged { IfOk result (λ place. (s : Session)
-            → CutFollows rules.now.limit.bytes rules.now.tables.now s self.old direction tokens
-            bytes.now
-            → AllJudged rules.now.limit.bytes rules.now.tables.now s self.new direction
+            → CutFollows protocol.now.limit.bytes protocol.now.tables.now s self.old direction
+            tokens bytes.now
+            → AllJudged protocol.now.limit.bytes protocol.now.tables.now s self.new direction
             (drop place bytes.now)) }
         ensures lines { OnOk result ((s : Session)
-            → CutFollows rules.now.limit.bytes rules.now.tables.now s self.old direction tokens
-            bytes.now
-            → PrintsOn rules.now.tables.now s journal.old.sink.output self.old.count self.new.count
-            journal.old.sink.text.items journal.new.sink.text.items) }
+            → CutFollows protocol.now.limit.bytes protocol.now.tables.now s self.old direction
+            tokens bytes.now
+            → PrintsOn protocol.now.tables.now s journal.old.sink.output self.old.count
+            self.new.count journal.old.sink.text.items journal.new.sink.text.items) }
         ensures other { OnOk result (OthersStay direction self.old self.new) }
         ensures output { journal.new.sink.output ≡ journal.old.sink.output }
         ensures undone { undone_by journal.new.undo self.new.progress.known.held
@@ -133,7 +133,7 @@ impl<A: Allocator + Clone> SessionState<A> {
         let mut place = 0;
         'messages: loop {
             let rest = &bytes[place..];
-            let Some(size) = size_in_front(rest, rules.limit) else {
+            let Some(size) = size_in_front(rest, protocol.limit) else {
                 return Ok(place);
             };
             let frame = FramedMessage {
@@ -142,7 +142,7 @@ impl<A: Allocator + Clone> SessionState<A> {
                 size,
                 tokens,
             };
-            self.judge_next(rest, &frame, rules, journal)?;
+            self.judge_next(rest, &frame, protocol, journal)?;
             if !self.is_open() {
                 return Ok(bytes.len());
             }
@@ -155,28 +155,28 @@ impl<A: Allocator + Clone> SessionState<A> {
         &mut self,
         bytes: &[u8],
         frame: &FramedMessage,
-        rules: &Rules<'_>,
+        protocol: &Protocol<'_>,
         journal: &mut Journal<A>,
     ) -> Result<(), AllocError>
-        requires valid { Valid rules.now.tables.now }
-        requires comes { ∥ ((s : Session) × Comes rules.now.limit.bytes rules.now.tables.now s
+        requires valid { Valid protocol.now.tables.now }
+        requires comes { ∥ ((s : Session) × Comes protocol.now.limit.bytes protocol.now.tables.now s
             self.old frame.now bytes.now) ∥₁ }
         ensures judged { OnOk result ((s : Session)
-            → Comes rules.now.limit.bytes rules.now.tables.now s self.old frame.now bytes.now
-            → IsJudged rules.now.tables.now s self.new) }
+            → Comes protocol.now.limit.bytes protocol.now.tables.now s self.old frame.now bytes.now
+            → IsJudged protocol.now.tables.now s self.new) }
         ensures lines { OnOk result ((s : Session)
-            → Comes rules.now.limit.bytes rules.now.tables.now s self.old frame.now bytes.now
-            → PrintsOn rules.now.tables.now s journal.old.sink.output self.old.count self.new.count
-            journal.old.sink.text.items journal.new.sink.text.items) }
+            → Comes protocol.now.limit.bytes protocol.now.tables.now s self.old frame.now bytes.now
+            → PrintsOn protocol.now.tables.now s journal.old.sink.output self.old.count
+            self.new.count journal.old.sink.text.items journal.new.sink.text.items) }
         ensures on { OnOk result (is_going self.new.status ≡ true
-            → WentOn rules.now.limit.bytes frame.now self.old self.new) }
+            → WentOn protocol.now.limit.bytes frame.now self.old self.new) }
         ensures other { OnOk result (OthersStay frame.now.direction self.old self.new) }
         ensures output { journal.new.sink.output ≡ journal.old.sink.output }
         ensures undone { undone_by journal.new.undo self.new.progress.known.held
             ≡ undone_by journal.old.undo self.old.progress.known.held }
     {
         let Journal { args, sink, undo } = journal;
-        let judged = judge(args, rules, &self.progress.known, bytes, frame, sink)?;
+        let judged = judge(args, protocol, &self.progress.known, bytes, frame, sink)?;
         let changes = match judged {
             Ok(changes) => changes,
             Err(fault) => {

@@ -12,7 +12,7 @@ use Rattle.wl_objects.specs.Writing.{message_len}
 use Rattle.wl_connection.specs.Core.{Core, IsOrdinary}
 use Rattle.wl_connection.specs.Sending.{with_sent}
 use Rattle.wl_server.specs.declared.announce.Announced.{Announced}
-use Rattle.wl_server.specs.declared.registry.Slot.{Slot}
+use Rattle.wl_server.specs.declared.registry.RegistrySlot.{RegistrySlot}
 use Rattle.wl_server.specs.Slots.{open_in}
 use Rattle.wl_server.proofs.Slots.{before, drop-closed, drop-open, open-is, open-place, open-set}
 use Rattle.wl_server.specs.State.{State, Global, Registry, RiseFrom}
@@ -142,8 +142,8 @@ finished state told now ms o t =
 -- ---- all registries
 
 -- progress after announcing to the next registry
-told-next : (core : Core) (rs : List Registry) (all : List Due) (count : ℕ) (now : Core) (xs : List Slot)
-    (globals : List Global) (i high : ℕ) (s u : Slot) (told : Announced) (new : Core) → IsOrdinary core.outbox
+told-next : (core : Core) (rs : List Registry) (all : List Due) (count : ℕ) (now : Core) (xs : List RegistrySlot)
+    (globals : List Global) (i high : ℕ) (s u : RegistrySlot) (told : Announced) (new : Core) → IsOrdinary core.outbox
     → RiseFrom 0 high rs → Progress core rs all count now (open_in xs) (owed_in globals (open_in (drop i xs)))
     → i < length xs → s ≡ get_or xs i s → s.is_open ≡ true → u.is_open ≡ true
     → (t : IsAnnounced now (s.registry ∷ []) (due_to globals s.registry) told new (u.registry ∷ []))
@@ -169,8 +169,8 @@ some-left true now rest e h = absurd (cc)
 some-left false now rest e h = h
 
 -- if all its events were sent, the registries after it are left
-pub told-whole : (core : Core) (rs : List Registry) (all : List Due) (count : ℕ) (now : Core) (xs : List Slot)
-    (globals : List Global) (i high : ℕ) (s u : Slot) (told : Announced) (new : Core) → IsOrdinary core.outbox
+pub told-whole : (core : Core) (rs : List Registry) (all : List Due) (count : ℕ) (now : Core) (xs : List RegistrySlot)
+    (globals : List Global) (i high : ℕ) (s u : RegistrySlot) (told : Announced) (new : Core) → IsOrdinary core.outbox
     → RiseFrom 0 high rs → Progress core rs all count now (open_in xs) (owed_in globals (open_in (drop i xs)))
     → i < length xs → s ≡ get_or xs i s → s.is_open ≡ true → u.is_open ≡ true
     → (t : IsAnnounced now (s.registry ∷ []) (due_to globals s.registry) told new (u.registry ∷ []))
@@ -179,15 +179,15 @@ pub told-whole : (core : Core) (rs : List Registry) (all : List Due) (count : �
     (owed_in globals (open_in (drop (i + 1) (set xs i u))))
 told-whole core rs all count now xs globals i high s u told new o rise p l e is also t whole =
     let none : t.rest ≡ [] = none-left told.all new t.rest whole t.end in
-    subst (λ (list : List Slot). Progress core rs all (count + told.count) new (open_in (set xs i u))
+    subst (λ (list : List RegistrySlot). Progress core rs all (count + told.count) new (open_in (set xs i u))
     (owed_in globals (open_in list))) (sym (drop-set-lt (i + 1) xs i u (omega arith)))
     (subst (λ (list : List Due). Progress core rs all (count + told.count) new (open_in (set xs i u))
     (list ++ owed_in globals (open_in (drop (i + 1) xs)))) none
     (told-next core rs all count now xs globals i high s u told new o rise p l e is also t))
 
 -- if not, announcing ends
-pub told-part : (core : Core) (rs : List Registry) (all : List Due) (count : ℕ) (now : Core) (xs : List Slot)
-    (globals : List Global) (i high : ℕ) (s u : Slot) (told : Announced) (new : Core) → IsOrdinary core.outbox
+pub told-part : (core : Core) (rs : List Registry) (all : List Due) (count : ℕ) (now : Core) (xs : List RegistrySlot)
+    (globals : List Global) (i high : ℕ) (s u : RegistrySlot) (told : Announced) (new : Core) → IsOrdinary core.outbox
     → RiseFrom 0 high rs → Progress core rs all count now (open_in xs) (owed_in globals (open_in (drop i xs)))
     → i < length xs → s ≡ get_or xs i s → s.is_open ≡ true → u.is_open ≡ true
     → (t : IsAnnounced now (s.registry ∷ []) (due_to globals s.registry) told new (u.registry ∷ []))
@@ -201,8 +201,8 @@ told-part core rs all count now xs globals i high s u told new o rise p l e is a
 }
 
 -- how many events were sent
-pub told-count : (core : Core) (rs : List Registry) (all : List Due) (count : ℕ) (now : Core) (xs : List Slot)
-    (globals : List Global) (i high : ℕ) (s u : Slot) (told : Announced) (new : Core) → IsOrdinary core.outbox
+pub told-count : (core : Core) (rs : List Registry) (all : List Due) (count : ℕ) (now : Core) (xs : List RegistrySlot)
+    (globals : List Global) (i high : ℕ) (s u : RegistrySlot) (told : Announced) (new : Core) → IsOrdinary core.outbox
     → RiseFrom 0 high rs → Progress core rs all count now (open_in xs) (owed_in globals (open_in (drop i xs)))
     → i < length xs → s ≡ get_or xs i s → s.is_open ≡ true → u.is_open ≡ true
     → (t : IsAnnounced now (s.registry ∷ []) (due_to globals s.registry) told new (u.registry ∷ []))
@@ -212,8 +212,8 @@ told-count core rs all count now xs globals i high s u told new o rise p l e is 
     (told-next core rs all count now xs globals i high s u told new o rise p l e is also t)
 
 -- a closed slot is skipped
-pub told-none : (core : Core) (rs : List Registry) (all : List Due) (count : ℕ) (now : Core) (xs : List Slot)
-    (globals : List Global) (i : ℕ) (s : Slot)
+pub told-none : (core : Core) (rs : List Registry) (all : List Due) (count : ℕ) (now : Core) (xs : List RegistrySlot)
+    (globals : List Global) (i : ℕ) (s : RegistrySlot)
     → Progress core rs all count now (open_in xs) (owed_in globals (open_in (drop i xs)))
     → i < length xs → s ≡ get_or xs i s → s.is_open ≡ false
     → Progress core rs all count now (open_in xs) (owed_in globals (open_in (drop (i + 1) xs)))
@@ -221,13 +221,13 @@ told-none core rs all count now xs globals i s p l e is =
     subst (λ (ms : List Registry). Progress core rs all count now (open_in xs) (owed_in globals ms))
     (drop-closed xs i s l e is) p
 
-pub told-end : (core : Core) (rs : List Registry) (all : List Due) (count : ℕ) (now : Core) (xs : List Slot)
+pub told-end : (core : Core) (rs : List Registry) (all : List Due) (count : ℕ) (now : Core) (xs : List RegistrySlot)
     (globals : List Global) (i : ℕ)
     → Progress core rs all count now (open_in xs) (owed_in globals (open_in (drop i xs))) → length xs ≤ i
     → IsAnnounced core rs all (record { count = count; all = true }) now (open_in xs)
 told-end core rs all count now xs globals i p l = record {
   rest = [];
-  progress = subst (λ (list : List Slot). Progress core rs all count now (open_in xs) (owed_in globals (open_in list)))
+  progress = subst (λ (list : List RegistrySlot). Progress core rs all count now (open_in xs) (owed_in globals (open_in list)))
       (drop_all i xs l) p;
   end = refl;
 }

@@ -3,7 +3,7 @@ use Rattle.std.specs.Prelude.{◌≡◌, ℕ, suc, ◌≤◌, max, List, [], ◌
 use Rattle.std.specs.List.{filter}
 use Rattle.wl_connection.specs.Core.{Core, max_globals}
 use Rattle.wl_connection.specs.ServerRange.{NoEventEndsMade}
-use Rattle.wl_server.specs.declared.registry.Slot.{Slot}
+use Rattle.wl_server.specs.declared.registry.RegistrySlot.{RegistrySlot}
 use Rattle.wl_server.specs.State.{Global, Registry}
 use Rattle.wl_server.specs.Announcing.{owed_in}
 use Rattle.wl_server.specs.Registries.{HasRegistries}
@@ -19,17 +19,17 @@ pub record KeptRegistries : Type 0 where
   pub closed : ℕ
 
 -- the registries of the open slots
-abbrev pub open_in : List Slot → List Registry
+abbrev pub open_in : List RegistrySlot → List Registry
 open_in slots = map (λ slot. slot.registry) (filter (λ slot. slot.is_open) slots)
 
 -- the slots' births rise, starting at a number or above
-abbrev pub SlotsRise : ℕ → List Slot → Type 0
+abbrev pub SlotsRise : ℕ → List RegistrySlot → Type 0
 SlotsRise low [] = Unit {0}
 SlotsRise low (slot ∷ slots) =
     (low ≤ slot.registry.object.birth) × SlotsRise (suc slot.registry.object.birth) slots
 
 -- the least number above their births
-abbrev pub past_of : List Slot → ℕ
+abbrev pub past_of : List RegistrySlot → ℕ
 past_of [] = 0
 past_of (slot ∷ slots) = max (suc slot.registry.object.birth) (past_of slots)
 

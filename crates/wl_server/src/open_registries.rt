@@ -13,7 +13,7 @@ ghost use Rattle.wl_server.specs.Words.{AreWithdrawn};
 use crate::announce::{Announced, announce_to};
 use crate::globals::{Advertised, withdrawn_names};
 use crate::name_set::NameSet;
-use crate::registry::{OpenRegistry, Slot};
+use crate::registry::{OpenRegistry, RegistrySlot};
 use std::alloc::{AllocError, Allocator};
 use std::marker::Model;
 use wl_connection::Core;
@@ -25,7 +25,7 @@ use wl_objects::{Object, Table};
 #[derive(Drop)]
 pub(crate) struct OpenRegistries<A: Allocator> {
     /// In order of birth.
-    slots: Vec<Slot, A>,
+    slots: Vec<RegistrySlot, A>,
     /// How many slots are closed.
     closed: usize,
     /// The first `settled` slots need no event.
@@ -54,7 +54,7 @@ impl<A: Allocator> Model for OpenRegistries<A> {
 }
 
 /// How many slots are open.
-fn count_open(slots: &[Slot]) -> usize
+fn count_open(slots: &[RegistrySlot]) -> usize
     ensures { result ≡ count_by (λ slot. slot.is_open) slots.now }
 {
     slots.iter().filter(|slot| slot.is_open).count()
@@ -66,7 +66,7 @@ fn announce_from<T: Table>(
     core: &mut Core<'_, T>,
     globals: &[Advertised],
     withdrawn: &NameSet,
-    slots: &mut [Slot],
+    slots: &mut [RegistrySlot],
     settled: &mut usize,
 ) -> Announced
     requires few { length globals.now ≤ max_globals }
@@ -138,7 +138,7 @@ impl<A: Allocator + Drop> OpenRegistries<A> {
         ensures settled { KeepsSettled self.old self.new }
         ensures past { self.new.past ≡ object.birth + 1 }
     {
-        self.slots.push_reserved(Slot {
+        self.slots.push_reserved(RegistrySlot {
             registry: OpenRegistry::new(object),
             is_open: true,
         });

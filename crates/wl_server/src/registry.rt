@@ -98,7 +98,7 @@ impl OpenRegistry {
 
 /// A registry of a client, open or closed.
 #[derive(Debug, Drop)]
-pub(crate) struct Slot {
+pub(crate) struct RegistrySlot {
     pub(crate) registry: OpenRegistry,
     pub(crate) is_open: bool,
 }

@@ -18,7 +18,7 @@ judge_all-requires-clause-follows g c =
     let none = nil_from_length c.args.waiting.now (omega (arith, len, zero)) in
     ∥∥₁_map c.requires.follows (λ x. (
       x.0,
-      subst (CutFollows c.args.rules.now.limit.bytes c.args.rules.now.tables.now x.0 c.args.state.now
+      subst (CutFollows c.args.protocol.now.limit.bytes c.args.protocol.now.tables.now x.0 c.args.state.now
           c.args.piece.now.direction c.args.tokens)
           (ap (λ (l : List ℕ). l ++ c.args.piece.now.bytes.now) none) x.1,
     ))
@@ -31,9 +31,9 @@ returns-in_ok-append-clause-judged g c s h =
     let left = left_is c.args.waiting.now _ c.args.piece.now.bytes.now c.in_ok-place.place
     c.in_ok-place.ensures.place none
     c.in_ok-append.ensures.ok in
-    subst (AllJudged c.args.rules.now.limit.bytes c.args.rules.now.tables.now s c.judge_all.new.self
+    subst (AllJudged c.args.protocol.now.limit.bytes c.args.protocol.now.tables.now s c.judge_all.new.self
     c.args.piece.now.direction) (sym left)
-    (c.in_ok-place.ensures.judged s (subst (CutFollows c.args.rules.now.limit.bytes c.args.rules.now.tables.now s
+    (c.in_ok-place.ensures.judged s (subst (CutFollows c.args.protocol.now.limit.bytes c.args.protocol.now.tables.now s
     c.args.state.now
     c.args.piece.now.direction c.args.tokens) (ap (λ (l : List ℕ). l ++ c.args.piece.now.bytes.now) none) h))
 
@@ -42,7 +42,7 @@ returns-in_ok-append-clause-lines g c s h =
     let len = c.len.ensures in
     let zero = c.if-len-eq0.true in
     let none = nil_from_length c.args.waiting.now (omega (arith, len, zero)) in
-    c.in_ok-place.ensures.lines s (subst (CutFollows c.args.rules.now.limit.bytes c.args.rules.now.tables.now s
+    c.in_ok-place.ensures.lines s (subst (CutFollows c.args.protocol.now.limit.bytes c.args.protocol.now.tables.now s
     c.args.state.now
     c.args.piece.now.direction c.args.tokens) (ap (λ (l : List ℕ). l ++ c.args.piece.now.bytes.now) none) h)
 
@@ -53,9 +53,9 @@ returns-else-place-piece-clause-judged g c s h =
     let past = c.if-place-piece.false in
     let none = nil_from_length c.args.waiting.now (omega (arith, len, zero)) in
     let left = none ∙ sym (drop_all c.in_ok-place.place c.args.piece.now.bytes.now (omega (arith, past))) in
-    subst (AllJudged c.args.rules.now.limit.bytes c.args.rules.now.tables.now s c.judge_all.new.self
+    subst (AllJudged c.args.protocol.now.limit.bytes c.args.protocol.now.tables.now s c.judge_all.new.self
     c.args.piece.now.direction) (sym left)
-    (c.in_ok-place.ensures.judged s (subst (CutFollows c.args.rules.now.limit.bytes c.args.rules.now.tables.now s
+    (c.in_ok-place.ensures.judged s (subst (CutFollows c.args.protocol.now.limit.bytes c.args.protocol.now.tables.now s
     c.args.state.now
     c.args.piece.now.direction c.args.tokens) (ap (λ (l : List ℕ). l ++ c.args.piece.now.bytes.now) none) h))
 
@@ -64,7 +64,7 @@ returns-else-place-piece-clause-lines g c s h =
     let len = c.len.ensures in
     let zero = c.if-len-eq0.true in
     let none = nil_from_length c.args.waiting.now (omega (arith, len, zero)) in
-    c.in_ok-place.ensures.lines s (subst (CutFollows c.args.rules.now.limit.bytes c.args.rules.now.tables.now s
+    c.in_ok-place.ensures.lines s (subst (CutFollows c.args.protocol.now.limit.bytes c.args.protocol.now.tables.now s
     c.args.state.now
     c.args.piece.now.direction c.args.tokens) (ap (λ (l : List ℕ). l ++ c.args.piece.now.bytes.now) none) h)
 
@@ -73,7 +73,7 @@ judge_all-requires-2-clause-follows g c =
     let all = c.as_slice.ensures ∙ c.in_ok-append-2.ensures.ok in
     ∥∥₁_map c.requires.follows (λ x. (
       x.0,
-      subst (CutFollows c.args.rules.now.limit.bytes c.args.rules.now.tables.now x.0 c.args.state.now
+      subst (CutFollows c.args.protocol.now.limit.bytes c.args.protocol.now.tables.now x.0 c.args.state.now
           c.args.piece.now.direction c.args.tokens)
           (sym all) x.1,
     ))
@@ -82,14 +82,14 @@ pub returns-clause-judged : goal.returns-clause-judged
 returns-clause-judged g c s h =
     let same = c.as_slice.ensures in
     let all = same ∙ c.in_ok-append-2.ensures.ok in
-    subst (AllJudged c.args.rules.now.limit.bytes c.args.rules.now.tables.now s c.judge_all-2.new.self
+    subst (AllJudged c.args.protocol.now.limit.bytes c.args.protocol.now.tables.now s c.judge_all-2.new.self
     c.args.piece.now.direction)
     (ap (drop c.in_ok-place-2.place) same ∙ sym c.keep_from.ensures)
-    (c.in_ok-place-2.ensures.judged s (subst (CutFollows c.args.rules.now.limit.bytes c.args.rules.now.tables.now s
+    (c.in_ok-place-2.ensures.judged s (subst (CutFollows c.args.protocol.now.limit.bytes c.args.protocol.now.tables.now s
     c.args.state.now c.args.piece.now.direction c.args.tokens) (sym all) h))
 
 pub returns-clause-lines : goal.returns-clause-lines
 returns-clause-lines g c s h =
     let all = c.as_slice.ensures ∙ c.in_ok-append-2.ensures.ok in
-    c.in_ok-place-2.ensures.lines s (subst (CutFollows c.args.rules.now.limit.bytes c.args.rules.now.tables.now s
+    c.in_ok-place-2.ensures.lines s (subst (CutFollows c.args.protocol.now.limit.bytes c.args.protocol.now.tables.now s
     c.args.state.now c.args.piece.now.direction c.args.tokens) (sym all) h)

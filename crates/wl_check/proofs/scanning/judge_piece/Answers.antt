@@ -29,7 +29,7 @@ returns-then-not-is_open-clause-along g c ps h =
     let two = c.checked_add-2.ensures in
     let len = rw c.in-Some.is at one in
     let tokens = rw c.in-Some-checked_add.is at two in
-    along_closed c.args.rules.now.limit.bytes c.args.rules.now.tables.now ps
+    along_closed c.args.protocol.now.limit.bytes c.args.protocol.now.tables.now ps
     (piece_in c.args.piece.now) c.args.state.now c.args.stream.now _ h
     (sym c.is_open.ensures ∙ c.if-not-is_open.true) len.1 tokens.1
 
@@ -41,8 +41,8 @@ judge_or_go_back-requires-clause-follows g c =
     let tokens = rw c.in-Some-checked_add.is at two in
     let p = piece_in c.args.piece.now in
     ∥∥₁_map c.requires.along (λ x. (
-      session_of c.args.rules.now.limit.bytes (x.0 ++ p ∷ []),
-      follows_piece c.args.rules.now.limit.bytes c.args.rules.now.tables.now x.0 p c.args.state.now c.args.stream.now
+      session_of c.args.protocol.now.limit.bytes (x.0 ++ p ∷ []),
+      follows_piece c.args.protocol.now.limit.bytes c.args.protocol.now.tables.now x.0 p c.args.state.now c.args.stream.now
           c.in-Some.len
           c.in-Some-checked_add.tokens _
           x.1 (sym c.is_open.ensures ∙ c.if-not-is_open.false) len.1
@@ -57,8 +57,8 @@ judge_bytes-requires-clause-follows g c =
     let tokens = rw c.in-Some-checked_add.is at two in
     let p = piece_in c.args.piece.now in
     ∥∥₁_map c.requires.along (λ x. (
-      session_of c.args.rules.now.limit.bytes (x.0 ++ p ∷ []),
-      follows_piece c.args.rules.now.limit.bytes c.args.rules.now.tables.now x.0 p c.args.state.now c.args.stream.now
+      session_of c.args.protocol.now.limit.bytes (x.0 ++ p ∷ []),
+      follows_piece c.args.protocol.now.limit.bytes c.args.protocol.now.tables.now x.0 p c.args.state.now c.args.stream.now
           c.in-Some.len
           c.in-Some-checked_add.tokens _
           x.1 (sym c.is_open.ensures ∙ c.if-not-is_open.false) len.1
@@ -73,24 +73,24 @@ returns-clause-along g c ps h =
     let tokens = rw c.in-Some-checked_add.is at two in
     let p = piece_in c.args.piece.now in
     let follows =
-    follows_piece c.args.rules.now.limit.bytes c.args.rules.now.tables.now ps p c.args.state.now c.args.stream.now
+    follows_piece c.args.protocol.now.limit.bytes c.args.protocol.now.tables.now ps p c.args.state.now c.args.stream.now
     c.in-Some.len
     c.in-Some-checked_add.tokens _
     h (sym c.is_open.ensures ∙ c.if-not-is_open.false) len.1
     (let is = len.1 in let less = len.0 in omega (arith, is, less)) tokens.1 refl in
-    let s = session_of c.args.rules.now.limit.bytes (ps ++ p ∷ []) in
+    let s = session_of c.args.protocol.now.limit.bytes (ps ++ p ∷ []) in
     elim c.match-journal.branch [
       | in-Off+in_ok-judge_bytes-in-Off w ↦
-          along_piece c.args.rules.now.limit.bytes c.args.rules.now.tables.now ps p c.args.state.now
+          along_piece c.args.protocol.now.limit.bytes c.args.protocol.now.tables.now ps p c.args.state.now
           c.match-journal.state c.args.stream.now _ w.judge_bytes.new.waiting h
-          (subst (λ (n : SessionState _). AllJudged c.args.rules.now.limit.bytes c.args.rules.now.tables.now s n
+          (subst (λ (n : SessionState _). AllJudged c.args.protocol.now.limit.bytes c.args.protocol.now.tables.now s n
           c.args.piece.now.direction w.judge_bytes.new.waiting) (sym w.state-is)
           (w.in_ok-judge_bytes-in-Off.ensures.judged s follows))
           len.1 tokens.1 (ap (λ (x : Stream _). x.bytes) w.stream-is)
       | in-On+in_ok-judge_or_go_back-in-On w ↦
-          along_piece c.args.rules.now.limit.bytes c.args.rules.now.tables.now ps p c.args.state.now
+          along_piece c.args.protocol.now.limit.bytes c.args.protocol.now.tables.now ps p c.args.state.now
           c.match-journal.state c.args.stream.now _ w.judge_or_go_back.new.waiting h
-          (subst (λ (n : SessionState _). AllJudged c.args.rules.now.limit.bytes c.args.rules.now.tables.now s n
+          (subst (λ (n : SessionState _). AllJudged c.args.protocol.now.limit.bytes c.args.protocol.now.tables.now s n
           c.args.piece.now.direction w.judge_or_go_back.new.waiting) (sym w.state-is)
           (w.in_ok-judge_or_go_back-in-On.ensures.judged s follows))
           len.1 tokens.1 (ap (λ (x : Stream _). x.bytes) w.stream-is)
@@ -104,21 +104,21 @@ returns-clause-lines g c ps h =
     let tokens = rw c.in-Some-checked_add.is at two in
     let p = piece_in c.args.piece.now in
     let follows =
-    follows_piece c.args.rules.now.limit.bytes c.args.rules.now.tables.now ps p c.args.state.now c.args.stream.now
+    follows_piece c.args.protocol.now.limit.bytes c.args.protocol.now.tables.now ps p c.args.state.now c.args.stream.now
     c.in-Some.len
     c.in-Some-checked_add.tokens _
     h (sym c.is_open.ensures ∙ c.if-not-is_open.false) len.1
     (let is = len.1 in let less = len.0 in omega (arith, is, less)) tokens.1 refl in
-    let s = session_of c.args.rules.now.limit.bytes (ps ++ p ∷ []) in
+    let s = session_of c.args.protocol.now.limit.bytes (ps ++ p ∷ []) in
     elim c.match-journal.branch [
       | in-Off+in_ok-judge_bytes-in-Off w ↦
-          prints_same c.args.rules.now.tables.now s c.args.journal.now.sink.output c.args.state.now.count
+          prints_same c.args.protocol.now.tables.now s c.args.journal.now.sink.output c.args.state.now.count
           c.args.journal.now.sink.text.items _ _ _ _
           (sym (ap (λ (n : SessionState _). n.count) w.state-is))
           (sym (ap (λ (j : Journal _). j.sink.text.items) w.journal-is))
           (w.in_ok-judge_bytes-in-Off.ensures.lines s follows)
       | in-On+in_ok-judge_or_go_back-in-On w ↦
-          prints_same c.args.rules.now.tables.now s c.args.journal.now.sink.output c.args.state.now.count
+          prints_same c.args.protocol.now.tables.now s c.args.journal.now.sink.output c.args.state.now.count
           c.args.journal.now.sink.text.items _ _ _ _
           (sym (ap (λ (n : SessionState _). n.count) w.state-is))
           (sym (ap (λ (j : Journal _). j.sink.text.items) w.journal-is))

@@ -12,7 +12,7 @@ returns-then-not-is_open-clause-along g c ps p h =
     let two = c.checked_add-2.ensures in
     let len = rw c.in-Some.is at one in
     let tokens = rw c.in-Some-checked_add.is at two in
-    along_closed c.args.rules.now.limit.bytes c.args.rules.now.tables.now ps p c.args.state.now h.before _ h.along
+    along_closed c.args.protocol.now.limit.bytes c.args.protocol.now.tables.now ps p c.args.state.now h.before _ h.along
     (sym c.is_open.ensures ∙ c.if-not-is_open.true)
     (len.1 ∙ (let a = h.len in let b = h.len_is in omega (arith, a, b)))
     (tokens.1 ∙ (let a = h.tokens in let b = h.tokens_are in let t = c.from.ensures in omega (arith, a, b, t)))
@@ -24,11 +24,11 @@ judge_all-requires-clause-follows g c =
     let len = rw c.in-Some.is at one in
     let tokens = rw c.in-Some-checked_add.is at two in
     ∥∥₁_map c.requires.come (λ x. (
-      session_of c.args.rules.now.limit.bytes (x.0 ++ x.1 ∷ []),
-      subst (λ (d : Direction). CutFollows c.args.rules.now.limit.bytes c.args.rules.now.tables.now
-          (session_of c.args.rules.now.limit.bytes (x.0 ++ x.1 ∷ [])) c.args.state.now d c.in-Some-checked_add.tokens
+      session_of c.args.protocol.now.limit.bytes (x.0 ++ x.1 ∷ []),
+      subst (λ (d : Direction). CutFollows c.args.protocol.now.limit.bytes c.args.protocol.now.tables.now
+          (session_of c.args.protocol.now.limit.bytes (x.0 ++ x.1 ∷ [])) c.args.state.now d c.in-Some-checked_add.tokens
           c.as_slice-waiting.result.now) (sym x.2.direction_is)
-          (follows_piece c.args.rules.now.limit.bytes c.args.rules.now.tables.now x.0 x.1 c.args.state.now x.2.before
+          (follows_piece c.args.protocol.now.limit.bytes c.args.protocol.now.tables.now x.0 x.1 c.args.state.now x.2.before
           c.in-Some.len c.in-Some-checked_add.tokens c.as_slice-waiting.result.now
           x.2.along (sym c.is_open.ensures ∙ c.if-not-is_open.false)
           (len.1 ∙ (let a = x.2.len in let b = x.2.len_is in omega (arith, a, b)))
@@ -44,21 +44,21 @@ returns-clause-along g c ps p h =
     let two = c.checked_add-2.ensures in
     let len = rw c.in-Some.is at one in
     let tokens = rw c.in-Some-checked_add.is at two in
-    let s = session_of c.args.rules.now.limit.bytes (ps ++ p ∷ []) in
+    let s = session_of c.args.protocol.now.limit.bytes (ps ++ p ∷ []) in
     let len_is = len.1 ∙ (let a = h.len in let b = h.len_is in omega (arith, a, b)) in
     let tokens_is = tokens.1 ∙ (let a = h.tokens in let b = h.tokens_are in let t = c.from.ensures
     in omega (arith, a, b, t)) in
-    let follows = subst (λ (d : Direction). CutFollows c.args.rules.now.limit.bytes c.args.rules.now.tables.now s
+    let follows = subst (λ (d : Direction). CutFollows c.args.protocol.now.limit.bytes c.args.protocol.now.tables.now s
     c.args.state.now d c.in-Some-checked_add.tokens c.as_slice-waiting.result.now) (sym h.direction_is)
-    (follows_piece c.args.rules.now.limit.bytes c.args.rules.now.tables.now ps p c.args.state.now h.before c.in-Some.len
+    (follows_piece c.args.protocol.now.limit.bytes c.args.protocol.now.tables.now ps p c.args.state.now h.before c.in-Some.len
     c.in-Some-checked_add.tokens c.as_slice-waiting.result.now
     h.along (sym c.is_open.ensures ∙ c.if-not-is_open.false) len_is
     (let is = len.1 in let less = len.0 in omega (arith, is, less)) tokens_is (c.as_slice-waiting.ensures ∙ h.bytes))
     in
-    let judged = subst (λ (d : Direction). AllJudged c.args.rules.now.limit.bytes c.args.rules.now.tables.now s
+    let judged = subst (λ (d : Direction). AllJudged c.args.protocol.now.limit.bytes c.args.protocol.now.tables.now s
     c.judge_all.new.self d (drop c.in_ok-place.place c.as_slice-waiting.result.now)) h.direction_is
     (c.in_ok-place.ensures.judged s follows) in
-    along_piece c.args.rules.now.limit.bytes c.args.rules.now.tables.now ps p c.args.state.now c.judge_all.new.self
+    along_piece c.args.protocol.now.limit.bytes c.args.protocol.now.tables.now ps p c.args.state.now c.judge_all.new.self
     h.before _ (drop c.in_ok-place.place c.as_slice-waiting.result.now)
     h.along judged len_is tokens_is (c.remove_front-2.ensures
     ∙ ap (λ (b : List ℕ). drop c.in_ok-place.place b) (sym c.as_slice-waiting.ensures))
@@ -69,14 +69,14 @@ returns-clause-lines g c ps p h =
     let two = c.checked_add-2.ensures in
     let len = rw c.in-Some.is at one in
     let tokens = rw c.in-Some-checked_add.is at two in
-    let s = session_of c.args.rules.now.limit.bytes (ps ++ p ∷ []) in
+    let s = session_of c.args.protocol.now.limit.bytes (ps ++ p ∷ []) in
     let len_is = len.1 ∙ (let a = h.len in let b = h.len_is in omega (arith, a, b)) in
     let tokens_is = tokens.1 ∙ (let a = h.tokens in let b = h.tokens_are in let t = c.from.ensures
     in omega (arith, a, b, t)) in
     c.in_ok-place.ensures.lines s
-    (subst (λ (d : Direction). CutFollows c.args.rules.now.limit.bytes c.args.rules.now.tables.now s
+    (subst (λ (d : Direction). CutFollows c.args.protocol.now.limit.bytes c.args.protocol.now.tables.now s
     c.args.state.now d c.in-Some-checked_add.tokens c.as_slice-waiting.result.now) (sym h.direction_is)
-    (follows_piece c.args.rules.now.limit.bytes c.args.rules.now.tables.now ps p c.args.state.now h.before c.in-Some.len
+    (follows_piece c.args.protocol.now.limit.bytes c.args.protocol.now.tables.now ps p c.args.state.now h.before c.in-Some.len
     c.in-Some-checked_add.tokens c.as_slice-waiting.result.now
     h.along (sym c.is_open.ensures ∙ c.if-not-is_open.false) len_is
     (let is = len.1 in let less = len.0 in omega (arith, is, less)) tokens_is (c.as_slice-waiting.ensures ∙ h.bytes)))

@@ -2,7 +2,7 @@ use Rattle.std.proofs.Common.{◌≡◌, ◌<◌, Bool, true, false, not, List, 
 use Rattle.std.proofs.Common.{refl, sym, ap, subst, ◌∙◌, arith}
 use Rattle.std.proofs.lemmas.List.{get_or_default}
 use Rattle.wl_connection.specs.Core.{Core, IsOrdinary}
-use Rattle.wl_server.specs.declared.registry.Slot.{Slot}
+use Rattle.wl_server.specs.declared.registry.RegistrySlot.{RegistrySlot}
 use Rattle.wl_server.specs.Announcing.{Due, due_to, owed_in}
 use Rattle.wl_server.specs.Slots.{open_in, past_of}
 use Rattle.wl_server.specs.Tellings.{IsAnnounced, Progress}
@@ -48,14 +48,14 @@ overflow_add-count g c =
     let globals = c.args.globals.now in
     let s = c.index-slots-place-then-slots-place.result in
     let at = c.index-slots-place-then-slots-place.is in
-    let u : Slot = record { registry = c.announce_to-told.new.registry; is_open = (get_or slots place s).is_open } in
+    let u : RegistrySlot = record { registry = c.announce_to-told.new.registry; is_open = (get_or slots place s).is_open } in
     let there : place < length slots =
     omega (arith, c.places-test.true, c.places.auto.slots, c.places.auto.place-end) in
     let is : s.is_open ≡ true = ap is_open (at ∙ get_or_default slots place s c.index-slots-place.result there)
     ∙ c.if-slots-place.true in
     let told : IsAnnounced c.places.core (s.registry ∷ []) (due_to globals s.registry) c.announce_to-told.result
     c.announce_to-told.new.core (u.registry ∷ []) =
-    subst (λ (x : Slot). IsAnnounced c.places.core (x.registry ∷ []) (due_to globals x.registry)
+    subst (λ (x : RegistrySlot). IsAnnounced c.places.core (x.registry ∷ []) (due_to globals x.registry)
     c.announce_to-told.result c.announce_to-told.new.core (u.registry ∷ [])) (sym at) c.announce_to-told.ensures.told in
     omega (
       arith,
@@ -73,14 +73,14 @@ returns-then-not-told-clause-told g c =
     let globals = c.args.globals.now in
     let s = c.index-slots-place-then-slots-place.result in
     let at = c.index-slots-place-then-slots-place.is in
-    let u : Slot = record { registry = c.announce_to-told.new.registry; is_open = (get_or slots place s).is_open } in
+    let u : RegistrySlot = record { registry = c.announce_to-told.new.registry; is_open = (get_or slots place s).is_open } in
     let there : place < length slots =
     omega (arith, c.places-test.true, c.places.auto.slots, c.places.auto.place-end) in
     let is : s.is_open ≡ true = ap is_open (at ∙ get_or_default slots place s c.index-slots-place.result there)
     ∙ c.if-slots-place.true in
     let told : IsAnnounced c.places.core (s.registry ∷ []) (due_to globals s.registry) c.announce_to-told.result
     c.announce_to-told.new.core (u.registry ∷ []) =
-    subst (λ (x : Slot). IsAnnounced c.places.core (x.registry ∷ []) (due_to globals x.registry)
+    subst (λ (x : RegistrySlot). IsAnnounced c.places.core (x.registry ∷ []) (due_to globals x.registry)
     c.announce_to-told.result c.announce_to-told.new.core (u.registry ∷ [])) (sym at) c.announce_to-told.ensures.told in
     told-part c.args.core.now (open_in c.args.slots.now) (owed_in globals (open_in c.args.slots.now)) c.places.count
     c.places.core slots globals place (past_of c.args.slots.now) s u c.announce_to-told.result
@@ -95,7 +95,7 @@ returns-then-not-told-clause-rising g c =
     let place = c.places.place in
     let s = c.index-slots-place-then-slots-place.result in
     let at = c.index-slots-place-then-slots-place.is in
-    let u : Slot = record { registry = c.announce_to-told.new.registry; is_open = (get_or slots place s).is_open } in
+    let u : RegistrySlot = record { registry = c.announce_to-told.new.registry; is_open = (get_or slots place s).is_open } in
     rise-set 0 slots place s u c.places.invariant.rising at
     (ap (λ o. o.birth) c.announce_to-told.ensures.object ∙ ap birth_in (sym at))
 
@@ -105,7 +105,7 @@ returns-then-not-told-clause-past g c =
     let place = c.places.place in
     let s = c.index-slots-place-then-slots-place.result in
     let at = c.index-slots-place-then-slots-place.is in
-    let u : Slot = record { registry = c.announce_to-told.new.registry; is_open = (get_or slots place s).is_open } in
+    let u : RegistrySlot = record { registry = c.announce_to-told.new.registry; is_open = (get_or slots place s).is_open } in
     past-set slots place s u at (ap (λ o. o.birth) c.announce_to-told.ensures.object ∙ ap birth_in (sym at))
     ∙ c.places.invariant.past
 
@@ -115,7 +115,7 @@ returns-then-not-told-clause-count g c =
     let place = c.places.place in
     let s = c.index-slots-place-then-slots-place.result in
     let at = c.index-slots-place-then-slots-place.is in
-    let u : Slot = record { registry = c.announce_to-told.new.registry; is_open = (get_or slots place s).is_open } in
+    let u : RegistrySlot = record { registry = c.announce_to-told.new.registry; is_open = (get_or slots place s).is_open } in
     let there : place < length slots =
     omega (arith, c.places-test.true, c.places.auto.slots, c.places.auto.place-end) in
     let is : s.is_open ≡ true = ap is_open (at ∙ get_or_default slots place s c.index-slots-place.result there)
@@ -134,7 +134,7 @@ places-preserved g c =
       | then-slots-place+else-not-told w ↦ (
           let s = w.index-slots-place-then-slots-place.result in
           let at = w.index-slots-place-then-slots-place.is in
-          let u : Slot =
+          let u : RegistrySlot =
           record { registry = w.announce_to-told.new.registry; is_open = (get_or slots place s).is_open } in
           let is : s.is_open ≡ true =
           ap is_open (at ∙ get_or_default slots place s c.index-slots-place.result there) ∙ w.if-slots-place.true in
@@ -145,7 +145,7 @@ places-preserved g c =
           not-false w.announce_to-told.result.all w.if-not-told.false in
           let told : IsAnnounced c.places.core (s.registry ∷ []) (due_to globals s.registry)
           w.announce_to-told.result w.announce_to-told.new.core (u.registry ∷ []) =
-          subst (λ (x : Slot). IsAnnounced c.places.core (x.registry ∷ []) (due_to globals x.registry)
+          subst (λ (x : RegistrySlot). IsAnnounced c.places.core (x.registry ∷ []) (due_to globals x.registry)
           w.announce_to-told.result w.announce_to-told.new.core (u.registry ∷ [])) (sym at)
           w.announce_to-told.ensures.told in
           rw (w.slots-is, w.core-is, w.count-is) (record {

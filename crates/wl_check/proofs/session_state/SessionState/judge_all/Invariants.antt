@@ -12,12 +12,12 @@ use Rattle.wl_check.proofs.session_state.SessionState.judge_all.Given as goal
 abbrev pub invariant-messages : goal.invariant-messages
 invariant-messages g l = record {
   within : l.place ≤ length l.bytes;
-  follows : (s : Session) → CutFollows l.rules.limit.bytes l.rules.tables.now s l.initial.self l.direction l.tokens
+  follows : (s : Session) → CutFollows l.protocol.limit.bytes l.protocol.tables.now s l.initial.self l.direction l.tokens
       l.bytes
-      → CutFollows l.rules.limit.bytes l.rules.tables.now s l.self l.direction l.tokens (drop l.place l.bytes);
-  lines : (s : Session) → CutFollows l.rules.limit.bytes l.rules.tables.now s l.initial.self l.direction l.tokens
+      → CutFollows l.protocol.limit.bytes l.protocol.tables.now s l.self l.direction l.tokens (drop l.place l.bytes);
+  lines : (s : Session) → CutFollows l.protocol.limit.bytes l.protocol.tables.now s l.initial.self l.direction l.tokens
       l.bytes
-      → PrintsOn l.rules.tables.now s l.initial.journal.sink.output l.initial.self.count l.self.count
+      → PrintsOn l.protocol.tables.now s l.initial.journal.sink.output l.initial.self.count l.self.count
       l.initial.journal.sink.text.items l.journal.sink.text.items;
   other : (x : Direction) → same_direction l.direction x ≡ false → end_in l.self x ≡ end_in l.initial.self x;
   output : l.journal.sink.output ≡ l.initial.journal.sink.output;

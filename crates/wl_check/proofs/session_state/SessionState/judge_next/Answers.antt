@@ -21,18 +21,18 @@ judge-requires-clause-whole g c good = ∥∥₁_elim c.requires.comes le_prop (
 
 pub judge-requires-clause-taken : goal.judge-requires-clause-taken
 judge-requires-clause-taken g c = ∥∥₁_elim c.requires.comes le_prop
-    (λ x. taken_few c.args.rules.now.tables.now x.0 c.args.self.now c.args.frame.now.direction x.1.judged)
+    (λ x. taken_few c.args.protocol.now.tables.now x.0 c.args.self.now c.args.frame.now.direction x.1.judged)
 
 pub overflow_add-place : goal.overflow_add-place
 overflow_add-place g c =
     let few : c.args.self.now.count < 2 ^ 62 = ∥∥₁_elim c.requires.comes le_prop
-    (λ x. few_judged c.args.rules.now.tables.now x.0 c.args.self.now x.1.judged) in
+    (λ x. few_judged c.args.protocol.now.tables.now x.0 c.args.self.now x.1.judged) in
     omega (arith, few)
 
 pub advance-requires-clause-taken_to_server : goal.advance-requires-clause-taken_to_server
 advance-requires-clause-taken_to_server g c =
     let few : c.args.self.now.count < 2 ^ 62 = ∥∥₁_elim c.requires.comes le_prop
-    (λ x. few_judged c.args.rules.now.tables.now x.0 c.args.self.now x.1.judged) in
+    (λ x. few_judged c.args.protocol.now.tables.now x.0 c.args.self.now x.1.judged) in
     let taken : c.args.self.now.progress.known.taken_to_server ≤ c.args.self.now.count * 2 ^ 64 =
     ∥∥₁_elim c.requires.comes le_prop (λ x. x.1.judged.at.taken_to_server) in
     omega (arith, few, taken)
@@ -40,7 +40,7 @@ advance-requires-clause-taken_to_server g c =
 pub advance-requires-clause-taken_to_client : goal.advance-requires-clause-taken_to_client
 advance-requires-clause-taken_to_client g c =
     let few : c.args.self.now.count < 2 ^ 62 = ∥∥₁_elim c.requires.comes le_prop
-    (λ x. few_judged c.args.rules.now.tables.now x.0 c.args.self.now x.1.judged) in
+    (λ x. few_judged c.args.protocol.now.tables.now x.0 c.args.self.now x.1.judged) in
     let taken : c.args.self.now.progress.known.taken_to_client ≤ c.args.self.now.count * 2 ^ 64 =
     ∥∥₁_elim c.requires.comes le_prop (λ x. x.1.judged.at.taken_to_client) in
     omega (arith, few, taken)
@@ -48,55 +48,55 @@ advance-requires-clause-taken_to_client g c =
 pub advance-requires-clause-to_server : goal.advance-requires-clause-to_server
 advance-requires-clause-to_server g c =
     let few : c.args.self.now.count < 2 ^ 62 = ∥∥₁_elim c.requires.comes le_prop
-    (λ x. few_judged c.args.rules.now.tables.now x.0 c.args.self.now x.1.judged) in
+    (λ x. few_judged c.args.protocol.now.tables.now x.0 c.args.self.now x.1.judged) in
     let count : c.args.self.now.progress.to_server.count ≤ c.args.self.now.count =
-    ∥∥₁_elim c.requires.comes le_prop (λ x. count_few c.args.rules.now.tables.now x.0 c.args.self.now.count
+    ∥∥₁_elim c.requires.comes le_prop (λ x. count_few c.args.protocol.now.tables.now x.0 c.args.self.now.count
     c.args.self.now.progress ToServer x.1.judged.at) in
     omega (arith, few, count)
 
 pub advance-requires-clause-to_client : goal.advance-requires-clause-to_client
 advance-requires-clause-to_client g c =
     let few : c.args.self.now.count < 2 ^ 62 = ∥∥₁_elim c.requires.comes le_prop
-    (λ x. few_judged c.args.rules.now.tables.now x.0 c.args.self.now x.1.judged) in
+    (λ x. few_judged c.args.protocol.now.tables.now x.0 c.args.self.now x.1.judged) in
     let count : c.args.self.now.progress.to_client.count ≤ c.args.self.now.count =
-    ∥∥₁_elim c.requires.comes le_prop (λ x. count_few c.args.rules.now.tables.now x.0 c.args.self.now.count
+    ∥∥₁_elim c.requires.comes le_prop (λ x. count_few c.args.protocol.now.tables.now x.0 c.args.self.now.count
     c.args.self.now.progress ToClient x.1.judged.at) in
     omega (arith, few, count)
 
 pub advance-requires-clause-end : goal.advance-requires-clause-end
 advance-requires-clause-end g c =
     let known = known_in c.args.self.now.progress.known in
-    let front = judged_front c.args.rules.now.limit.bytes c.args.rules.now.tables.now known c.args.bytes.now
+    let front = judged_front c.args.protocol.now.limit.bytes c.args.protocol.now.tables.now known c.args.bytes.now
     c.args.frame.now in
-    let found = found_call c.args.rules.now.tables.now known c.args.journal.now.sink.output front c.in-Ok.changes
+    let found = found_call c.args.protocol.now.tables.now known c.args.journal.now.sink.output front c.in-Ok.changes
     c.args.journal.now.sink.text.items c.judge.new.sink.text.items
     (sym c.in-Ok.is ∙ c.in_ok-judged.ensures.changes) c.in_ok-judged.ensures.text in
-    let good = size_good c.args.rules.now.limit.bytes c.args.rules.now.tables.now known c.args.bytes.now
-    c.args.frame.now found.call (is_size c.args.rules.now.limit.bytes c.args.frame.now.size) refl found.is in
-    ∥∥₁_elim c.requires.comes le_prop (λ x. (let within = message_within c.args.rules.now.limit.bytes
-    c.args.rules.now.tables.now x.0 c.args.self.now c.args.frame.now c.args.bytes.now x.1 good in
+    let good = size_good c.args.protocol.now.limit.bytes c.args.protocol.now.tables.now known c.args.bytes.now
+    c.args.frame.now found.call (is_size c.args.protocol.now.limit.bytes c.args.frame.now.size) refl found.is in
+    ∥∥₁_elim c.requires.comes le_prop (λ x. (let within = message_within c.args.protocol.now.limit.bytes
+    c.args.protocol.now.tables.now x.0 c.args.self.now c.args.frame.now c.args.bytes.now x.1 good in
     let small = x.1.small in omega (arith, within, small)))
 
 pub returns-in-Err-clause-judged : goal.returns-in-Err-clause-judged
 returns-in-Err-clause-judged g c s h =
-    let front = judged_front c.args.rules.now.limit.bytes c.args.rules.now.tables.now
+    let front = judged_front c.args.protocol.now.limit.bytes c.args.protocol.now.tables.now
     (known_in c.args.self.now.progress.known) c.args.bytes.now c.args.frame.now in
-    let is = found_fault c.args.rules.now.tables.now front c.in-Err.fault (sym c.in-Err.is ∙
+    let is = found_fault c.args.protocol.now.tables.now front c.in-Err.fault (sym c.in-Err.is ∙
     c.in_ok-judged.ensures.changes) in
-    judged_broken c.args.rules.now.limit.bytes c.args.rules.now.tables.now s c.args.self.now _ c.args.frame.now
+    judged_broken c.args.protocol.now.limit.bytes c.args.protocol.now.tables.now s c.args.self.now _ c.args.frame.now
     c.args.bytes.now
     c.in-Err.fault h is refl
 
 pub returns-in-Err-clause-lines : goal.returns-in-Err-clause-lines
 returns-in-Err-clause-lines g c s h =
     let known = known_in c.args.self.now.progress.known in
-    let front = judged_front c.args.rules.now.limit.bytes c.args.rules.now.tables.now known c.args.bytes.now
+    let front = judged_front c.args.protocol.now.limit.bytes c.args.protocol.now.tables.now known c.args.bytes.now
     c.args.frame.now in
-    let is = found_fault c.args.rules.now.tables.now front c.in-Err.fault (sym c.in-Err.is ∙
+    let is = found_fault c.args.protocol.now.tables.now front c.in-Err.fault (sym c.in-Err.is ∙
     c.in_ok-judged.ensures.changes) in
-    prints_none c.args.rules.now.tables.now s c.args.journal.now.sink.output c.args.self.now.count
+    prints_none c.args.protocol.now.tables.now s c.args.journal.now.sink.output c.args.self.now.count
     c.args.journal.now.sink.text.items c.judge.new.sink.text.items
-    (no_more c.args.rules.now.tables.now known c.args.journal.now.sink.output c.args.journal.now.sink.text.items
+    (no_more c.args.protocol.now.tables.now known c.args.journal.now.sink.output c.args.journal.now.sink.text.items
     c.judge.new.sink.text.items front c.in-Err.fault is
     c.in_ok-judged.ensures.text)
 
@@ -104,15 +104,15 @@ pub returns-then-changes-clause-judged : goal.returns-then-changes-clause-judged
 returns-then-changes-clause-judged g c s h =
     let a = c.in_ok-advance.ensures in
     let known = known_in c.args.self.now.progress.known in
-    let front = judged_front c.args.rules.now.limit.bytes c.args.rules.now.tables.now known c.args.bytes.now
+    let front = judged_front c.args.protocol.now.limit.bytes c.args.protocol.now.tables.now known c.args.bytes.now
     c.args.frame.now in
-    let found = found_call c.args.rules.now.tables.now known c.args.journal.now.sink.output front c.in-Ok.changes
+    let found = found_call c.args.protocol.now.tables.now known c.args.journal.now.sink.output front c.in-Ok.changes
     c.args.journal.now.sink.text.items
     c.judge.new.sink.text.items (sym c.in-Ok.is ∙ c.in_ok-judged.ensures.changes) c.in_ok-judged.ensures.text in
-    let good = size_good c.args.rules.now.limit.bytes c.args.rules.now.tables.now known c.args.bytes.now
+    let good = size_good c.args.protocol.now.limit.bytes c.args.protocol.now.tables.now known c.args.bytes.now
     c.args.frame.now found.call
-    (is_size c.args.rules.now.limit.bytes c.args.frame.now.size) refl found.is in
-    judged_end c.args.rules.now.limit.bytes c.args.rules.now.tables.now s c.args.self.now _ c.args.frame.now
+    (is_size c.args.protocol.now.limit.bytes c.args.frame.now.size) refl found.is in
+    judged_end c.args.protocol.now.limit.bytes c.args.protocol.now.tables.now s c.args.self.now _ c.args.frame.now
     c.args.bytes.now
     found.call c.in-Ok.changes h found.is good
     (record {
@@ -129,15 +129,15 @@ returns-then-changes-clause-judged g c s h =
 pub returns-then-changes-clause-lines : goal.returns-then-changes-clause-lines
 returns-then-changes-clause-lines g c s h =
     let known = known_in c.args.self.now.progress.known in
-    let front = judged_front c.args.rules.now.limit.bytes c.args.rules.now.tables.now known c.args.bytes.now
+    let front = judged_front c.args.protocol.now.limit.bytes c.args.protocol.now.tables.now known c.args.bytes.now
     c.args.frame.now in
-    let found = found_call c.args.rules.now.tables.now known c.args.journal.now.sink.output front c.in-Ok.changes
+    let found = found_call c.args.protocol.now.tables.now known c.args.journal.now.sink.output front c.in-Ok.changes
     c.args.journal.now.sink.text.items
     c.judge.new.sink.text.items (sym c.in-Ok.is ∙ c.in_ok-judged.ensures.changes) c.in_ok-judged.ensures.text in
-    prints_line c.args.rules.now.tables.now s c.args.journal.now.sink.output c.args.self.now.count found.call
+    prints_line c.args.protocol.now.tables.now s c.args.journal.now.sink.output c.args.self.now.count found.call
     c.args.self.now.progress c.args.journal.now.sink.text.items
     c.judge.new.sink.text.items
-    (next_is c.args.rules.now.limit.bytes c.args.rules.now.tables.now s c.args.self.now c.args.frame.now
+    (next_is c.args.protocol.now.limit.bytes c.args.protocol.now.tables.now s c.args.self.now c.args.frame.now
     c.args.bytes.now
     (Ok found.call) h found.is) h.judged.at found.text
 
@@ -145,15 +145,15 @@ pub returns-else-changes-clause-judged : goal.returns-else-changes-clause-judged
 returns-else-changes-clause-judged g c s h =
     let a = c.in_ok-advance.ensures in
     let known = known_in c.args.self.now.progress.known in
-    let front = judged_front c.args.rules.now.limit.bytes c.args.rules.now.tables.now known c.args.bytes.now
+    let front = judged_front c.args.protocol.now.limit.bytes c.args.protocol.now.tables.now known c.args.bytes.now
     c.args.frame.now in
-    let found = found_call c.args.rules.now.tables.now known c.args.journal.now.sink.output front c.in-Ok.changes
+    let found = found_call c.args.protocol.now.tables.now known c.args.journal.now.sink.output front c.in-Ok.changes
     c.args.journal.now.sink.text.items
     c.judge.new.sink.text.items (sym c.in-Ok.is ∙ c.in_ok-judged.ensures.changes) c.in_ok-judged.ensures.text in
-    let good = size_good c.args.rules.now.limit.bytes c.args.rules.now.tables.now known c.args.bytes.now
+    let good = size_good c.args.protocol.now.limit.bytes c.args.protocol.now.tables.now known c.args.bytes.now
     c.args.frame.now found.call
-    (is_size c.args.rules.now.limit.bytes c.args.frame.now.size) refl found.is in
-    judged_on c.args.rules.now.limit.bytes c.args.rules.now.tables.now s c.args.self.now _ c.args.frame.now
+    (is_size c.args.protocol.now.limit.bytes c.args.frame.now.size) refl found.is in
+    judged_on c.args.protocol.now.limit.bytes c.args.protocol.now.tables.now s c.args.self.now _ c.args.frame.now
     c.args.bytes.now
     found.call c.in-Ok.changes h found.is good
     (record {
@@ -170,14 +170,14 @@ returns-else-changes-clause-judged g c s h =
 pub returns-else-changes-clause-lines : goal.returns-else-changes-clause-lines
 returns-else-changes-clause-lines g c s h =
     let known = known_in c.args.self.now.progress.known in
-    let front = judged_front c.args.rules.now.limit.bytes c.args.rules.now.tables.now known c.args.bytes.now
+    let front = judged_front c.args.protocol.now.limit.bytes c.args.protocol.now.tables.now known c.args.bytes.now
     c.args.frame.now in
-    let found = found_call c.args.rules.now.tables.now known c.args.journal.now.sink.output front c.in-Ok.changes
+    let found = found_call c.args.protocol.now.tables.now known c.args.journal.now.sink.output front c.in-Ok.changes
     c.args.journal.now.sink.text.items
     c.judge.new.sink.text.items (sym c.in-Ok.is ∙ c.in_ok-judged.ensures.changes) c.in_ok-judged.ensures.text in
-    prints_line c.args.rules.now.tables.now s c.args.journal.now.sink.output c.args.self.now.count found.call
+    prints_line c.args.protocol.now.tables.now s c.args.journal.now.sink.output c.args.self.now.count found.call
     c.args.self.now.progress c.args.journal.now.sink.text.items
     c.judge.new.sink.text.items
-    (next_is c.args.rules.now.limit.bytes c.args.rules.now.tables.now s c.args.self.now c.args.frame.now
+    (next_is c.args.protocol.now.limit.bytes c.args.protocol.now.tables.now s c.args.self.now c.args.frame.now
     c.args.bytes.now
     (Ok found.call) h found.is) h.judged.at found.text

@@ -1,7 +1,7 @@
 use Rattle.std.proofs.Common.{◌≡◌, ◌≤◌, List, length, take, sym, ap, subst, ◌∙◌, arith, rules}
 use Rattle.std.specs.List.{filter, count_by}
 use Rattle.std.proofs.lemmas.Fn.{filter_same}
-use Rattle.wl_server.specs.declared.registry.Slot.{Slot}
+use Rattle.wl_server.specs.declared.registry.RegistrySlot.{RegistrySlot}
 use Rattle.wl_server.specs.Slots.{KeptRegistries, SlotsRise, open_in, past_of}
 use Rattle.wl_server.proofs.Slots.{few-kept, is_open, length-open, open-again, open-kept, past-kept, rise-kept}
 use Rattle.wl_server.proofs.Slots.{settled-kept}
@@ -17,12 +17,12 @@ invariant_of-self g c =
       rising = subst (SlotsRise 0) (sym kept) (rise-kept 0 slots c.self.invariant.rising);
       closed = omega (
         arith,
-        ap (λ (l : List Slot). length (open_in l)) kept,
+        ap (λ (l : List RegistrySlot). length (open_in l)) kept,
         length-open (filter is_open slots),
         ap length (open-again slots),
         ap length kept,
       );
-      settled = subst (λ (l : List Slot). c.count_open-self-inside.result ≤ length l) (sym kept)
+      settled = subst (λ (l : List RegistrySlot). c.count_open-self-inside.result ≤ length l) (sym kept)
           (omega (arith, count, few-kept c.self.inside.settled slots));
     }
 

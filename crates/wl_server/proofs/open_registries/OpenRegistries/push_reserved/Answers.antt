@@ -1,6 +1,6 @@
 use Rattle.std.proofs.Common.{◌≡◌, ℕ, ◌+◌, ◌≤◌, ◌∷◌, ◌++◌, [], List, true}
 use Rattle.std.proofs.Common.{length, length-append, take, sym, ap, subst, ◌∙◌, arith}
-use Rattle.wl_server.specs.declared.registry.Slot.{Slot}
+use Rattle.wl_server.specs.declared.registry.RegistrySlot.{RegistrySlot}
 use Rattle.wl_server.specs.State.{Registry}
 use Rattle.wl_server.specs.Slots.{KeptRegistries, SlotsRise, open_in, past_of, settled_in}
 use Rattle.wl_server.proofs.Slots.{open-append, past-push, rise-push, take-open}
@@ -11,7 +11,7 @@ use Rattle.wl_server.proofs.open_registries.OpenRegistries.push_reserved.Goals a
 pub invariant_of-self : goal.invariant_of-self
 invariant_of-self g c =
     let slots = c.self.inside.slots.items in
-    let slot : Slot = record { registry = c.new.result; is_open = true } in
+    let slot : RegistrySlot = record { registry = c.new.result; is_open = true } in
     let items : c.push_reserved.new.self.items ≡ slots ++ slot ∷ [] = c.push_reserved.ensures.items in
     let birth : c.new.result.object.birth ≡ c.args.object.birth =
     ap (λ (r : Registry). r.object.birth) c.new.ensures in
@@ -25,7 +25,7 @@ invariant_of-self g c =
         arith,
         c.self.invariant.closed,
         more,
-        ap (λ (l : List Slot). length (open_in l)) items,
+        ap (λ (l : List RegistrySlot). length (open_in l)) items,
         ap length items,
         length-append slots (slot ∷ []),
       );
@@ -35,7 +35,7 @@ invariant_of-self g c =
 pub returns-clause-past : goal.returns-clause-past
 returns-clause-past g c =
     let slots = c.self.inside.slots.items in
-    let slot : Slot = record { registry = c.new.result; is_open = true } in
+    let slot : RegistrySlot = record { registry = c.new.result; is_open = true } in
     let birth : c.new.result.object.birth ≡ c.args.object.birth =
     ap (λ (r : Registry). r.object.birth) c.new.ensures in
     let past : past_of slots ≤ c.new.result.object.birth =
@@ -47,12 +47,12 @@ pub returns-clause-settled : goal.returns-clause-settled
 returns-clause-settled g c = λ globals none.
     let slots = c.self.inside.slots.items in
     let settled = c.self.inside.settled in
-    let slot : Slot = record { registry = c.new.result; is_open = true } in
+    let slot : RegistrySlot = record { registry = c.new.result; is_open = true } in
     let front : take settled (slots ++ slot ∷ []) ≡ take settled slots =
     take-append-le settled slots (slot ∷ []) c.self.invariant.settled in
-    ap (λ (l : List Slot). owed_in globals (take (length (open_in (take settled l))) (open_in l)))
+    ap (λ (l : List RegistrySlot). owed_in globals (take (length (open_in (take settled l))) (open_in l)))
     c.push_reserved.ensures.items
     ∙ (ap (owed_in globals) (take-open settled (slots ++ slot ∷ []))
-    ∙ ap (λ (l : List Slot). owed_in globals (open_in l)) front
+    ∙ ap (λ (l : List RegistrySlot). owed_in globals (open_in l)) front
     ∙ sym (ap (owed_in globals) (take-open settled slots))
     ∙ (ap (λ (k : KeptRegistries). owed_in globals (settled_in k)) c.self.view_is ∙ none))

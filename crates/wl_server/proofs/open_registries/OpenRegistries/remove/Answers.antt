@@ -6,7 +6,7 @@ use Rattle.std.proofs.lemmas.Bool.Decides.{nat_tests}
 use Rattle.std.proofs.lemmas.List.{set-get_or}
 use Rattle.wl_object_map.specs.declared.object.Object.{Object}
 use Rattle.std.proofs.lemmas.Fn.{always_returns_same}
-use Rattle.wl_server.specs.declared.registry.Slot.{Slot}
+use Rattle.wl_server.specs.declared.registry.RegistrySlot.{RegistrySlot}
 use Rattle.wl_server.specs.State.{Registry}
 use Rattle.wl_server.specs.Registries.{without_object}
 use Rattle.wl_server.specs.Announcing.{owed_in}
@@ -17,7 +17,7 @@ use Rattle.wl_server.proofs.Slots.{settled-shut, without-closed}
 use Rattle.wl_server.proofs.open_registries.OpenRegistries.remove.Goals as goal
 
 -- the facts about the slots still hold after one of them is closed
-shut-keeps : (slots : List Slot) (closed settled place : ℕ) (slot other : Slot) → SlotsRise 0 slots
+shut-keeps : (slots : List RegistrySlot) (closed settled place : ℕ) (slot other : RegistrySlot) → SlotsRise 0 slots
     → closed + length (open_in slots) ≡ length slots → settled ≤ length slots → place < length slots
     → slot ≡ get_or slots place slot → other ≡ get_or slots place other → other.is_open ≡ true
     → record {
@@ -27,9 +27,9 @@ shut-keeps : (slots : List Slot) (closed settled place : ℕ) (slot other : Slot
       settled : settled ≤ length (set slots place (record { registry = slot.registry; is_open = false }));
     }
 shut-keeps slots closed settled place slot other rising count front within here there is =
-    let shut : Slot = record { registry = slot.registry; is_open = false } in
+    let shut : RegistrySlot = record { registry = slot.registry; is_open = false } in
     let was : slot.is_open ≡ true =
-    ap (λ (s : Slot). s.is_open) (same-slot slots place slot other within here there) ∙ is in
+    ap (λ (s : RegistrySlot). s.is_open) (same-slot slots place slot other within here there) ∙ is in
     record {
       rising = rise-set 0 slots place slot shut rising here refl;
       closed = omega (
@@ -42,13 +42,13 @@ shut-keeps slots closed settled place slot other rising count front within here 
     }
 
 -- the slot that was found by birth is the object's if it has the object's id
-the-object : (slots : List Slot) (place : ℕ) (slot other : Slot) (object : Object) → place < length slots
+the-object : (slots : List RegistrySlot) (place : ℕ) (slot other : RegistrySlot) (object : Object) → place < length slots
     → slot ≡ get_or slots place slot → other ≡ get_or slots place other
     → other.registry.object.id ≡ object.id → birth_in slot ≡ object.birth → slot.registry.object ≡ object
 the-object slots place slot other object within here there id birth =
     let same = same-slot slots place slot other within here there in
     λ i. record {
-      id = (ap (λ (s : Slot). s.registry.object.id) same ∙ id) i;
+      id = (ap (λ (s : RegistrySlot). s.registry.object.id) same ∙ id) i;
       birth = birth i;
     }
 
@@ -59,7 +59,7 @@ returns-in_default-clause-list g c =
     let birth = object.birth in
     let answer : IsAnswer birth slots (Err c.in_default.field-0) =
     subst (λ (r : Result ℕ ℕ). IsAnswer birth slots r) c.in_default.is
-    (subst (λ (l : List Slot). IsAnswer birth l c.binary_search_by_key-found.result) c.deref.ensures.value
+    (subst (λ (l : List RegistrySlot). IsAnswer birth l c.binary_search_by_key-found.result) c.deref.ensures.value
     (c.binary_search_by_key-found.ensures.position birth_in (always_returns_same _ _ _ (λ a r f' k. search rules)))) in
     subst (λ (rs : List Registry). rs ≡ without_object true object rs)
     (ap (λ (k : KeptRegistries). k.list) c.self.view_is)
@@ -74,7 +74,7 @@ returns-then-index-object-clause-list g c =
     let slot = c.index.result.now in
     let answer : IsAnswer birth slots (Ok place) =
     subst (λ (r : Result ℕ ℕ). IsAnswer birth slots r) c.in-Ok.is
-    (subst (λ (l : List Slot). IsAnswer birth l c.binary_search_by_key-found.result) c.deref.ensures.value
+    (subst (λ (l : List RegistrySlot). IsAnswer birth l c.binary_search_by_key-found.result) c.deref.ensures.value
     (c.binary_search_by_key-found.ensures.position birth_in (always_returns_same _ _ _ (λ a r f' k. search rules)))) in
     let within : place < length slots = omega (arith, c.in-Ok.ensures.bound, ap length c.deref.ensures.value) in
     subst (λ (rs : List Registry). rs ≡ without_object true object rs)
@@ -92,7 +92,7 @@ returns-then-not-index-clause-list g c =
     let slot = c.index-2.result.now in
     let answer : IsAnswer birth slots (Ok place) =
     subst (λ (r : Result ℕ ℕ). IsAnswer birth slots r) c.in-Ok.is
-    (subst (λ (l : List Slot). IsAnswer birth l c.binary_search_by_key-found.result) c.deref.ensures.value
+    (subst (λ (l : List RegistrySlot). IsAnswer birth l c.binary_search_by_key-found.result) c.deref.ensures.value
     (c.binary_search_by_key-found.ensures.position birth_in (always_returns_same _ _ _ (λ a r f' k. search rules)))) in
     let within : place < length slots = omega (arith, c.in-Ok.ensures.bound, ap length c.deref.ensures.value) in
     let same : set slots place slot ≡ slots = ap (set slots place) c.index-2.ensures ∙ set-get_or slots place slot in
@@ -131,7 +131,7 @@ returns-then-self-len-clause-list g c =
     let slot = c.index_mut.result.now in
     let answer : IsAnswer birth slots (Ok place) =
     subst (λ (r : Result ℕ ℕ). IsAnswer birth slots r) c.in-Ok.is
-    (subst (λ (l : List Slot). IsAnswer birth l c.binary_search_by_key-found.result) c.deref.ensures.value
+    (subst (λ (l : List RegistrySlot). IsAnswer birth l c.binary_search_by_key-found.result) c.deref.ensures.value
     (c.binary_search_by_key-found.ensures.position birth_in (always_returns_same _ _ _ (λ a r f' k. search rules)))) in
     let within : place < length slots = omega (arith, c.in-Ok.ensures.bound, ap length c.deref.ensures.value) in
     let test = c.if-index-object.false in
@@ -146,7 +146,7 @@ returns-then-self-len-clause-list g c =
 pub returns-then-self-len-clause-settled : goal.returns-then-self-len-clause-settled
 returns-then-self-len-clause-settled g c globals none =
     let slots = c.self.inside.slots.items in
-    let shut : Slot = record { registry = c.index_mut.result.now.registry; is_open = false } in
+    let shut : RegistrySlot = record { registry = c.index_mut.result.now.registry; is_open = false } in
     (λ i. owed_in globals (take (c.compact.ensures.settled i) (c.compact.ensures.list i)))
     ∙ settled-shut globals c.self.inside.settled slots c.in-Ok.place shut refl
     (ap (λ (k : KeptRegistries). owed_in globals (settled_in k)) c.self.view_is ∙ none)
@@ -154,7 +154,7 @@ returns-then-self-len-clause-settled g c globals none =
 pub returns-then-self-len-clause-past : goal.returns-then-self-len-clause-past
 returns-then-self-len-clause-past g c =
     let slots = c.self.inside.slots.items in
-    let shut : Slot = record { registry = c.index_mut.result.now.registry; is_open = false } in
+    let shut : RegistrySlot = record { registry = c.index_mut.result.now.registry; is_open = false } in
     omega (
       arith,
       c.compact.ensures.past,
@@ -171,7 +171,7 @@ returns-else-self-len-clause-list g c =
     let slot = c.index_mut.result.now in
     let answer : IsAnswer birth slots (Ok place) =
     subst (λ (r : Result ℕ ℕ). IsAnswer birth slots r) c.in-Ok.is
-    (subst (λ (l : List Slot). IsAnswer birth l c.binary_search_by_key-found.result) c.deref.ensures.value
+    (subst (λ (l : List RegistrySlot). IsAnswer birth l c.binary_search_by_key-found.result) c.deref.ensures.value
     (c.binary_search_by_key-found.ensures.position birth_in (always_returns_same _ _ _ (λ a r f' k. search rules)))) in
     let within : place < length slots = omega (arith, c.in-Ok.ensures.bound, ap length c.deref.ensures.value) in
     let test = c.if-index-object.false in
@@ -185,14 +185,14 @@ returns-else-self-len-clause-list g c =
 pub returns-else-self-len-clause-settled : goal.returns-else-self-len-clause-settled
 returns-else-self-len-clause-settled g c globals none =
     let slots = c.self.inside.slots.items in
-    let shut : Slot = record { registry = c.index_mut.result.now.registry; is_open = false } in
+    let shut : RegistrySlot = record { registry = c.index_mut.result.now.registry; is_open = false } in
     settled-shut globals c.self.inside.settled slots c.in-Ok.place shut refl
     (ap (λ (k : KeptRegistries). owed_in globals (settled_in k)) c.self.view_is ∙ none)
 
 pub returns-else-self-len-clause-past : goal.returns-else-self-len-clause-past
 returns-else-self-len-clause-past g c =
     let slots = c.self.inside.slots.items in
-    let shut : Slot = record { registry = c.index_mut.result.now.registry; is_open = false } in
+    let shut : RegistrySlot = record { registry = c.index_mut.result.now.registry; is_open = false } in
     omega (
       arith,
       past-set slots c.in-Ok.place c.index_mut.result.now shut c.index_mut.ensures.value refl,
