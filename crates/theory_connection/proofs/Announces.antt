@@ -62,7 +62,7 @@ use Rattle.theory_connection.proofs.ServerSendMoves.{tells_world}
 use Rattle.theory_connection.proofs.Places.{place_there, name_text}
 use Rattle.theory_connection.proofs.Moves.{LeadsTo, Moves, goes_on, telling, event_below}
 
--- ---- what can be owed
+-- ---- which events can be owed
 
 abbrev pub IsOwing : List Interface → List Global → Owing → Type 0
 IsOwing tables given (Removal name) = name ≤ max_globals
@@ -83,7 +83,7 @@ each_owing P test owing from (g ∷ gs) f =
     (each_owing P test owing (suc from) gs (λ k h q.
     (let j : from + suc k ≡ suc from + k = omega arith in subst (λ (n : ℕ). P (owing n h)) j (f (suc k) h q))))
 
--- what is so of each is so of the one at a place
+-- what holds for each element holds for the one at a place
 pub each_get : {X : Type 0} (P : X → Type 0) (xs : List X) (k : ℕ) (x : X) → Each P xs → slice_get xs k ≡ Some x → P x
 each_get P [] k x h e = absurd (cc e)
 each_get P (y ∷ xs) zero x h e = subst P (cc e) h.0
@@ -162,19 +162,19 @@ take_map f zero xs = refl
 take_map f (suc n) [] = refl
 take_map f (suc n) (x ∷ xs) = ap (λ (l : List _). f x ∷ l) (take_map f n xs)
 
--- a registry is marked alike under any id
+-- marking a registry does not depend on its id
 pick : (b : Bool) (o : Owing) (r : Registry)
     → marks_of (cond b (marked o r) r) ≡ cond b (mark_one o (marks_of r)) (marks_of r)
 pick true (Removal name) r = refl
 pick true (Telling name g) r = refl
 pick false o r = refl
 
--- births of objects of the client's range are the same where their numbers are
+-- births of objects of the client's range are the same if their numbers are
 same_numbers : (a b : Object) → is_of_server a.id ≡ false → is_of_server b.id ≡ false
     → nat_eq a.birth b.birth ≡ same_birth (birth_at a) (birth_at b)
 same_numbers a b h k = rw (h, k) refl
 
--- marking goes by births: all registries are the client's
+-- marking by objects is marking by births, since all registries are the client's
 pub marks_marked : (d : Due) (rs : List Registry) → is_of_server d.object.id ≡ false
     → ((o : Object) → IsAmong o rs → is_of_server o.id ≡ false)
     → map marks_of (marked_in d rs) ≡ mark_in (owed_of d) (map marks_of rs)
@@ -371,7 +371,7 @@ core_is c d version = λ i. record c {
   };
 }
 
--- a registry is the client's
+-- a registry has an id of the client's range
 registry_client : (p : PairState) (w : World) (asked : List (Message Known)) (told : List (Coming Known))
     → StandsBy p w asked told → (o : Object) → IsRegistry p.server.core.view o → is_of_server o.id ≡ false
 registry_client p w asked told s o r = elim (cases_Bool (is_of_server o.id)) [
@@ -498,7 +498,7 @@ tell_all p w asked told s z (d ∷ ds) i =
       stands_by = r.stands_by;
     }
 
--- only the outbox of an end's core is another
+-- of an end's core, only the outbox changes
 pub only_sent : (c : Core) (ds : List Due) → with_dues c ds ≡ record c { outbox = (with_dues c ds).outbox }
 only_sent c [] = refl
 only_sent c (d ∷ ds) = only_sent (with_sent c d.object.id (owed_opcode d.owing) (values_of c.tables d.owing) []) ds

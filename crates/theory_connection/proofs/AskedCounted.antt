@@ -1,5 +1,5 @@
--- The client has counted each object that its requests on the way are about, whoever reads or writes
--- next.
+-- The client has counted each object that its requests on the way are about. This stays so,
+-- whichever end reads or writes next.
 use Rattle.std.proofs.Common.{ℕ, ◌≤◌, List, [], ◌∷◌, ◌++◌, map, sym, subst, arith}
 use Rattle.std.specs.declared.option.Option.{Option}
 use Rattle.std.specs.declared.option.Option.TheVariants.{None, Some}
@@ -15,13 +15,13 @@ use Rattle.theory_connection.proofs.Births.{counted_more, next_counted}
 use Rattle.theory_connection.proofs.Sets.{made_counts, told_counts, ends_count}
 use Rattle.theory_connection.proofs.WholeInFlight.{OpenRow, client_makes, client_ends, client_told, each_more, each_by}
 
--- what was counted is so when more is
+-- what was counted is still counted if the counts are greater
 below_more : (n m : Maker → ℕ) → ((k : Maker) → n k ≤ m k) → (qs : List Ask) → Each (IsAskedBelow n) qs
     → Each (IsAskedBelow m) qs
 below_more n m l qs h = each_by (IsAskedBelow n) (IsAskedBelow m)
     (λ a c. counted_more _ n m c l) qs h
 
--- no count falls at a message that makes this and ends that
+-- a message that makes one object and ends another lowers no count
 makes_rise : (v : Rows Row) (n : Option Known) (k : Maker) → births_in v k ≤ births_in (client_makes v n) k
 makes_rise v None k = omega arith
 makes_rise v (Some x) k = made_counts v x.id (Open x.born) k

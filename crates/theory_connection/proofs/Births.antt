@@ -1,4 +1,4 @@
--- Births: when two are one, what is put at one, and which are counted.
+-- Births: when two are the same, what is put at one, and which are counted.
 use Rattle.std.proofs.Common.{◌≡◌, ◌≢◌, ℕ, ◌+◌, ◌<◌, ◌≤◌, Bool, true, false, cond, ◌⊎◌, inl, inr, refl, sym}
 use Rattle.std.proofs.Common.{ap, subst, arith, eqb-true, eq-eqb}
 use Rattle.std.proofs.lemmas.Bool.{and_parts}
@@ -22,7 +22,7 @@ pub maker_itself : (m : Maker) → same_maker m m ≡ true
 maker_itself Client = refl
 maker_itself Server = refl
 
--- births that the test calls the same are one
+-- births that the test calls the same are equal
 pub birth_same : (b c : Birth) → same_birth b c ≡ true → b ≡ c
 birth_same b c h =
     let k = and_parts (same_maker b.maker c.maker) (nat_eq b.number c.number) h in
@@ -30,14 +30,14 @@ birth_same b c h =
     let n = eqb-true b.number c.number k.1 in
     λ i. record { maker = m i; number = n i }
 
--- and one birth is the same as itself
+-- a birth is the same as itself
 pub birth_itself : (b : Birth) → same_birth b b ≡ true
 birth_itself b = rw (maker_itself b.maker) (eq-eqb b.number b.number refl)
 
 -- ---- what is put
 
 module _ {X : Type 0} where
-  -- a birth has what was put there, and every other birth what it had
+  -- a birth has what was put there; every other birth keeps what it had
   pub put_tells : (f : Birth → Option X) (b : Birth) (o : Option X) (c : Birth)
       → ((c ≡ b) × (put f b o c ≡ o)) ⊎ ((c ≢ b) × (put f b o c ≡ f c))
   unfolding put
@@ -60,16 +60,16 @@ module _ {X : Type 0} where
 
 -- ---- what is counted
 
--- what is counted is so when more are
+-- what is counted is still counted if the counts are greater
 pub counted_more : (b : Birth) (n m : Maker → ℕ) → IsAmongFirst n b → ((k : Maker) → n k ≤ m k) → IsAmongFirst m b
 counted_more b n m c l = let k = l b.maker in omega (arith, c, k)
 
--- the next birth of a maker is counted by one more
+-- the next birth of a maker is counted if the count is one more
 pub next_counted : (b : Birth) (k : Maker) (n : ℕ) (m : Maker → ℕ) → b ≡ record { maker = k; number = n } → n + 1 ≤ m k
     → IsAmongFirst m b
 next_counted b k n m e l = subst (IsAmongFirst m) (sym e) (omega (arith, l))
 
--- and not before
+-- the next birth is not counted before
 pub next_uncounted : (b : Birth) (k : Maker) (n : Maker → ℕ) → b ≡ record { maker = k; number = n k }
     → IsAmongFirst n b → ⊥
 next_uncounted b k n e c =

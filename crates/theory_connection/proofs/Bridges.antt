@@ -1,4 +1,4 @@
--- What the functions on views are to the rows.
+-- What the functions on views do to the rows.
 use Rattle.std.proofs.Common.{◌≡◌, ℕ, ◌+◌, ◌≤◌, max, Bool, true, false, cond, eqb, inl, inr, refl, sym, ◌∙◌, ap, arith, eqb-true}
 use Rattle.std.proofs.lemmas.Bool.Decides.{nat_tests}
 use Rattle.std.proofs.lemmas.Bool.{cases_eq}
@@ -30,7 +30,7 @@ use Rattle.theory_connection.proofs.Flight.{fresh_range}
 use Rattle.theory_connection.proofs.TwoRanges.{counts_by_client, counts_by_server, counts_closed, counts_zombied}
 
 module _ {X Y : Type 0} (f : ℕ → X → Y) where
-  -- rows of which one was put, seen by their ids
+  -- mapping rows, by their ids, after one was put
   pub map_put : (g h : ℕ → Option X) (k : ℕ) (o : Option X) → ((q : ℕ) → g q ≡ cond (eqb q k) o (h q)) → (q : ℕ)
       → option_map (f q) (g q) ≡ put_row (λ i. option_map (f i) (h i)) k (option_map (f k) o) q
   unfolding put_row
@@ -50,7 +50,7 @@ same_rows_at e h c d = λ k. record { rows = λ q. e q k; used = h k; births = c
 most_max : (a b : ℕ) → max a b ≡ most a b
 most_max a b = grind (arith, nat_tests)
 
--- the client's counts with one more open
+-- the client's counts with one more open object
 client_counts : (v : Objects) (x : Known) → is_of_server x.id ≡ false
     → ((opened_at v x.id x.born.iface x.born.version).client.used ≡ most v.client.used x.id)
     × ((opened_at v x.id x.born.iface x.born.version).client.births ≡ v.client.births + 1)
@@ -65,12 +65,12 @@ pub by_client : (id number : ℕ) → is_of_server id ≡ false
     → ◌≡◌ {A = Birth} (record { maker = maker_of id; number = number }) (client_birth number)
 by_client id number h = ap (λ (b : Bool). record { maker = cond b Server Client; number = number }) h
 
--- and of the server's
+-- the birth of a row of the server's range
 pub by_server : (id number : ℕ) → is_of_server id ≡ true
     → ◌≡◌ {A = Birth} (record { maker = maker_of id; number = number }) (server_birth number)
 by_server id number h = ap (λ (b : Bool). record { maker = cond b Server Client; number = number }) h
 
--- the client's rows with one more of the client open
+-- the client's rows with one more open object of the client
 pub client_opened : (v : Objects) (x : Known) → Fresh (client_rows v) x
     → client_rows (opened_at v x.id x.born.iface x.born.version) ≡ with_made (client_rows v) x.id (Open x.born)
 client_opened v x f =
@@ -84,7 +84,7 @@ client_opened v x f =
     (by_client x.id v.client.births range ∙ sym f.birth))
     more.0 more.1 (counts_by_client v x.id x.born.iface x.born.version range)
 
--- the server's rows with one more of the client open
+-- the server's rows with one more open object of the client
 pub server_opened : (v : Objects) (x : Known) → Fresh (server_rows v) x
     → server_rows (opened_at v x.id x.born.iface x.born.version) ≡ with_made (server_rows v) x.id x.born
 server_opened v x f =
@@ -106,7 +106,7 @@ told_look v id iface version q range =
     ∙ ap (λ (n : ℕ). cond (eqb q id) (Some (record { birth = n; iface = iface; version = version; state = Live })) (look v q))
     (in_range-server (λ view place. view.births) v id range)
 
--- what the server makes leaves the table of the client
+-- an object of the server does not change the table of the client's range
 pub told_client : (v : Objects) (x : Known) → is_of_server x.id ≡ true
     → (opened_at v x.id x.born.iface x.born.version).client ≡ v.client
 told_client v x range = ap (λ (o : Objects). o.client)
@@ -127,7 +127,7 @@ client_told_rows v x range birth =
     (ap (λ (t : View). t.used) same) (ap (λ (t : View). t.births) same)
     (counts_by_server v x.id x.born.iface x.born.version range)
 
--- the server's rows with one more of the server open
+-- the server's rows with one more open object of the server
 pub server_told_rows : (v : Objects) (x : Known) → is_of_server x.id ≡ true
     → x.born.birth ≡ server_birth v.server.births
     → server_rows (opened_at v x.id x.born.iface x.born.version) ≡ with_told (server_rows v) x.id x.born
@@ -166,12 +166,12 @@ client_zombied v id e h = same_rows_at (map_put row_of_entry (look (zombied v id
     (Some (zombie e))
     (zombie_at v id e h)) (used-zombied v id) (births-zombied v id) (counts_zombied v id)
 
--- what is mapped to nothing is nothing
+-- only nothing is mapped to nothing
 pub map_none : {X Y : Type 0} (f : X → Y) (o : Option X) → option_map f o ≡ None → o ≡ None
 map_none f None h = refl
 map_none f (Some x) h = absurd (cc h)
 
--- the next id fits
+-- a new object with the next id is fresh
 pub next_fresh : (v : Objects) (x : Known) → ObjectsAreSound v → can_open v.client ≡ true
     → x.id ≡ next_id v.client → x.born.birth ≡ client_birth v.client.births
     → Fresh (client_rows v) x
@@ -187,7 +187,7 @@ next_fresh v x s o e b =
       left = grind (arith, nat_tests, o);
     }
 
--- what fits is free to the server's tests
+-- the id of a fresh object passes the server's test for free ids
 pub fresh_free : (v : Objects) (x : Known) → ObjectsAreSound v → Fresh (server_rows v) x
     → free_or_next v.client x.id ≡ true
 fresh_free v x s f =
@@ -195,6 +195,6 @@ fresh_free v x s f =
     unheld_is_free v.client x.id s.client
     (sym (in_range-client table.look v x.id (fresh_range f)) ∙ none) f.some f.next
 
--- there is room for what is fresh to the server's rows
+-- there is room for a fresh object
 pub fresh_room : (v : Objects) (x : Known) → Fresh (server_rows v) x → has_room v.client x.id ≡ true
 fresh_room v x f = let a = f.low in let b = f.left in grind (arith, nat_tests, a, b)

@@ -42,7 +42,7 @@ use Rattle.wl_objects.specs.Messages.{or_else}
 
 -- ---- what holds if no refusal of a write applies
 
--- what the checks of a call say if no refusal applies
+-- what the checks of a call establish if no refusal applies
 pub record Checked (limit : ℕ) (tables : List Interface) (side : Side) (view : Objects) (target : Object) (opcode : ℕ)
     (given : List Given) (signature : sigs.MessageSignature) : Type 0 where
   pub entry : Entry
@@ -66,7 +66,7 @@ pub record LiveAs (birth : ℕ) (o : Option Entry) : Type 0 where
   pub birth_is : entry.birth ≡ birth
   pub live : entry.state ≡ states.Live
 
--- a live entry with this birth
+-- the entry is live and has this birth
 pub live_as : (birth : ℕ) (o : Option Entry) → is_live_as birth o ≡ true → LiveAs birth o
 live_as birth None h = absurd (cc h)
 live_as birth (Some e) h = let k = and_parts (nat_eq e.birth birth) (lives e.state) h
@@ -155,7 +155,7 @@ is_checked limit tables side view target opcode given s h =
 
 -- ---- the message
 
--- what an object was born as, by its entry
+-- the object as it was born, from its entry
 abbrev pub born_at : ℕ → Option Entry → Born
 born_at id None = record { birth = client_birth 0; iface = record { 0 = 0 }; version = 0 }
 born_at id (Some e) = born_of_entry id e
@@ -183,13 +183,13 @@ wire_one : (view : Objects) (new : Known) (a : Given) → wire (meant view new a
 wire_one view new (Obj None) = refl
 wire_one view new a = refl
 
--- what is meant goes out as what was given
+-- the message that is meant is written as the arguments that were given
 pub wire_all : (view : Objects) (new : Known) (given : List Given)
     → map wire (map (meant view new) given) ≡ map (wired new.id) given
 wire_all view new [] = refl
 wire_all view new (a ∷ given) = rw (wire_one view new a, wire_all view new given) refl
 
--- its tokens are those given
+-- the tokens of the message are those that were given
 pub tokens_all : (view : Objects) (new : Known) (given : List Given)
     → tokens (map (meant view new) given) ≡ tokens_of given
 tokens_all view new [] = refl
@@ -197,12 +197,12 @@ tokens_all view new (Obj None ∷ given) = tokens_all view new given
 tokens_all view new (Fd z ∷ given) = ap (λ (l : List ℕ). z ∷ l) (tokens_all view new given)
 tokens_all view new (a ∷ given) = tokens_all view new given
 
--- each suits its kind, and can be named
+-- the argument suits its kind, and its object can be named
 pub record Right (view : Objects) (kind : Kind) (a : Given) : Type 0 where
   pub suit : suits kind a ≡ true
   pub named : can_name (look view) kind a ≡ true
 
--- each given argument is as its kind asks, and names an object that is there
+-- each given argument suits its kind, and names an object that can be named
 abbrev pub AllRight : Objects → List Kind → List Given → Type 0
 AllRight view [] [] = Unit {0}
 AllRight view (k ∷ ks) (a ∷ given) = Right view k a × AllRight view ks given
@@ -212,7 +212,7 @@ if_none : (b : Bool) (o : Option ℕ) (p : ℕ) → cond b o (Some p) ≡ None �
 if_none true o p h = (refl, h)
 if_none false o p h = absurd (cc h)
 
--- with no wrong and no lost place all arguments are right
+-- if no place is wrong and none is lost, all arguments are right
 pub all_right : (view : Objects) (place : ℕ) (ks : List Kind) (given : List Given) → wrong_place place ks given ≡ None
     → lost_place (look view) place ks given ≡ None → AllRight view ks given
 all_right view place [] [] w l = tt
@@ -223,7 +223,7 @@ all_right view place (k ∷ ks) (a ∷ given) w l =
     let y = if_none (can_name (look view) k a) (lost_place (look view) (suc place) ks given) place l in
     (record { suit = x.0; named = y.0 }, all_right view (suc place) ks given x.1 y.1)
 
--- ---- it names what was handed
+-- ---- the message names the objects that were passed
 
 handed_one : (view : Objects) (new : Known) (next : Birth) (k : Kind) (a : Given)
     → new.born.birth ≡ next → Right view k a
@@ -237,7 +237,7 @@ handed_one view new next k (New x) e r = ap (λ (b : Birth). New b) e
 handed_one view new next k (NewNamed name own x) e r = ap (λ (b : Birth). NewNamed name own b) e
 handed_one view new next k a e r = refl
 
--- what is meant, by next, is what was handed
+-- the message, by births, has the arguments that were passed
 pub handed_all : (view : Objects) (new : Known) (next : Birth) (ks : List Kind) (given : List Given)
     → new.born.birth ≡ next → AllRight view ks given
     → map (rearg birth_of) (map (rearg born_of) (map (meant view new) given)) ≡ map (handed next) given
@@ -247,7 +247,7 @@ handed_all view new next (k ∷ ks) [] e r = absurd r
 handed_all view new next (k ∷ ks) (a ∷ given) e r =
     rw (handed_one view new next k a e r.0, handed_all view new next ks given e r.1) refl
 
--- ---- its objects
+-- ---- the message's objects
 
 -- a live object, with its row
 pub record LiveAt (view : Objects) (x : Known) : Type 0 where
@@ -261,7 +261,7 @@ pub live_at : (view : Objects) (k : Kind) (x : Object) → can_name (look view) 
 live_at view k x h = let l = live_as x.birth (look view x.id) (and_parts _ _ h).0
     in record { entry = l.entry; there = l.there; same = ap (born_at x.id) (sym l.there); live = l.live }
 
--- each object that is meant is live
+-- each object in the message is live
 pub all_live : (view : Objects) (new : Known) (ks : List Kind) (given : List Given) → AllRight view ks given
     → Each (LiveAt view) (objects (map (meant view new) given))
 all_live view new [] [] r = tt
@@ -271,7 +271,7 @@ all_live view new (k ∷ ks) (Obj None ∷ given) r = all_live view new ks given
 all_live view new (k ∷ ks) (Obj (Some x) ∷ given) r = (live_at view k x r.0.named, all_live view new ks given r.1)
 all_live view new (k ∷ ks) (a ∷ given) r = all_live view new ks given r.1
 
--- ---- its new object
+-- ---- the message's new object
 
 abbrev pub Matches : Known → ℕ → Kind → Type 0
 Matches new version (kinds.New (Some iface)) = (new.born.iface ≡ iface) × (new.born.version ≡ version)
@@ -279,7 +279,7 @@ Matches new version (kinds.NewByServer iface) = (new.born.iface ≡ iface) × (n
 Matches new version (kinds.New None) = ⊥
 Matches new version _ = Unit {0}
 
--- how many objects kinds make
+-- how many objects the kinds make
 abbrev pub makings : List Kind → ℕ
 makings ks = length (new_objects ks) + length (server_objects ks)
 
@@ -295,7 +295,7 @@ unnamed_first k ks h = h 0 k (omega arith)
 unnamed_rest : (k : Kind) (ks : List Kind) → All (λ x. x ≢ kinds.New None) (k ∷ ks) → All (λ x. x ≢ kinds.New None) ks
 unnamed_rest k ks h = All-tail (λ (x : Kind). x ≢ kinds.New None) k ks h
 
--- each kind that makes an object makes just the new one
+-- each kind that makes an object makes the new one, and no other
 pub matches : (tables : List Interface) (maker : Maker) (view : Objects) (version id : ℕ) (ks : List Kind) (given : List Given)
     → AllRight view ks given → makings ks ≤ 1 → All (λ x. x ≢ kinds.New None) ks
     → Each (Matches (new_known maker view (made tables version ks (map (wired id) given))) version) ks
@@ -330,7 +330,7 @@ matches tables maker view version id (kinds.NewByServer iface ∷ ks) (New x ∷
 )
 matches tables maker view version id (_ ∷ ks) (_ ∷ given) r h u = absurd (cc r.0.suit)
 
--- ---- it fits its signature
+-- ---- the message fits its signature
 
 no_nul : (text : List ℕ) → has_no_nul text ≡ true → All (λ b. b ≢ 0) text
 no_nul text e k d h z =
@@ -368,7 +368,7 @@ fit_one tables view new version (kinds.NewByServer iface) (New x) s n r m g l =
     (n, λ j. Some (record { id = new.id; iface = sym m.0 j; version = sym m.1 j }))
 fit_one tables view new version _ _ s n r m g l = absurd (cc r.suit)
 
--- what is meant fits the kinds
+-- the arguments that are meant fit the kinds
 pub fit_all : (tables : List Interface) (view : Objects) (new : Known) (version : ℕ) (ks : List Kind) (given : List Given)
     → ObjectsAreSound view → new.id < 2 ^ 32 → AllRight view ks given → Each (Matches new version) ks
     → Each FitsWords given → message_len (map (wired 0) given) ≤ greatest_limit
@@ -381,12 +381,12 @@ fit_all tables view new version (k ∷ ks) (a ∷ given) s n r m g l = (
   fit_all tables view new version ks given s n r.1 m.1 g.1 (omega (arith, l)),
 )
 
--- ---- it makes at most one object
+-- ---- the message makes at most one object
 
 abbrev pub NewIs : Known → List (Arg Known) → Type 0
 NewIs new args = Each (λ a. IfThere (λ x. x ≡ new) (new_object_in a)) args
 
--- each new object that is meant is this one
+-- each new object in the message is this one
 pub new_all : (view : Objects) (new : Known) (given : List Given) → NewIs new (map (meant view new) given)
 new_all view new [] = tt
 new_all view new (New x ∷ given) = (refl, new_all view new given)
@@ -398,7 +398,7 @@ first_is : (new : Known) (o p : Option Known) → IfThere (λ x. x ≡ new) o �
 first_is new None p h q = q
 first_is new (Some x) p h q = inr (ap Some h)
 
--- arguments make nothing or this object
+-- the arguments make nothing or this object
 pub made_new : (new : Known) (args : List (Arg Known)) → NewIs new args
     → (made_in args ≡ None) ⊎ (made_in args ≡ Some new)
 made_new new [] h = inl refl
@@ -423,7 +423,7 @@ some_in new all (a ∷ args) h n = (step (new_object_in a) n.0, some_in new all 
     step None k = tt
     step (Some x) k = h ∙ ap Some (sym k)
 
--- they make at most one
+-- the arguments make at most one object
 pub one_new : (new : Known) (args : List (Arg Known)) → NewIs new args
     → Each (λ a. IfThere (λ x. made_in args ≡ Some x) (new_object_in a)) args
 one_new new args h = elim (made_new new args h) [ inl p ↦ none_in args args p | inr p ↦ some_in new args args p h ]

@@ -108,7 +108,7 @@ carry_to_client_keeps p w asked told s z most reply p' moved =
 carry_to_client_keeps p w asked told s z most reply p' (no_memory h) =
     record { world = w; answers = before z (no_memory h) refl; outcome = goes_on asked told z s stays }
 
--- ---- all that goes is taken in
+-- ---- everything that is carried is taken in
 
 pub record Fitting (from to : Core) (most : ℕ) : Type 0 where
   pub bytes : (carries from to most).bytes ≤ min most (in_room to).bytes
@@ -116,7 +116,7 @@ pub record Fitting (from to : Core) (most : ℕ) : Type 0 where
   pub bytes_there : length (carried_bytes from (carries from to most)) ≡ (carries from to most).bytes
   pub tokens_there : length (carried_tokens from (carries from to most)) ≡ (carries from to most).tokens
 
--- no more tokens begin than wait
+-- no more tokens are begun than wait
 pub begun_few : (o : Outgoing) (n : ℕ) → length (all_tokens (newly_begun o n)) ≤ length (waiting_tokens o)
 begun_few o n =
     let m = begun_front (n - length o.left) o.messages in
@@ -133,7 +133,7 @@ begun_few o n =
           (all_tokens (drop (length (newly_begun o n)) o.messages)),
     )
 
--- what is carried is there, and within the room
+-- what is carried was waiting, and fits into the room
 pub carry_fits : (from to : Core) (most : ℕ) → Fitting from to most
 carry_fits from to most =
     let g = goes_goes from.outbox (min most (in_room to).bytes) (in_room to).tokens in
@@ -163,7 +163,7 @@ taken_whole to false bytes tokens nb nt e p q h k =
     let some : min (length tokens) (free_tokens to.inbox) ≡ nt = omega (arith, q, y) in
     rw (e, all, few, some) refl
 
--- what is carried is all taken in
+-- everything that is carried is taken in
 pub carry_whole : (from to : Core) (most : ℕ) → feeds to (carried_bytes from (carries from to most))
     (carried_tokens from (carries from to most)) ≡ carries from to most
 carry_whole from to most =

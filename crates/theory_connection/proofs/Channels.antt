@@ -14,12 +14,12 @@ use Rattle.theory_connection.specs.World.{Each}
 use Rattle.theory_connection.specs.Stands.{InFlight}
 use Rattle.theory_connection.proofs.WholeInFlight.{each_more, each_rest}
 
--- the bytes of more messages
+-- the bytes of two lists of messages
 pub all_bytes_more : (xs ys : List QueuedMessage) → all_bytes (xs ++ ys) ≡ all_bytes xs ++ all_bytes ys
 all_bytes_more [] ys = refl
 all_bytes_more (x ∷ xs) ys = rw (all_bytes_more xs ys) (sym (append_assoc x.bytes (all_bytes xs) (all_bytes ys)))
 
--- the tokens of more messages
+-- the tokens of two lists of messages
 pub all_tokens_more : (xs ys : List QueuedMessage) → all_tokens (xs ++ ys) ≡ all_tokens xs ++ all_tokens ys
 all_tokens_more [] ys = refl
 all_tokens_more (x ∷ xs) ys = rw (all_tokens_more xs ys) (sym (append_assoc x.tokens (all_tokens xs) (all_tokens ys)))
@@ -37,7 +37,7 @@ pushed o p i ms more f l e w = record {
   whole = each_more (λ (m : QueuedMessage). IsMessage i.limit.bytes m.bytes) ms more f.whole w;
 }
 
--- how many bytes the messages begun by n bytes have: at least so many
+-- the messages that n bytes begin have at least n bytes
 enough : (n : ℕ) (ms : List QueuedMessage) → n ≤ length (all_bytes ms) → n ≤ length (all_bytes (begun n ms))
 enough n [] h = h
 enough zero (m ∷ ms) h = omega arith
@@ -46,7 +46,7 @@ enough (suc n) (m ∷ ms) h =
     let r = enough (suc n - length m.bytes) ms k in
     omega (arith, r, length-append m.bytes (all_bytes (begun (suc n - length m.bytes) ms)))
 
--- what goes, and what is left
+-- what is carried, and what is left
 pub record Gone (o : Outgoing) (n : ℕ) : Type 0 where
   pub messages : o.messages ≡ newly_begun o n ++ (after_taking o n).messages
   pub bytes : o.left ++ all_bytes (newly_begun o n) ≡ take n (waiting_bytes o) ++ (after_taking o n).left
@@ -69,7 +69,7 @@ gone_at o n b ms rest e f h =
           ∙ take_at (all_tokens b) (all_tokens rest) (length (all_tokens b)) refl,
     )
 
--- what goes when this many bytes go
+-- what is carried if n bytes are carried
 pub gone : (o : Outgoing) (n : ℕ) → n ≤ length (waiting_bytes o) → Gone o n
 gone o n h =
     let b = newly_begun o n in
@@ -82,7 +82,7 @@ gone o n h =
     let g = gone_at o n b o.messages rest e refl (omega (arith, r, length-append o.left (all_bytes b))) in
     record { messages = e; bytes = g.0; tokens = g.1 }
 
--- bytes and tokens go
+-- bytes and tokens are carried
 pub carried : (o : Outgoing) (i : Arrived) (ms : List QueuedMessage) (n : ℕ) → InFlight o i ms
     → n ≤ length (waiting_bytes o)
     → InFlight (after_taking o n) (with_more i (take n (waiting_bytes o))
@@ -104,19 +104,19 @@ carried o i ms n f h =
       whole = f.whole;
     }
 
--- what goes is there
+-- no more bytes are carried than wait
 pub goes_there : (o : Outgoing) (b t : ℕ) → (goes o b t).bytes ≤ length (waiting_bytes o)
 unfolding goes
 goes_there o b t = let g = going_there (b - length o.left) t o.messages
     in omega (arith, g, length-append o.left (all_bytes o.messages))
 
--- the tokens that go are those of the messages begun
+-- the tokens that are carried are those of the messages begun
 pub goes_tokens : (o : Outgoing) (b t : ℕ) → (goes o b t).tokens
     ≡ length (all_tokens (newly_begun o (goes o b t).bytes))
 unfolding goes
 goes_tokens o b t = refl
 
--- what a read finds
+-- what a read finds, and what is in flight after it
 pub record Pops (o : Outgoing) (i : Arrived) (ms : List QueuedMessage) (n : ℕ) : Type 0 where
   pub first : QueuedMessage
   pub rest : List QueuedMessage
@@ -137,7 +137,7 @@ split xs ys ms zs n e h l =
           ∙ ap (λ k. k ++ zs) (drop_all n ms (omega arith)),
     )
 
--- what is in front of nothing is nothing
+-- the first part of an empty list is empty
 pub front_nil : (xs ys : List ℕ) → xs ++ ys ≡ [] → xs ≡ []
 front_nil [] ys h = refl
 front_nil (x ∷ xs) ys h = cc
@@ -180,12 +180,12 @@ pops_at o i ms n f (b ∷ bs) e h =
       };
     }
 
--- a whole message in front of the inbox is the first in flight
+-- a whole message at the front of the inbox is the first in flight
 pub pops : (o : Outgoing) (i : Arrived) (ms : List QueuedMessage) (n : ℕ) → InFlight o i ms → in_front i ≡ Whole n
     → Pops o i ms n
 pops o i ms n f h = pops_at o i ms n f f.begun refl h
 
--- no bad header is met
+-- no bad header is at the front of the inbox, by the messages begun
 never_bad_at : (o : Outgoing) (i : Arrived) (ms bs : List QueuedMessage) (n : ℕ) (f : InFlight o i ms) → f.begun ≡ bs
     → in_front i ≡ Bad n → ⊥
 never_bad_at o i ms [] n f e h =
@@ -201,12 +201,12 @@ never_bad_at o i ms (b ∷ bs) n f e h =
     let q : front i.limit.bytes (i.bytes ++ o.left) ≡ Bad n = bad_stays i.limit.bytes i.bytes o.left n h in
     cc (p, q, ap (front i.limit.bytes) eq)
 
--- no bad header comes
+-- no bad header is at the front of the inbox
 pub never_bad : (o : Outgoing) (i : Arrived) (ms : List QueuedMessage) (n : ℕ) → InFlight o i ms → in_front i ≡ Bad n
     → ⊥
 never_bad o i ms n f h = never_bad_at o i ms f.begun n f refl h
 
--- empty queues: nothing is in flight
+-- with empty queues nothing is in flight, by the messages begun
 none_at : (o : Outgoing) (i : Arrived) (ms bs : List QueuedMessage) (f : InFlight o i ms) → f.begun ≡ bs → i.bytes ≡ []
     → o.left ≡ [] → o.messages ≡ [] → ms ≡ []
 none_at o i ms [] f e x y z = f.all ∙ ap (λ l. l ++ o.messages) e ∙ z

@@ -1,4 +1,4 @@
--- A move of the client's binding.
+-- The move in which the client binds a global.
 use Rattle.std.proofs.Common.{◌≡◌, ℕ, zero, suc, ◌≤◌, Bool, true, false, cond, List, [], ◌∷◌, ◌++◌}
 use Rattle.std.proofs.Common.{length, refl, sym, ap, subst, ◌∙◌, arith}
 use Rattle.std.specs.Prelude.{option_map, nat_le, bytes_eq, not, ◌&&◌, codes}
@@ -59,7 +59,7 @@ use Rattle.theory_connection.proofs.RequestWritten.{CanAsk, asked_core, ask_stan
 use Rattle.theory_connection.proofs.ClientSendMove.{asks_world}
 use Rattle.theory_connection.proofs.Moves.{Moves, Outcome, goes_on, stays, asking}
 
--- ---- what an accepted bind tells
+-- ---- what follows from an accepted bind
 
 pub record Bound (st : client.State) (target : Object) (name : ℕ) (iface : List ℕ) (version : ℕ)
     (new : Option Object) : Type 0 where
@@ -149,7 +149,7 @@ found_if : (P : Remembered → Type 0) (test : Remembered → Bool) (x g : Remem
 found_if P test x g rest true t p f k = let q : x ≡ g = cc k in (subst P q p, ap test (sym q) ∙ t)
 found_if P test x g rest false t p f k = f k
 
--- what is found passes the test and is as each is
+-- the element that is found passes the test, and has what each element has
 pub find_at : (P : Remembered → Type 0) (test : Remembered → Bool) (gs : List Remembered) (g : Remembered) → Each P gs
     → find test gs ≡ Some g → P g × (test g ≡ true)
 find_at P test [] g h e = absurd (cc e)

@@ -18,7 +18,7 @@ use Rattle.theory_connection.specs.World.{Each, nameless, is_registry}
 use Rattle.theory_connection.specs.Stands.{TellsGiven, TellsFitly}
 use Rattle.wl_connection.specs.Core.{max_globals}
 
--- ---- numbers and texts do not hang on how objects are named
+-- ---- numbers and texts do not depend on how objects are named
 
 number_one : (a : Arg Known) → number_in (wire a) ≡ number_in (nameless (rearg born_of a))
 number_one (Obj None) = refl
@@ -41,7 +41,7 @@ module _ {Y : Type 0} (f : Argument → Y) (same : (a : Arg Known) → f (wire a
       ∙ sym (ap (λ o. f (unwrap_or o (Uint 0))) (slice_get-map nameless (map (rearg born_of) args) k
       ∙ ap (option_map nameless) (slice_get-map (rearg born_of) args k)))
 
--- what is learned does not hang on how objects are named
+-- what is learned does not depend on how objects are named
 pub told_same : (tables : List Interface) (globals : List Global) (opcode : ℕ) (args : List (Arg Known))
     → globals_told tables globals opcode (map wire args)
     ≡ globals_told tables globals opcode (map nameless (map (rearg born_of) args))
@@ -51,9 +51,9 @@ told_same tables globals opcode args =
     else if nat_eq opcode 1 then forgotten (same_at number_in number_one args 0 i) globals
     else globals
 
--- ---- what was given is learned
+-- ---- what the client learns was given
 
--- what an event tells of a global, as the client remembers it
+-- the global of an event, as the client remembers it
 abbrev pub told_of : {tables : List Interface} {given : List server.Global} {args : List (Arg Known)}
     → TellsGiven tables given args → Global
 told_of t = record { name = t.name; iface = t.iface; version = t.version }
@@ -63,7 +63,7 @@ module _ (P : Global → Type 0) where
   keep_if true g gs p h = (p, h)
   keep_if false g gs p h = h
 
-  -- what is so of each is so of those that pass a test
+  -- what holds for each holds for those that pass a test
   pub each_filter : (test : Global → Bool) (gs : List Global) → Each P gs → Each P (filter test gs)
   each_filter test [] h = tt
   each_filter test (g ∷ gs) h = keep_if (test g) g (filter test gs) h.0 (each_filter test gs h.1)
@@ -84,7 +84,7 @@ module _ (P : Global → Type 0) where
   lists_of true xs ys p q = p
   lists_of false xs ys p q = q
 
-  -- what is so of each and of one more is so of all that are then remembered
+  -- what holds for each remembered global and for a new one holds for all remembered afterwards
   pub each_remembered : (g : Global) (gs : List Global) → P g → Each P gs → Each P (remembered g gs)
   each_remembered g gs p h =
       lists_of (is_some (global_of gs g.name)) (with_replaced g gs) (cond (nat_lt (length gs) max_globals) (gs ++ g ∷ []) gs)
@@ -103,8 +103,8 @@ module _ (P : Global → Type 0) where
       each_filter (λ g. not (is_named (number_in (argument (map wire args) 0)) g)) globals h
   told_keeps tables given globals opcode args t h false false e = h
 
-  -- what is so of each global that is remembered, and of one that an event of a registry tells, is
-  -- so of each that is remembered behind it
+  -- what holds for each remembered global, and for the global of a registry's event, holds for all
+  -- remembered after that event
   pub learns : (tables client_tables : List Interface) (given : List server.Global) (globals : List Global)
       (m : Message Known) → client_tables ≡ tables → TellsFitly tables given m
       → (is_registry m.target.born ≡ true → m.opcode ≡ 0 → (t : TellsGiven tables given m.args) → P (told_of t))

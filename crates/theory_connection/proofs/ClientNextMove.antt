@@ -1,4 +1,4 @@
--- A move of the client's reading.
+-- The move in which the client reads.
 use Rattle.std.proofs.Common.{◌≡◌, ℕ, Bool, true, false, List, [], ◌∷◌, ◌++◌, map, length, take, refl, sym, ap, subst, ◌∙◌}
 use Rattle.std.specs.declared.option.Option.{Option}
 use Rattle.std.specs.declared.option.Option.TheVariants.{None, Some}
@@ -42,7 +42,7 @@ use Rattle.theory_connection.proofs.EventRead.{event_answer, event_stands, event
 use Rattle.theory_connection.proofs.EventRead.{in_delete, after_delete, delete_answer}
 use Rattle.theory_connection.proofs.EventRead.{delete_stands, deleting}
 
--- ---- what is answered and left where a message is found
+-- ---- the report and the state left, if a message is found
 
 pub record Answered (p : PairState) (f : Found) : Type 0 where
   pub answer : next_answer p.client ≡ Ok (Some (report p.client.core f))
@@ -56,7 +56,7 @@ answer_is p f l r = record { answer = rw (l, r) refl; leaves = rw (l, r) refl }
 abbrev opens_in : PairState → Bool
 opens_in p = event_opens p.client.core (found p.client.core event_side)
 
--- what opens an object makes one
+-- a message that opens an object makes one
 some_opens : (p : PairState) (f : Found) (o : Option NewObject) → found p.client.core event_side ≡ Ok (Some f)
     → made_by_event p.client.core f.message ≡ o → opens_in p ≡ true → is_some o ≡ true
 some_opens p f o e made h = by_made o (sym (ap (event_opens p.client.core) e ∙ ap (opens_row p.client.core.view) made) ∙ h)
@@ -69,14 +69,14 @@ opens_none : (p : PairState) (f : Found) → found p.client.core event_side ≡ 
     → made_by_event p.client.core f.message ≡ None → opens_in p ≡ false
 opens_none p f e none = ap (event_opens p.client.core) e ∙ ap (opens_row p.client.core.view) none
 
--- where it opens none, no memory is wanted for one
+-- if it opens none, no memory is needed for one
 nexts_none : (p : PairState) (reply : Result (Option Report) NextError) (p' : PairState) → opens_in p ≡ false
     → Nexts needs_memory (opens_in p) (next_answer p.client) p (with_client p (after_next p.client)) reply p'
     → Nexts needs_memory false (next_answer p.client) p (with_client p (after_next p.client)) reply p'
 nexts_none p reply p' none d = subst
     (λ (b : Bool). Nexts needs_memory b (next_answer p.client) p (with_client p (after_next p.client)) reply p') none d
 
--- where no whole message waits
+-- if no whole message waits
 pub idle : (p : PairState) → p.client.core.failed ≡ false → in_front p.client.core.inbox ≡ More
     → (next_answer p.client ≡ Ok None) × (after_next p.client ≡ p.client) × (opens_in p ≡ false)
 idle p l e =
@@ -245,7 +245,7 @@ at_delete p w x cs asked s n z e reply p' d =
     (a.answer ∙ ap (λ (r : Report). Ok (Some r)) b.tells_it)
     (nexts_none p reply p' (opens_none p f i.finds_it b.makes_none) d)))
 
--- ---- all fronts
+-- ---- whatever is at the front
 
 at_whole : (p : PairState) (w : World) (asked : List (Message Known)) (told : List (Coming Known))
     (s : StandsBy p w asked told) (n : ℕ) → NotEnded p w

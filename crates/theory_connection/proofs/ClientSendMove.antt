@@ -1,4 +1,4 @@
--- A move of the client's writing.
+-- The move in which the client writes.
 use Rattle.std.proofs.Common.{◌≡◌, ◌≢◌, ℕ, true, false, List, [], ◌∷◌, ◌++◌, map, ◌⊎◌, inl, inr}
 use Rattle.std.proofs.Common.{refl, sym, ap, subst, ◌∙◌}
 use Rattle.std.specs.Prelude.{option_map}
@@ -48,7 +48,7 @@ use Rattle.theory_connection.proofs.RequestWritten.{CanAsk, asked_core, ask_stan
 use Rattle.theory_connection.proofs.EndedObject.{Mortal, after_is, argument_is, born_ends}
 use Rattle.theory_connection.proofs.Moves.{Moves, Outcome, goes_on, stays, asking}
 
--- the same by other tables
+-- the same with equal tables
 abbrev pub moved : (t u : List Interface) (side : Side) (m : Message Known) → t ≡ u → FitsSignature t side m
     → FitsSignature u side m
 moved t u side m e f = record {
@@ -71,13 +71,13 @@ open_live v x l = ap (option_map (row_of_entry x.id)) l.there
     ∙ ap (λ s. Some (as_row s (born_of_entry x.id l.entry))) l.live
     ∙ ap (λ (b : Born). Some (Open b)) l.same
 
--- what holds of something's image holds of it
+-- a fact that holds if the mapped element is there holds if the element is
 pub if_map : {X Y : Type 0} (P : Type 0) (f : X → Y) (o : Option X) → IfThere (λ (y : Y). P) (option_map f o)
     → IfThere (λ (x : X). P) o
 if_map P f None h = tt
 if_map P f (Some x) h = h
 
--- what the new object is, where there is one
+-- the new object, if there is one, is fresh
 new_fits : (v : Objects) (new : Known) (o : Option Known) → ObjectsAreSound v → new.id ≡ next_id Client v
     → new.born.birth ≡ client_birth v.client.births
     → (o ≡ None) ⊎ (o ≡ Some new) → IfThere (λ (x : Known). can_open Client v ≡ true) o
@@ -89,7 +89,7 @@ new_fits v new (Some x) s i b h c =
     let birth : x.born.birth ≡ client_birth v.client.births = ap (λ (k : Known). k.born.birth) e ∙ b in
     (next_fresh v x s c id birth, id)
 
--- wl_display stays
+-- a call does not destroy wl_display
 pub not_display : (p : PairState) (w : World) (asked : List (Message Known)) (told : List (Coming Known))
     → StandsBy p w asked told → (id opcode : ℕ) (entry : Entry) (signature : sigs.MessageSignature)
     → look p.client.core.view id ≡ Some entry
@@ -107,7 +107,7 @@ pub valid_client : (p : PairState) (w : World) (asked : List (Message Known)) (t
     → StandsBy p w asked told → Valid p.client.core.tables
 valid_client p w asked told s = subst Valid (sym s.terms.same_tables) s.terms.valid
 
--- what a call makes, by the entry of its target
+-- the object that a call makes, from the entry of its target
 pub made_same : (core : Core) (side : Side) (target : Object) (given : List Given) (signature : sigs.MessageSignature)
     (entry : Entry) → look core.view target.id ≡ Some entry
     → made_at core side target signature given ≡ the_made core side entry given signature
@@ -133,7 +133,7 @@ registry_mortal p w asked told s x l h one =
     let no : 1 ≡ 0 = sym h ∙ ap (λ (b : Born). b.iface.0) (sym l.same ∙ ap (born_of_entry x.id) same) in
     cc no
 
--- what a call destroys is not wl_display
+-- the object that a call destroys is not wl_display
 call_mortal : (p : PairState) (w : World) (asked : List (Message Known)) (told : List (Coming Known))
     → StandsBy p w asked told → (target : Object) (opcode : ℕ) (given : List Given) (signature : sigs.MessageSignature)
     → (c : Checked p.client.core.outbox.limit.bytes p.client.core.tables Request p.client.core.view target opcode given
@@ -196,7 +196,7 @@ client_can p w asked told s target opcode given signature new c k o =
       short = k.short;
     }
 
--- the pair is as the call leaves it
+-- the state that the call leaves is that after the message
 left_by : (core : Core) (target : Object) (opcode : ℕ) (given : List Given) (signature : sigs.MessageSignature)
     → Valid core.tables → checked core.outbox.limit.bytes core.tables Request core.view target opcode given
     ≡ Ok signature
@@ -226,7 +226,7 @@ left_by core target opcode given signature v e c k =
       };
     }))
 
--- the births of what a call makes
+-- the birth of the object that a call makes
 pub new_births : (o : Option Known) (object : Object)
     → IfThere (λ x. x.born.birth ≡ birth_at object) o
     → option_map birth_of (option_map born_of o) ≡ option_map birth_at
@@ -250,7 +250,7 @@ if_born : (births : ℕ) (o : Option Known) → IfThere (λ x. x.born.birth ≡ 
 if_born births None h = tt
 if_born births (Some x) h = h
 
--- in the world it is a step
+-- the call is a step in the world
 pub asks_world : (p : PairState) (w : World) (asked : List (Message Known)) (told : List (Coming Known))
     (s : StandsBy p w asked told) (m : Message Known) → CanAsk p m
     → Steps p.client.core.tables w (WriteRequest (renamed born_of m)) (request_written w (renamed born_of m))

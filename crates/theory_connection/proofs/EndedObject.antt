@@ -19,11 +19,11 @@ use Rattle.theory_connection.specs.Stands.{FitsSignature, SuitKinds}
 use Rattle.theory_connection.specs.Meant.{Known, Message, Arg, born_of, rearg, wire, objects, object_at, ended_by}
 use Rattle.theory_connection.specs.World.{Each, IfThere}
 
--- no wl_display
+-- the object is not wl_display
 abbrev pub Mortal : Known → Type 0
 Mortal x = x.id ≢ 1
 
--- what holds of each object among the arguments holds of the one at a place
+-- what holds for each object among the arguments holds for the one at a place
 pub at_has : {O : Type 0} (P : O → Type 0) (args : List (Arg O)) (place : ℕ) → Each P (objects args)
     → IfThere P (object_at args place)
 at_has P [] place k = tt
@@ -48,7 +48,7 @@ at_map f (Obj (Some x) ∷ more) zero = refl
 at_map f (a ∷ more) zero = refl
 at_map f (a ∷ more) (suc place) = at_map f more place
 
--- what holds of the target and of each object among the arguments holds of what is destroyed
+-- what holds for the target and for each object among the arguments holds for the destroyed object
 pub ended_has : {O : Type 0} (P : O → Type 0) (what : Destroys) (x : O) (args : List (Arg O)) → P x
     → Each P (objects args) → IfThere P (ended_by what x args)
 ended_has P Nothing x args h k = tt
@@ -66,23 +66,23 @@ pub if_map : {A B : Type 0} (P : B → Type 0) (f : A → B) (o : Option A) → 
 if_map P f None h = tt
 if_map P f (Some x) h = h
 
--- what is so of something, seen through a function
+-- a property of the element, if there is one, implies another
 pub if_by : {X : Type 0} {P Q : X → Type 0} (f : (x : X) → P x → Q x) (o : Option X) → IfThere P o → IfThere Q o
 if_by f None h = tt
 if_by f (Some x) h = f x h
 
--- two things that are so of something give a third
+-- two properties of the element, if there is one, imply a third
 pub both_if : {X : Type 0} {P Q R : X → Type 0} (f : (x : X) → P x → Q x → R x) (o : Option X) → IfThere P o
     → IfThere Q o → IfThere R o
 both_if f None h k = tt
 both_if f (Some x) h k = f x h k
 
--- a function keeps something
+-- mapping keeps whether there is an element
 pub some_map : {A B : Type 0} (f : A → B) (o : Option A) → is_some (option_map f o) ≡ is_some o
 some_map f None = refl
 some_map f (Some x) = refl
 
--- what a message ends, by births
+-- the object that a message ends, by births
 pub born_ends : (m : Message Known) (what : Destroys) → m.ends ≡ ended_by what m.target m.args
     → option_map born_of m.ends ≡ ended_by what m.target.born (map (rearg born_of) m.args)
 born_ends m what e = ap (option_map born_of) e ∙ sym (ended_map born_of what m.target m.args)
@@ -116,9 +116,9 @@ argument_is tables side m f k v d =
           (subst (λ (s : Signature). SuitKinds tables m.target.born.version s.kinds m.args) same f.args),
     )
 
--- ---- how an end knows it
+-- ---- the destroyed object at an end
 
--- What a signature destroys, with this id, is what the message means.
+-- The object that the signature destroys, with this id, is the one that the message means.
 pub record EndsAs (what : Destroys) (id : ℕ) (o : Option Known) : Type 0 where
   pub flag : destroys_one what ≡ is_some o
   pub same : IfThere (λ x. x.id ≡ id) o
@@ -128,7 +128,7 @@ abbrev pub ended_view : Side → Objects → Option Known → Objects
 ended_view side v None = v
 ended_view side v (Some x) = destroyed side v x.id
 
--- the view after a message is that with what it ends ended
+-- the objects after a message are those with the object that it ends ended
 pub after_is : (side : Side) (v : Objects) (new : Option NewObject) (what : Destroys) (id : ℕ) (o : Option Known)
     → EndsAs what id o → after side v new what id ≡ ended_view side (opens v new) o
 after_is side v new Nothing id None e = refl
@@ -146,7 +146,7 @@ ends_argument target args k z x e =
     (subst (λ (n : ℕ). EndsAs (ends_arg n) (ended_id (ends_arg n) target.id (map wire (Obj (Some x) ∷ [])))
     (ended_by (ends_arg n) target (Obj (Some x) ∷ []))) (sym z) (record { flag = refl; same = refl }))
 
--- what a message ends is what its signature destroys
+-- the object that a message ends is the one that its signature destroys
 pub ends_as : (tables : List Interface) (side : Side) (m : Message Known) (f : FitsSignature tables side m)
     → Valid tables
     → EndsAs f.signature.destroys (ended_id f.signature.destroys m.target.id (map wire m.args)) m.ends
@@ -162,7 +162,7 @@ ends_as tables side m f v =
     by_what (ends_arg k) d = let a = argument_is tables side m f k v d
         in ends_argument m.target m.args k a.0 a.1.object a.1.are
 
--- what is so of a message's target and of its objects is so of what it ends
+-- what holds for a message's target and its objects holds for the object that it ends
 pub ends_have : (P : Known → Type 0) (tables : List Interface) (side : Side) (m : Message Known)
     → FitsSignature tables side m
     → P m.target → Each P (objects m.args) → IfThere P m.ends

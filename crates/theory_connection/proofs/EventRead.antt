@@ -1,4 +1,4 @@
--- The client reads.
+-- The client reads an event or a delete.
 use Rattle.std.proofs.Common.{◌≡◌, ◌≢◌, ℕ, ◌+◌, ◌<◌, ◌≤◌, Bool, true, false, cond, List, [], ◌∷◌}
 use Rattle.std.proofs.Common.{◌++◌, map, length, refl, sym, ap, subst, ◌∙◌, arith, min}
 use Rattle.std.specs.Prelude.{option_map, codes, nat_eq, not, ◌&&◌}
@@ -58,7 +58,7 @@ use Rattle.theory_connection.proofs.ClientGlobals.{told_same, learns}
 use Rattle.theory_connection.proofs.RequestRead.{test_of}
 use Rattle.theory_connection.proofs.EndedObject.{Mortal, ended_view, after_is, ends_as, ends_have, if_by, both_if}
 
--- ---- what the client holds
+-- ---- the objects that the client holds
 
 birth_bare : (s : State) (b : Born) → birth_in (as_row s b) ≡ b.birth
 birth_bare states.Live b = refl
@@ -90,7 +90,7 @@ held_at_client v sets s x some h = let r = seen_at v sets s x h
 
 -- ---- an event
 
--- an event in front: its objects are held, it is found, and the rest is in flight
+-- an event at the front: its objects are held, it is found, and the rest is in flight
 pub record InEvent (p : PairState) (w : World) (m : Message Known) (cs : List (Coming Known))
     (asked : List (Message Known)) (s : StandsBy p w asked (Event m ∷ cs)) (n : ℕ) : Type 0 where
   pub target : SeenAt p.client.core.view w.client m.target
@@ -103,7 +103,7 @@ pub record InEvent (p : PairState) (w : World) (m : Message Known) (cs : List (C
   pub more : List ℕ
   pub tokens_are : p.client.core.inbox.tokens ≡ tokens m.args ++ more
 
--- the first of what comes, where it is an event and whole
+-- the first of what comes, if it is an event and whole
 pub in_event : (p : PairState) (w : World) (m : Message Known) (cs : List (Coming Known)) (asked : List (Message Known))
     (s : StandsBy p w asked (Event m ∷ cs)) (n : ℕ)
     → in_front p.client.core.inbox ≡ Whole n → InEvent p w m cs asked s n
@@ -158,7 +158,7 @@ pub record EventAnswer (p : PairState) (m : Message Known) (n : ℕ) (entry : En
   pub leaves : state_past p.client (the_found n m entry signature) ≡ after_event p.client m n (teaches m entry)
   pub makes : reports.made_by_event p.client.core (the_message m entry signature) ≡ option_map made_of (made_in m.args)
 
--- what the client says of an event, and how it leaves the client
+-- the client's report of an event, and the client after it
 pub event_answer : (p : PairState) (m : Message Known) (n : ℕ) (entry : Entry) (tables : List Interface)
     (f : FitsSignature tables event_side m) → Valid tables → p.client.core.tables ≡ tables
     → is_delete_id event_side m.target.born.iface m.opcode ≡ false
@@ -286,7 +286,7 @@ event_stands p w m cs asked s n i y =
 
 -- ---- a delete
 
--- wl_display does not end by an event, so what does is not id 1
+-- an object that ends by an event does not have id 1, since wl_display does not end by one
 held_mortal : (p : PairState) (w : World) (asked : List (Message Known)) (told : List (Coming Known))
     → StandsBy p w asked told → (x : Known) → IsHeldInRows (client_rows p.client.core.view) x
     → test_of p x.born ≡ true → x.id ≢ 1
@@ -316,7 +316,7 @@ event_mortal p w m cs asked s n i =
 abbrev pub deleting : Known → Message Known
 deleting x = record { target = record { id = 1; born = display_born }; opcode = 1; args = Uint x.id ∷ []; ends = None }
 
--- it fits the signature of wl_display.delete_id
+-- this event fits the signature of wl_display.delete_id
 pub delete_signature : (tables : List Interface) → signature_at tables 0 event_side 1
     ≡ Some (fixed.message (codes "delete_id") 1 (fixed.uint ∷ []) Nothing) → (x : Known) → x.id ≤ 1048576
     → FitsSignature tables event_side (deleting x)
@@ -334,7 +334,7 @@ delete_signature tables e x h = record {
   no_error = refl;
 }
 
--- a delete in front: its object is held, it is found, and the rest is in flight
+-- a delete at the front: its object is held, it is found, and the rest is in flight
 pub record InDelete (p : PairState) (x : Known) (cs : List (Coming Known)) (middle : Rows Row) (n : ℕ) : Type 0 where
   pub entry : Entry
   pub there : look p.client.core.view x.id ≡ Some entry
@@ -348,7 +348,7 @@ pub record InDelete (p : PairState) (x : Known) (cs : List (Coming Known)) (midd
   pub deletes_it : DeletesAt (test_of p) (all_tells cs) (client_rows p.client.core.view) middle x
   pub down : InFlight p.server.core.outbox (without_first p.client.core.inbox n 0) (map spelled_coming cs)
 
--- the first of what comes, where it is a delete and whole
+-- the first of what comes, if it is a delete and whole
 pub in_delete : (p : PairState) (w : World) (x : Known) (cs : List (Coming Known)) (asked : List (Message Known))
     (s : StandsBy p w asked (Delete x ∷ cs)) (n : ℕ)
     → in_front p.client.core.inbox ≡ Whole n → InDelete p x cs s.meet.middle n
@@ -416,7 +416,7 @@ pub record DeleteAnswer (p : PairState) (x : Known) (n : ℕ) (entry : Entry) (s
   pub makes_none : reports.made_by_event p.client.core (the_message (deleting x) (live_entry display_born) signature)
       ≡ None
 
--- what the client says of a delete, and how it leaves the client
+-- the client's report of a delete, and the client after it
 pub delete_answer : (p : PairState) (x : Known) (n : ℕ) (entry : Entry) (signature : sigs.MessageSignature)
     → OfClient x → x.id ≢ 1
     → look p.client.core.view x.id ≡ Some entry → descriptors signature.kinds ≡ 0 → DeleteAnswer p x n entry signature

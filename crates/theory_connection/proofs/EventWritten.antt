@@ -37,7 +37,8 @@ use Rattle.theory_connection.proofs.RequestRead.{follow_more, follow_delete, beg
 use Rattle.theory_connection.proofs.RequestRead.{delete_whole, map_delete, delete_fits, low_there}
 use Rattle.theory_connection.proofs.EndedObject.{Mortal, ended_view, ends_have, both_if}
 
--- an event that fits, whose objects are open at the server
+-- An event that the server can write: it fits, its objects are open there, its new object is fresh,
+-- and it is not too long.
 pub record CanTell (p : PairState) (m : Message Known) : Type 0 where
   pub fitly : TellsFitly p.server.core.tables p.server.globals m
   pub target : ThereRow (server_rows p.server.core.view) m.target
@@ -48,7 +49,7 @@ pub record CanTell (p : PairState) (m : Message Known) : Type 0 where
   pub ends : IfThere (λ x. test_of p x.born ≡ true) m.ends
   pub short : message_len (map wire m.args) ≤ p.server.core.outbox.limit.bytes
 
--- what ends by an event is not wl_display
+-- an object that ends by an event is not wl_display
 pub there_mortal : (p : PairState) (w : World) (asked : List (Message Known)) (told : List (Coming Known))
     → StandsBy p w asked told → (x : Known) → ThereRow (server_rows p.server.core.view) x → test_of p x.born ≡ true
     → x.id ≢ 1
@@ -62,7 +63,7 @@ there_mortal p w asked told s x h e one =
     let no : true ≡ false = sym e ∙ ap (test_of p) born ∙ display_plain p.server.core.tables s.terms.valid in
     cc no
 
--- and was made by the client
+-- an object that ends by an event was made by the client
 pub there_client : (p : PairState) (w : World) (asked : List (Message Known)) (told : List (Coming Known))
     → StandsBy p w asked told → (x : Known) → ThereRow (server_rows p.server.core.view) x → test_of p x.born ≡ true
     → OfClient x
@@ -71,7 +72,7 @@ there_client p w asked told s x h e = elim (cases_Bool (is_of_server x.id)) [
   | inr l ↦ l
 ]
 
--- the server's core with it
+-- the server's core after the event
 abbrev pub told_core : Core → Message Known → Core
 told_core c m = record c {
   view = ended_view event_side (opens_view c.view (option_map made_of (made_in m.args))) m.ends;

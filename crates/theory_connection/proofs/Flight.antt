@@ -1,4 +1,4 @@
--- What is in flight while an end writes or reads one thing more.
+-- What is in flight, and how it changes when an end writes or reads one more action.
 use Rattle.std.proofs.Common.{◌≡◌, ℕ, ◌+◌, Bool, true, false, List, [], ◌∷◌, ◌++◌, ◌⊎◌, inl, inr}
 use Rattle.std.proofs.Common.{refl, sym, ◌∙◌, ap, subst, arith, ◌≢◌}
 use Rattle.std.proofs.lemmas.Bool.Decides.{nat_tests}
@@ -24,12 +24,12 @@ module _ {X : Type 0} where
   pub put_row_same : (f : ℕ → Option X) (i : ℕ) (o : Option X) → put_row f i o i ≡ o
   put_row_same f i o = grind (arith, put_row_tells)
 
-  -- any other place has what it had
+  -- any other place keeps what it had
   pub put_row_other : (f : ℕ → Option X) (i : ℕ) (o : Option X) (j : ℕ) → i ≢ j → put_row f i o j ≡ f j
   put_row_other f i o j ne =
       elim (put_row_tells f i o j) [ inl p ↦ absurd (ne (sym p.0)) | inr p ↦ p.1 ]
 
-  -- two puts at different places change places
+  -- the order of two puts at different places does not matter
   pub put_row_swap : (f : ℕ → Option X) (i j : ℕ) (a b : Option X) → i ≢ j
       → put_row (put_row f i a) j b ≡ put_row (put_row f j b) i a
   put_row_swap f i j a b ne =
@@ -47,25 +47,25 @@ module _ {X : Type 0} where
 pub range_apart : (i j : ℕ) → is_of_server i ≡ false → is_of_server j ≡ true → i ≢ j
 range_apart i j a b e = let k = ap is_of_server e in cc (a, b, k)
 
--- what fits has an id of the client's range
+-- a fresh object has an id of the client's range
 pub fresh_range : {X : Type 0} {r : Rows X} {x : Known} → Fresh r x → is_of_server x.id ≡ false
 fresh_range {x = x} f = let low = f.low in of_client x.id (omega (arith, low))
 
--- what is held stays held when another id changes
+-- an object that is held stays held when another id changes
 pub held_other : (v : Rows Row) (n : Known) (i : ℕ) (o : Option Row) → IsHeldInRows v n → n.id ≢ i
     → IsHeldInRows (at v i o) n
 held_other v n i o h ne = grind (arith, put_row_tells)
 
--- what is held has a row
+-- an object that is held has a row
 pub held_some : (v : Rows Row) (n : Known) (i : ℕ) → IsHeldInRows v n → v.rows i ≡ None → n.id ≢ i
 held_some v n i h e = grind arith
 
--- what follows has not the id of an open object
+-- the next object of the server does not have the id of an open object
 pub told_apart : (v : Rows Row) (n : Known) (i : ℕ) (e : Born) → NextTold v n → v.rows i ≡ Some (Open e)
     → n.id ≢ i
 told_apart v n i e g h same = g.not_open e (ap v.rows same ∙ h)
 
--- what follows still does when the row of another id changes
+-- the next object of the server stays the next when the row of another id changes
 pub told_other : (v : Rows Row) (n : Known) (i : ℕ) (o : Option Row) → NextTold v n → i ≢ n.id
     → NextTold (at v i o) n
 told_other v n i o g ne = record {
@@ -77,21 +77,21 @@ told_other v n i o g ne = record {
   left = g.left;
 }
 
--- what is open at a client that has read all the server has
+-- an object that is open at a client that has read everything is open at the server
 pub open_at_server : (o : Option Row) (s : Option Born) (e : Born) → only_open o ≡ s → o ≡ Some (Open e) → s ≡ Some e
 open_at_server o s e h k = sym h ∙ ap only_open k
 
 none_at_server : (o : Option Row) (s : Option Born) → only_open o ≡ s → o ≡ None → s ≡ None
 none_at_server o s h k = sym h ∙ ap only_open k
 
--- what the server has is open at a client that has read all
+-- an object that the server has is open at a client that has read everything
 pub open_of : (o : Option Row) (e : Born) → only_open o ≡ Some e → o ≡ Some (Open e)
 open_of None e h = absurd (cc h)
 open_of (Some (Open x)) e h = ap (λ (b : Born). Some (Open b)) (cc h)
 open_of (Some (Ending x)) e h = absurd (cc h)
 
 module _ {test : Born → Bool} where
-  -- a live object of an interface without a destroying event is live after the events too
+  -- a live object of an interface without a destroying event is still live after the events
   pub live_after : {es : List Tell} {v w : Rows Row} (i : ℕ) (e : Born) → ReadsInFlight test es v w
       → v.rows i ≡ Some (Open e)
       → test e ≡ false → w.rows i ≡ Some (Open e)
@@ -102,7 +102,7 @@ module _ {test : Born → Bool} where
   live_after i e (end {x = n} b l0 a r) h f = live_after i e r (grind (arith, put_row_tells)) f
   live_after i e (delete {x = n} z q a b r) h f = live_after i e r (grind (arith, put_row_tells)) f
 
-  -- a free id of the client's is free after the events
+  -- a free id of the client's range is still free after the events
   pub free_after : {es : List Tell} {v w : Rows Row} (i : ℕ) → ReadsInFlight test es v w → is_of_server i ≡ false
       → v.rows i ≡ None → w.rows i ≡ None
   free_after i done l h = h
@@ -121,7 +121,7 @@ module _ {test : Born → Bool} where
   counts_after (end b l0 a r) = counts_after r
   counts_after (delete z q a b r) = counts_after r
 
-  -- rows that are the same are read alike
+  -- equal rows are read in the same way
   pub reads_rows : {es : List Tell} {w : Rows Row} {f g : ℕ → Option Row} {u b : ℕ} {c : Counts} → f ≡ g
       → ReadsInFlight test es (record { rows = f; used = u; births = b; by_server = c }) w
       → ReadsInFlight test es (record { rows = g; used = u; births = b; by_server = c }) w
@@ -176,7 +176,7 @@ module _ {test : Born → Bool} where
       delete z q (held_other v n i _ a ne) (grind (arith, put_row_tells))
       (reads_rows (put_row_swap _ _ _ _ _ ne) (destroy_before i e r (grind (arith, put_row_tells)) f))
 
-  -- events follow events
+  -- more events follow these
   pub reads_more : {es fs : List Tell} {u v w : Rows Row} → ReadsInFlight test es u v → ReadsInFlight test fs v w
       → ReadsInFlight test (es ++ fs) u w
   reads_more done r = r
@@ -205,7 +205,7 @@ module _ {test : Born → Bool} where
   counts_tied (destroy z l a b c t) = counts_tied t
   counts_tied (give_back l a b c t) = counts_tied t
 
-  -- what the server has is at the client when it has read all events
+  -- the client holds what the server has once it has read all events
   pub held_at_client : {qs : List Ask} {s : Rows Born} {m : Rows Row} (n : Known) → Tied test qs s m
       → s.rows n.id ≡ Some n.born → IsHeldInRows m n
   held_at_client n (drained {m = m} same rows u b c) h = inl (open_of (m.rows n.id) n.born (same n.id ∙ h))
@@ -223,7 +223,7 @@ module _ {test : Born → Bool} where
         | inr p ↦ held_at_client n t (p.1 ∙ h)
       ]
 
-  -- an id of the server's that the server has freed is that of no open object at the client
+  -- an id of the server's range that the server has freed has no open object at the client
   pub freed_not_open : {qs : List Ask} {s : Rows Born} {m : Rows Row} (i : ℕ) (e : Born) → Tied test qs s m
       → is_of_server i ≡ true → s.rows i ≡ None → m.rows i ≢ Some (Open e)
   freed_not_open i e (drained {s = s} {m = m} same rows u b c) l h k =
@@ -311,7 +311,7 @@ module _ {test : Born → Bool} where
   use_more n (destroy z l a b c t) h f = destroy z l a b c (use_more n t (grind (arith, put_row_tells)) f)
   use_more n (give_back l a b c t) h f = give_back l a b c (use_more n t h f)
 
-  -- requests still tie where one more makes an object
+  -- requests still tie if one more makes an object
   pub make_more : {qs : List Ask} {s : Rows Born} {m : Rows Row} (n : Known) → Tied test qs s m → Fresh m n
       → Tied test (qs ++ Make n ∷ []) s (with_made m n.id (Open n.born))
   make_more n (drained {s = s} {m = m} same rows u b c) g =
@@ -342,7 +342,7 @@ module _ {test : Born → Bool} where
       let ne : n.id ≢ n'.id = range_apart n.id n'.id (fresh_range g) l in
       give_back l a b (put_row_other m.rows n.id _ n'.id ne ∙ c) (make_more n t g)
 
-  -- requests still tie where one more destroys an object of the client
+  -- requests still tie if one more destroys an object of the client
   pub destroy_more : {qs : List Ask} {s : Rows Born} {m : Rows Row} (n : Known) → Tied test qs s m
       → m.rows n.id ≡ Some (Open n.born) → test n.born ≡ false → n.id ≢ 1 → is_of_server n.id ≡ false
       → Tied test (qs ++ Destroy n ∷ []) s (at m n.id (Some (Ending n.born)))
@@ -359,7 +359,7 @@ module _ {test : Born → Bool} where
       let ne : n.id ≢ n'.id = range_apart n.id n'.id l r in
       give_back r a b (put_row_other m.rows n.id _ n'.id ne ∙ c) (destroy_more n t h f y l)
 
-  -- and where one more destroys an object of the server
+  -- requests still tie if one more destroys an object of the server
   pub give_more : {qs : List Ask} {s : Rows Born} {m : Rows Row} (n : Known) → Tied test qs s m
       → m.rows n.id ≡ Some (Open n.born) → test n.born ≡ false → is_of_server n.id ≡ true
       → Tied test (qs ++ Destroy n ∷ []) s (at m n.id (Some (Ending n.born)))

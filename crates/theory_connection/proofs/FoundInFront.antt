@@ -1,4 +1,4 @@
--- What an end finds in front of its waiting bytes, where a message that fits was written.
+-- What an end finds at the front of its waiting bytes, if a message that fits was written.
 use Rattle.std.proofs.Common.{◌≡◌, ℕ, ◌<◌, ◌≤◌, List, [], ◌∷◌, ◌++◌, map, length, take, drop, sym}
 use Rattle.std.proofs.Common.{ap, subst, ◌∙◌, arith}
 use Rattle.std.specs.declared.option.Option.{Option}
@@ -49,11 +49,11 @@ the_message m entry signature = record {
   values = map wire m.args;
 }
 
--- this many bytes, with that message
+-- the same, with its size and opcode
 abbrev pub the_found : ℕ → Message Known → Entry → sigs.MessageSignature → Found
 the_found n m entry signature = record { size = n; opcode = m.opcode; message = the_message m entry signature }
 
--- a message in front that fits, whose objects are held, is found
+-- a message at the front that fits, and whose objects are held, is found
 pub finds : (core : Core) (side : Side) (m : Message Known) (n : ℕ) (rows : Birth → Option Row) (entry : Entry)
     (f : FitsSignature core.tables side m) → Each (MadeFor side) f.signature.kinds
     → in_front core.inbox ≡ Whole n → take n core.inbox.bytes ≡ (spelled_meant m).bytes
@@ -75,7 +75,7 @@ finds core side m n rows entry f none e b l s k t =
     ∙ ap (found_in n (header_of bytes).opcode) r
     ∙ ap (λ (o : ℕ). Ok (Some (record { size = n; opcode = o; message = the_message m entry f.signature }))) p.opcode_is
 
--- ---- all is there
+-- ---- the end has all that the message needs
 
 -- each argument meets its object or a free id
 pub all_met : (tables : List Interface) (version : ℕ) (side : Side) (view : Objects) (rows : Birth → Option Row) (There : Known → Type 0)
@@ -106,7 +106,7 @@ news_are P args all g h =
     (λ a k. if_by {P = λ (x : Known). made_in all ≡ Some x} {Q = P}
     (λ x e. subst (IfThere P) e g) (new_object_in a) k) args h
 
--- what is fresh is free to the server's tests of a request
+-- the id of a fresh object passes the server's tests of a request
 pub news_free : (tables : List Interface) (view : Objects) (args all : List (Arg Known)) → ObjectsAreSound view
     → IfThere (Fresh (server_rows view)) (made_in all)
     → Each (λ a. IfThere (λ x. made_in all ≡ Some x) (new_object_in a)) args
@@ -131,7 +131,7 @@ not_waiting tables view x f = by_row (look view x.id) refl
     by_row None l = refl
     by_row (Some e) l = by_state e.state e refl l
 
--- what follows is free to the client's tests of an event
+-- the id of the server's next object passes the client's tests of an event
 pub told_free : (tables : List Interface) (view : Objects) (x : Known) → NextTold (client_rows view) x
     → FreeAt tables Event view x
 told_free tables view x f =

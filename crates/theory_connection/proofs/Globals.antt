@@ -1,4 +1,4 @@
--- Globals are added and withdrawn; what was given stays given.
+-- Globals are added and withdrawn. A global that was given stays given.
 use Rattle.std.proofs.Common.{◌≡◌, ℕ, zero, suc, ◌+◌, ◌-◌, ◌<◌, ◌≤◌, ◌^◌, Bool, true, false, cond}
 use Rattle.std.proofs.Common.{List, [], ◌∷◌, ◌++◌, length, refl, sym, ap, subst, ◌∙◌, arith}
 use Rattle.std.proofs.Common.{length-append}
@@ -121,7 +121,7 @@ given_stands p w asked told s more g e l = record {
   registries = s.registries;
 }
 
--- ---- one more
+-- ---- one more global
 
 get_more : (xs ys : List Global) (k : ℕ) (g : Global) → slice_get xs k ≡ Some g → slice_get (xs ++ ys) k ≡ Some g
 get_more [] ys k g h = absurd (cc h)
@@ -176,7 +176,7 @@ add_global_keeps p w asked told s z iface version v reply p' (refused h) =
 add_global_keeps p w asked told s z iface version v reply p' (no_memory h) =
     record { world = w; answers = before z (no_memory h) refl; outcome = goes_on asked told z s stays }
 
--- ---- one withdrawn
+-- ---- one global withdrawn
 
 same_withdrawn : (g : Global) → Same (withdrawn g) g
 same_withdrawn g = record { iface = refl; version = refl }

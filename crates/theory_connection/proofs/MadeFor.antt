@@ -1,5 +1,5 @@
--- Who makes the new objects of a message: by valid tables the client those of requests, and the
--- server those of events.
+-- Who makes the new objects of a message. With valid tables the client makes those of requests, and
+-- the server those of events.
 use Rattle.std.proofs.Common.{◌≡◌, ℕ, List, [], ◌∷◌}
 use Rattle.std.specs.declared.option.Option.TheVariants.{Some}
 use Rattle.wl_wire.specs.declared.kind.Kind.{Kind}
@@ -26,7 +26,7 @@ by_server [] h = tt
 by_server (kinds.New iface ∷ ks) h = absurd (cc h)
 by_server (kind ∷ ks) h = (tt, by_server ks h)
 
--- each kind of a signature is so
+-- each kind in a signature is made for its side
 pub made_for : (tables : List Interface) → Valid tables → (place : ℕ) (side : Side) (opcode : ℕ) (m : MessageSignature)
     → signature_at tables place side opcode ≡ Some m → Each (MadeFor side) m.kinds
 made_for tables v place Request opcode m h = by_client m.kinds (v.server_makes.requests place opcode m h)

@@ -1,4 +1,4 @@
--- What the client says that a message has made.
+-- The object that a message made, as the client returns it.
 use Rattle.std.proofs.Common.{◌≡◌, ℕ, List, [], ◌∷◌, map, refl, sym, ap, ◌∙◌}
 use Rattle.std.specs.Prelude.{option_map}
 use Rattle.std.specs.declared.option.Option.{Option}
@@ -27,13 +27,13 @@ use Rattle.theory_connection.proofs.FoundInFront.{the_found}
 use Rattle.theory_connection.proofs.EventRead.{in_event, in_delete, event_answer, delete_answer, deleting}
 use Rattle.theory_connection.proofs.ClientNextMove.{answer_is, idle}
 
--- what an event makes has at the client the birth that was meant
+-- the object that an event makes has, at the client, the birth that was meant
 made_birth : (v : Objects) (n : Option Known) → IfThere (NextTold (client_rows v)) n
     → option_map birth_at (object_made v (option_map made_of n)) ≡ option_map birth_of (option_map born_of n)
 made_birth v None g = refl
 made_birth v (Some x) g = ap Some (rw g.range (sym g.birth))
 
--- and takes the place of no live object
+-- the object that an event makes replaces no live object
 replaces : (v : Objects) (n : Option Known) → IfThere (NextTold (client_rows v)) n
     → object_replaced v (option_map made_of n) ≡ None
 replaces v None g = refl
@@ -49,7 +49,7 @@ replaces v (Some x) g = by_row (look v x.id) refl
     by_row None h = rw h refl
     by_row (Some e) h = by_state e e.state refl h
 
--- what the client says that it has made, and whose place that took, where a message is read
+-- The message that is read, and what the client then returns as made and as replaced.
 record SaysMade (p : PairState) (told : List (Coming Known)) : Type 0 where
   coming : Coming Known
   rest : List (Coming Known)
@@ -96,7 +96,7 @@ module _ (p : PairState) (w : World) (asked : List (Message Known)) where
   at_front told s report a (Bad n) e = absurd (never_bad p.server.core.outbox p.client.core.inbox _ n s.events.in_boxes e)
   at_front told s report a (Whole n) e = at_whole told s n e
 
-  -- what the client says that a message has made is what was meant
+  -- the object that the client returns as made is the one that was meant
   pub as_meant : (told : List (Coming Known)) (s : StandsBy p w asked told) (coming : Coming Born)
       (rest : List (Coming Born)) (report : Report) → w.events ≡ coming ∷ rest
       → next_answer p.client ≡ Ok (Some report)
@@ -108,7 +108,7 @@ module _ (p : PairState) (w : World) (asked : List (Message Known)) where
       let same : recoming born_of k.coming ≡ coming = cc q in
       k.made ∙ ap (λ (c : Coming Born). option_map birth_of (made_by_coming c)) same
 
-  -- and it takes the place of no live object
+  -- that object replaces no live object
   pub replaces_none : (told : List (Coming Known)) (s : StandsBy p w asked told) (report : Report)
       → next_answer p.client ≡ Ok (Some report) → (after_next p.client).replaced ≡ None
   replaces_none told s report a = (at_front told s report a _ refl).replaced

@@ -54,7 +54,7 @@ pub each_in : {X : Type 0} (P : X → Type 0) (x : X) (xs : List X) → Each P x
 each_in P x [] h i = absurd i
 each_in P x (z ∷ xs) h i = elim i [ inl p ↦ subst P (sym p) h.0 | inr p ↦ each_in P x xs h.1 p ]
 
--- a list whose image is parted at one of its items
+-- a list whose image is split at one of its items
 pub record Parted {X Y : Type 0} (f : X → Y) (xs : List X) (before : List Y) (y : Y) (after : List Y) : Type 0 where
   pub front : List X
   pub item : X
@@ -143,7 +143,7 @@ in_asks a m (n ∷ asked) h i = elim h [
   | inr p ↦ in_right a (asks n) (all_asks asked) (in_asks a m asked p i)
 ]
 
--- neither a making nor a destroying is a use
+-- the action is a use
 abbrev pub IsUse : Ask → Type 0
 IsUse (Use x) = Unit {0}
 IsUse _ = ⊥
@@ -200,13 +200,13 @@ asked_destroy k m e =
     (in_right (Destroy k) (make_ask (made_in m.args)) (destroy_ask m.ends)
     (subst (λ (o : Option Known). In (Destroy k) (destroy_ask o)) (sym e) (inl refl))))
 
--- ---- what is made on the way
+-- ---- the objects that requests on the way make
 
 pub one_listed : {O : Type 0} (x : O) (o : Option O) → In x (option_list o) → o ≡ Some x
 one_listed x None i = absurd i
 one_listed x (Some y) i = elim i [ inl a ↦ ap Some (sym a) | inr a ↦ absurd a ]
 
--- the message that makes it
+-- the request that makes the object
 pub record MakerOf {O : Type 0} (x : O) (ms : List (Message O)) : Type 0 where
   pub message : Message O
   pub there : In message ms
@@ -240,7 +240,7 @@ news_comes {w} x i = let k = maker x w.requests i in record { request = k.messag
 
 -- ---- events and what they make
 
--- neither a making nor a destroying is a naming
+-- the action is a naming
 abbrev pub IsName : Tell → Type 0
 IsName (Name x) = Unit {0}
 IsName _ = ⊥
@@ -277,7 +277,7 @@ pub use_asked : (k : Known) (m : Message Known) → In k (objects m.args) → In
 use_asked k m i = inr (in_left (Use k) (map Use (objects m.args)) (make_ask (made_in m.args) ++ destroy_ask m.ends)
     (in_map Use k (objects m.args) i))
 
--- a list parted at one of its items
+-- a list split at one of its items
 pub record Split {X : Type 0} (x : X) (xs : List X) : Type 0 where
   pub front : List X
   pub back : List X
@@ -307,7 +307,7 @@ regroup es t us k ws xs others rest e =
     ∙ ap (λ (l : List Tell). es ++ (Name t ∷ l)) (append_assoc (map Name us) (Name k ∷ (map Name ws ++ others)) rest)
     ∙ sym (append_assoc es (map Name (t ∷ us)) (Name k ∷ ((map Name ws ++ others) ++ rest)))
 
--- what an event names is named by an action of it
+-- an object that an event names is named by one of its actions
 pub named_at : (k : Known) (front : List (Coming Known)) (m : Message Known) (back told : List (Coming Known))
     → told ≡ front ++ Event m ∷ back → MessageNames k m → NamedAt k front told
 named_at k front m back told q n =
@@ -332,7 +332,7 @@ named_at k front m back told q n =
           })
     ]
 
--- what whole messages make, action by action
+-- the objects that messages make, action by action
 pub mades_both : (es fs : List Tell) → mades (es ++ fs) ≡ mades es ++ mades fs
 mades_both [] fs = refl
 mades_both (Made x ∷ es) fs = ap (λ (l : List Known). x ∷ l) (mades_both es fs)
@@ -355,7 +355,7 @@ mades_told (Event m ∷ told) = mades_both (tells (Event m)) (all_tells told)
     ++ mades_told told i)
 mades_told (delete_of x ∷ told) = mades_told told
 
--- what comes before the name of an object makes the objects of the messages before
+-- the actions before the name of an object make the objects of the earlier messages
 pub mades_front : (front : List (Coming Known)) (xs : List Known)
     → mades (all_tells front ++ map Name xs) ≡ news_told front
 mades_front front xs = mades_both (all_tells front) (map Name xs)
@@ -386,7 +386,7 @@ makes_asked (m ∷ asked) = makes_both (asks m) (all_asks asked)
     ∙ (λ i. (makes_uses (objects m.args) (make_ask (made_in m.args) ++ destroy_ask m.ends)
     ∙ makes_made (made_in m.args) m.ends) i ++ makes_asked asked i)
 
--- what is made has the same births in the world
+-- the objects that are made have the same births in the world
 pub births_listed : (n : Option Known) → map birth_known (option_list n) ≡ map birth_of (option_list (option_map born_of n))
 births_listed None = refl
 births_listed (Some x) = refl
@@ -412,7 +412,7 @@ births_asked_world (m ∷ asked) =
     ++ births_asked_world asked i)
     ∙ sym (map-append birth_of (option_list (made_in (map (rearg born_of) m.args))) (news (map (renamed born_of) asked)))
 
--- the event that makes it
+-- the event that makes the object
 pub record Telling {O : Type 0} (x : O) (told : List (Coming O)) : Type 0 where
   pub event : Message O
   pub there : In (Event event) told
@@ -429,7 +429,7 @@ makes_in k (delete_of x ∷ told) h = elim h [
   | inr p ↦ (let e = makes_in k told p in record { event = e.event; there = inr e.there; makes_it = e.makes_it })
 ]
 
--- what is made by events is what some event makes
+-- an object that events make is made by one of them
 pub listed_news : {O : Type 0} (x : O) (told : List (Coming O)) → In x (news_told told) → Telling x told
 listed_news x [] i = absurd i
 listed_news x (Event m ∷ told) i = elim (in_either x (option_list (made_in m.args)) (news_told told) i) [

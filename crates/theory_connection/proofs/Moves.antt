@@ -1,4 +1,4 @@
--- What one move does with a pair and with what is in flight, told in full.
+-- What one move does to a pair and to what is in flight, in full.
 use Rattle.std.proofs.Common.{◌≡◌, ℕ, ◌≤◌, true, List, [], ◌∷◌, ◌++◌, map, length}
 use Rattle.std.specs.declared.option.Option.{Option}
 use Rattle.std.specs.declared.option.Option.TheVariants.{None, Some}
@@ -28,10 +28,10 @@ use Rattle.theory_connection.proofs.RequestRead.{left_state}
 use Rattle.theory_connection.proofs.EventRead.{after_event, after_delete, teaches}
 use Rattle.theory_connection.proofs.RequestWritten.{CanAsk, asked_pair}
 
--- ---- what is known of a bind and of news
+-- ---- facts about binds and about new events
 
--- the arguments of wl_registry.bind, of a global that the client remembers, at no greater version
--- than it was advertised with
+-- the arguments of wl_registry.bind for a global that the client remembers, at no greater version
+-- than was advertised
 pub record BindsRemembered (globals : List Remembered) (args : List (Arg Known)) : Type 0 where
   pub name : ℕ
   pub iface : List ℕ
@@ -61,13 +61,13 @@ makes_below : (births : Maker → ℕ) (o : Option Known) → IfThere (λ x. IsA
 makes_below births None h = tt
 makes_below births (Some x) h = (h, tt)
 
--- a delete is of a birth that was counted
+-- the birth of a delete was counted
 pub delete_below : (births : Maker → ℕ) (o : Option Known) → IfThere (λ x. IsAmongFirst births x.born.birth) o
     → Each (IsBelow births) (all_tells (delete o))
 delete_below births None h = tt
 delete_below births (Some x) h = (h, tt)
 
--- an event that names what is there, and makes what is counted
+-- the births of an event were counted if its objects are there and its new object was counted
 pub event_below : (s : Rows Born) (births : Maker → ℕ) → Below s births → (m : Message Known) → ThereRow s m.target
     → Each (ThereRow s) (objects m.args) → IfThere (λ x. IsAmongFirst births x.born.birth) (made_in m.args)
     → IfThere (λ x. IsAmongFirst births x.born.birth) m.ends
@@ -81,14 +81,14 @@ event_below s births b m h hs n e =
           (makes_below births (made_in m.args) n) (ends_below births m.ends e)),
     )
 
--- ---- what happens
+-- ---- the effect of a move
 
--- the pair whose server has told something
+-- the pair after its server wrote something
 abbrev pub told_pair : PairState → Objects → Outgoing → List Registry → PairState
 told_pair p view outbox registries = with_server p
     (record p.server { core = record p.server.core { view = view; outbox = outbox }; registries = registries })
 
--- With these requests and events in flight a move led to that pair, with those in flight.
+-- A move led from a pair with these requests and events in flight to one with those in flight.
 pub data LeadsTo (p : PairState) (asked : List (Message Known)) (told : List (Coming Known)) : PairState
     → List (Message Known) → List (Coming Known) → Type 0 where
   stays : LeadsTo p asked told p asked told
@@ -98,12 +98,12 @@ pub data LeadsTo (p : PairState) (asked : List (Message Known)) (told : List (Co
   asking : (m : Message Known) (c : CanAsk p m) →
       (is_bind request_side m.target.born.iface m.opcode ≡ true → BindsRemembered p.client.globals m.args)
       → LeadsTo p asked told (asked_pair p m) (asked ++ m ∷ []) told
-  -- the server wrote events or deletes, of births that it has counted then
+  -- the server wrote events or deletes; it has counted their births
   telling : (view : Objects) (outbox : Outgoing) (registries : List Registry) (news : List (Coming Known))
       → ((k : Maker) → births_in (server_rows p.server.core.view) k ≤ births_in (server_rows view) k)
       → Each (IsBelow (births_in (server_rows view))) (all_tells news)
       → LeadsTo p asked told (told_pair p view outbox registries) asked (told ++ news)
-  -- the server read the first request, and wrote the delete that answers it
+  -- the server read the first request, and wrote its delete if the request needs one
   reading_request : (m : Message Known) (ms : List (Message Known)) (n : ℕ) → asked ≡ m ∷ ms
       → in_front p.server.core.inbox ≡ Whole n
       → IfThere (λ x. IsAmongFirst (births_in (server_rows p.server.core.view)) x.born.birth) m.ends
@@ -120,14 +120,14 @@ pub data LeadsTo (p : PairState) (asked : List (Message Known)) (told : List (Co
   carrying_to_client : (most : ℕ) → LeadsTo p asked told
       (after_carry_to_client p (carries p.server.core p.client.core most)) asked told
 
--- the pair as the first error leaves its recording: marked at its end
+-- the pair after the first error: its recording is marked at its end
 pub record IsMarked (p p' : PairState) : Type 0 where
   pub tables : p'.server.core.tables ≡ p.server.core.tables
   pub limit : p'.server.core.inbox.limit.bytes ≡ p.server.core.inbox.limit.bytes
   pub pieces : p'.recording ≡ p.recording
   pub mark : p'.ended_at ≡ Some (length p.recording)
 
--- the pair represents the world with what is in flight now, or an error has ended the world
+-- the pair represents the world, with what is now in flight, or an error has ended the world
 pub data Outcome (p : PairState) (asked : List (Message Known)) (told : List (Coming Known)) (p' : PairState)
     (w' : World) : Type 0 where
   goes_on : (asked' : List (Message Known)) (told' : List (Coming Known)) → NotEnded p' w' → StandsBy p' w' asked' told'
@@ -135,7 +135,7 @@ pub data Outcome (p : PairState) (asked : List (Message Known)) (told : List (Co
       → Outcome p asked told p' w'
   ends_it : w'.ended ≡ true → IsMarked p p' → Outcome p asked told p' w'
 
--- a step of the pair in its world, with what it did
+-- a step of the pair in its world, with its effect
 pub record Moves (p : PairState) (w : World) (asked : List (Message Known)) (told : List (Coming Known)) (move : Move)
     (reply : Reply) (p' : PairState) : Type 0 where
   pub world : World
@@ -147,7 +147,7 @@ outcome_stands : {p p' : PairState} {w' : World} {asked : List (Message Known)} 
 outcome_stands (goes_on a t z s h) = stands a t z s
 outcome_stands (ends_it e m) = ended e
 
--- a step of a pair that represents its world, without what it did
+-- the same step without its effect
 pub forget : {p p' : PairState} {w : World} {asked : List (Message Known)} {told : List
     (Coming Known)} {move : Move} {reply : Reply} → Moves p w asked told move reply p' → Keeps p w move reply p'
 forget m = record { world = m.world; answers = m.answers; stands = outcome_stands m.outcome }

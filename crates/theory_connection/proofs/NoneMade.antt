@@ -1,4 +1,4 @@
--- By tables in which no event has a new object of the server, no event makes an object.
+-- With tables in which no event has a new object of the server, no event makes an object.
 use Rattle.std.proofs.Common.{◌≡◌, ℕ, false, List, [], ◌∷◌, refl}
 use Rattle.std.specs.declared.option.Option.TheVariants.{None}
 use Rattle.wl_wire.specs.declared.kind.Kind.{Kind}
@@ -13,7 +13,7 @@ use Rattle.wl_sigs.proofs.ServerObjectsTold.{none_by_server}
 use Rattle.theory_connection.specs.Meant.{Known, Message, Arg, wire, new_object_in, made_in}
 use Rattle.theory_connection.specs.Stands.{FitsSignature, SuitKinds}
 
--- a new object of this kind there is none of
+-- an argument of this kind makes no object
 abbrev MakesNone : Kind → Type 0
 MakesNone (kinds.New iface) = ⊥
 MakesNone (kinds.NewByServer iface) = ⊥

@@ -1,7 +1,7 @@
--- Where an object is that the server made, while events and requests are in flight: what is open at
--- the server is made by an event on the way, open at the client, or destroyed by a request on the
--- way. Beside it what was counted in the server's range, and that nothing in flight is about an
--- object behind the request that destroys it.
+-- Where an object that the server made is, while events and requests are in flight. If it is open
+-- at the server, it is made by an event on the way, open at the client, or destroyed by a request
+-- on the way. Also what was counted in the server's range, and that nothing in flight is about an
+-- object after the request that destroys it.
 use Rattle.std.specs.Prelude.{suc}
 use Rattle.std.proofs.Common.{map, true, ◌++◌, ◌∷◌, [], ◌≡◌, ℕ, ◌+◌, ◌<◌, ◌≤◌, Bool, List, ◌⊎◌, inl, inr}
 use Rattle.std.proofs.Common.{refl, sym, ◌∙◌, ap, subst, arith, ◌≢◌}
@@ -38,9 +38,9 @@ abbrev pub birth_known : Known → Birth
 birth_known x = x.born.birth
 
 module _ {test : Born → Bool} where
-  -- ---- what is open
+  -- ---- which objects are open
 
-  -- what is open in the server's range stays open while the client reads
+  -- an open object in the server's range stays open while the client reads
   pub open_after : {es : List Tell} {v w : Rows Row} (i : ℕ) (e : Born) → ReadsInFlight test es v w
       → is_of_server i ≡ true → v.rows i ≡ Some (Open e) → w.rows i ≡ Some (Open e)
   open_after i e done l h = h
@@ -52,7 +52,7 @@ module _ {test : Born → Bool} where
   open_after i e (delete {v = v} {x = n} z k a b r) l h =
       open_after i e r l (put_row_other v.rows n.id None i (range_apart n.id i k l) ∙ h)
 
-  -- what an event on the way makes will be open at the client
+  -- an object that an event on the way makes will be open at the client
   pub made_open : {es : List Tell} {v w : Rows Row} (x : Known) → ReadsInFlight test es v w → In (Made x) es
       → w.rows x.id ≡ Some (Open x.born)
   made_open x done i = absurd i
@@ -65,7 +65,7 @@ module _ {test : Born → Bool} where
   made_open x (end b k a r) i = elim i [ inl p ↦ absurd (cc p) | inr p ↦ made_open x r p ]
   made_open x (delete z k a b r) i = elim i [ inl p ↦ absurd (cc p) | inr p ↦ made_open x r p ]
 
-  -- what will be open at the client is open there, or an event on the way makes it
+  -- an object that will be open at the client is open there, or an event on the way makes it
   pub open_before : {es : List Tell} {v w : Rows Row} (x : Known) → ReadsInFlight test es v w
       → w.rows x.id ≡ Some (Open x.born) → (v.rows x.id ≡ Some (Open x.born)) ⊎ In (Made x) es
   open_before x done h = inl h
@@ -88,7 +88,7 @@ module _ {test : Born → Bool} where
     | inr p ↦ inr (inr p)
   ]
 
-  -- what the server has will be open at the client, or a request on the way destroys it
+  -- an object that the server has will be open at the client, or a request on the way destroys it
   pub there_or_asked : {qs : List Ask} {s : Rows Born} {m : Rows Row} (x : Known) → Tied test qs s m
       → s.rows x.id ≡ Some x.born → (m.rows x.id ≡ Some (Open x.born)) ⊎ In (Destroy x) qs
   there_or_asked x (drained {m = m} same rows u b c) h = inl (open_of (m.rows x.id) x.born (same x.id ∙ h))
@@ -110,9 +110,9 @@ module _ {test : Born → Bool} where
     | inr p ↦ elim (there_or_asked x t (p.1 ∙ h)) [ inl q ↦ inl q | inr q ↦ inr (inr q) ]
   ]
 
-  -- ---- what requests on the way are about
+  -- ---- the objects that requests on the way are about
 
-  -- what a request on the way is about the server has, or another one makes it before
+  -- the server has the object that a request on the way is about, or an earlier request makes it
   pub destroyed_there : {qs : List Ask} {s : Rows Born} {m : Rows Row} (x : Known) → Tied test qs s m
       → In (Destroy x) qs → (s.rows x.id ≡ Some x.born) ⊎ In (Make x) qs
   destroyed_there x (drained same rows u b c) i = absurd i
@@ -177,7 +177,7 @@ module _ {test : Born → Bool} where
     ]
   ]
 
-  -- what a request on the way names the client will hold
+  -- the client will hold an object that a request on the way names
   pub used_held : {qs : List Ask} {s : Rows Born} {m : Rows Row} (x : Known) → Tied test qs s m → In (Use x) qs
       → IsHeldInRows m x
   used_held x (drained same rows u b c) i = absurd i
@@ -190,7 +190,7 @@ module _ {test : Born → Bool} where
       elim i [ inl p ↦ absurd (cc p) | inr p ↦ plain.kept_delete m x n.id (used_held x t p) ]
   used_held x (give_back l a b c t) i = elim i [ inl p ↦ absurd (cc p) | inr p ↦ used_held x t p ]
 
-  -- no request is about an id of the server's that the server has freed
+  -- no request is about an id of the server's range that the server has freed
   gone_asks : {qs : List Ask} {s : Rows Born} {m : Rows Row} (i : ℕ) → Tied test qs s m → is_of_server i ≡ true
       → s.rows i ≡ None → Each (λ a. ask_id a ≢ i) qs
   gone_asks i (drained same rows u b c) l h = tt
@@ -206,7 +206,7 @@ module _ {test : Born → Bool} where
       let ne : n.id ≢ i = λ q. (let d = sym a ∙ ap s.rows q ∙ h in cc d) in
       (ne, gone_asks i t l (put_row_other s.rows n.id None i ne ∙ h))
 
-  -- after the destroying request nothing on the way concerns the object's id
+  -- after the destroying request, no request on the way is about the object's id
   pub destroyed_last : (before after : List Ask) (x : Known) {s : Rows Born} {m : Rows Row}
       → Tied test (before ++ (Destroy x ∷ after)) s m → Each (λ a. ask_id a ≢ x.id) after
   destroyed_last [] after x (destroy {m = m} z l a b c t) = plain.free_asks x.id t (put_row_same m.rows x.id None)
@@ -216,7 +216,7 @@ module _ {test : Born → Bool} where
   destroyed_last (q ∷ qs) after x (destroy z l a b c t) = destroyed_last qs after x t
   destroyed_last (q ∷ qs) after x (give_back l a b c t) = destroyed_last qs after x t
 
-  -- what a request on the way destroys is ending at the client
+  -- an object that a request on the way destroys is ending at the client
   pub destroyed_ending : {es : List Tell} {qs : List Ask} {v : Rows Row} {s : Rows Born} (x : Known)
       → MeetInMiddle test es qs v s → In (Destroy x) qs → v.rows x.id ≡ Some (Ending x.born)
   destroyed_ending x m i = elim (plain.destroyed_before x m i) [
@@ -229,9 +229,9 @@ module _ {test : Born → Bool} where
       not_made_asked x m told i = let p = made_open x m.reads told in let q = (plain.asked_ending x m.tied i).ending
           in cc (p, q)
 
-  -- ---- what events on the way make first
+  -- ---- the objects that events on the way make first
 
-  -- the first of what comes that is about a free id of the server's makes an object there
+  -- the first event that is about a free id of the server's range makes an object there
   pub first_makes : (before after : List Tell) (t : Tell) (i : ℕ) {v w : Rows Row}
       → ReadsInFlight test (before ++ (t ∷ after)) v w → is_of_server i ≡ true → v.rows i ≡ None
       → Each (λ u. tell_id u ≢ i) before → tell_id t ≡ i → IsMaking t
@@ -247,7 +247,7 @@ module _ {test : Born → Bool} where
   first_makes (u ∷ us) after t i (delete {v = v} {x = n} z k a b r) l h f e =
       first_makes us after t i r l (put_row_other v.rows n.id None i f.0 ∙ h) f.1 e
 
-  -- where no event makes an object, nothing that comes is about a free id, which stays free
+  -- if no event makes an object, nothing that comes is about a free id, and that id stays free
   pub untold : {es : List Tell} {v w : Rows Row} (i : ℕ) → ReadsInFlight test es v w
       → ((x : Known) → In (Made x) es → ⊥) → v.rows i ≡ None → Each (λ t. tell_id t ≢ i) es × (w.rows i ≡ None)
   untold i done f h = (tt, h)
@@ -261,8 +261,8 @@ module _ {test : Born → Bool} where
       let ne = held_some v n i a h in
       let k = untold i r (λ x j. f x (inr j)) (put_row_other v.rows n.id None i ne ∙ h) in ((ne, k.0), k.1)
 
-  -- what an event names is the last of its id that an event before it makes, or the client holds it
-  -- and none before makes an object at its id
+  -- an object that an event names is the last of its id that an earlier event makes; or the client
+  -- holds it, and no earlier event makes an object at its id
   pub named_latest : (before after : List Tell) (x : Known) {v w : Rows Row}
       → ReadsInFlight test (before ++ (Name x ∷ after)) v w → IsLatest v x (mades before)
   named_latest [] after x (name a r) = not_made tt a
@@ -288,7 +288,7 @@ module _ {test : Born → Bool} where
       by_later (made_last front back e f) = made_last front back e f
       by_later (not_made f h) = not_made f (plain.kept_delete v x n.id h)
 
-  -- what events make are the server's births from the client's count on, one after another
+  -- events make the server's births in order, from the client's count on
   pub told_in_order : {es : List Tell} {v w : Rows Row} → ReadsInFlight test es v w
       → IsInOrder Server v.by_server.births w.by_server.births (map birth_known (mades es))
   told_in_order {v = v} done = (0, (omega arith, refl))
@@ -299,7 +299,7 @@ module _ {test : Born → Bool} where
   told_in_order (end b l a r) = told_in_order r
   told_in_order (delete z l a b r) = told_in_order r
 
-  -- and what requests make are the client's births from the server's count on
+  -- requests make the client's births in order, from the server's count on
   pub asked_in_order : {qs : List Ask} {s : Rows Born} {m : Rows Row} → Tied test qs s m
       → IsInOrder Client s.births m.births (map birth_known (makes qs))
   asked_in_order (drained same rows u b c) = (0, (omega (arith, b), refl))
@@ -312,7 +312,8 @@ module _ {test : Born → Bool} where
 
   -- ---- what was counted in the server's range
 
-  -- the births and the ids that the client will have counted it has, or events on the way make them
+  -- each birth and id that the client will have counted was counted there, or an event on the way
+  -- makes it
   pub births_told : {es : List Tell} {v w : Rows Row} (b : Birth) → ReadsInFlight test es v w → b.maker ≡ Server
       → b.number < w.by_server.births
       → (b.number < v.by_server.births) ⊎ ((x : Known) × (In (Made x) es × (x.born.birth ≡ b)))
@@ -346,7 +347,7 @@ module _ {test : Born → Bool} where
   ids_told id (end f l a r) h = elim (ids_told id r h) [ inl p ↦ inl p | inr p ↦ inr (p.0, (inr p.1.0, p.1.1)) ]
   ids_told id (delete z l a f r) h = elim (ids_told id r h) [ inl p ↦ inl p | inr p ↦ inr (p.0, (inr p.1.0, p.1.1)) ]
 
-  -- the counts do not fall
+  -- the counts never fall
   pub counts_rise : {es : List Tell} {v w : Rows Row} → ReadsInFlight test es v w
       → (v.by_server.births ≤ w.by_server.births) × (v.by_server.next ≤ w.by_server.next)
   counts_rise done = (omega arith, omega arith)
@@ -359,7 +360,7 @@ module _ {test : Born → Bool} where
   counts_rise (end f l a r) = counts_rise r
   counts_rise (delete z l a f r) = counts_rise r
 
-  -- what an event on the way makes is counted once the events are read
+  -- an object that an event on the way makes is counted once the events are read
   pub made_counted : {es : List Tell} {v w : Rows Row} (x : Known) → ReadsInFlight test es v w → In (Made x) es
       → (x.born.birth.number < w.by_server.births) × (x.id < w.by_server.next)
   made_counted x done i = absurd i

@@ -1,4 +1,4 @@
--- The pair as it begins, drained ends, and runs.
+-- A new pair, drained ends, and runs.
 use Rattle.std.proofs.Common.{◌≡◌, ℕ, ◌≤◌, Bool, true, false, cond, List, [], ◌∷◌, ◌++◌, map, refl}
 use Rattle.std.proofs.Common.{sym, ap, subst, ◌∙◌, arith, lit≤}
 use Rattle.std.proofs.Common.{◌<◌, ◌-◌}
@@ -206,7 +206,7 @@ rows_same id None (Some e) l h = absurd (cc h)
 rows_same id (Some d) None l h = absurd (cc h)
 rows_same id (Some d) (Some e) l h = ap Some (entry_of id d e (l e refl) (cc h))
 
--- what the server has is open at the client
+-- an object that the server has is open at the client
 open_there : (id : ℕ) (c o : Option Entry) → only_open (option_map (row_of_entry id) c) ≡ option_map (born_of_entry id) o
     → (e : Entry) → e.state ≡ states.Live → o ≡ Some e → c ≡ Some e
 open_there id c o h e l k =
@@ -214,7 +214,7 @@ open_there id c o h e l k =
     let m = map_some (row_of_entry id) c (Open (born_of_entry id e)) row in
     m.1 ∙ ap Some (entry_of id m.0 e l m.2)
 
--- and what is open at the client the server has
+-- the server has an object that is open at the client
 open_here : (id : ℕ) (c o : Option Entry) → only_open (option_map (row_of_entry id) c) ≡ option_map (born_of_entry id) o
     → ((e : Entry) → o ≡ Some e → e.state ≡ states.Live) → (e : Entry) → e.state ≡ states.Live → c ≡ Some e → o ≡ Some e
 open_here id c o h live e l k =
@@ -224,8 +224,8 @@ open_here id c o h live e l k =
     let m = map_some (born_of_entry id) o (born_of_entry id e) there in
     m.1 ∙ ap Some (sym (entry_of id e m.0 (live m.0 m.1) (row ∙ ap Open (sym m.2))))
 
--- In the server's range of drained ends an id has a zombie at the client exactly where the server has
--- freed it.
+-- In the server's range of drained ends, an id has a zombie at the client if and only if the
+-- server has freed it.
 freed_so : (client there : Objects) (id : ℕ) → ObjectsAreSound client → ObjectsAreSound there
     → client.server.freed ≡ [] → client.server.used ≡ there.server.used → is_of_server id ≡ true
     → ((e : Entry) → look there id ≡ Some e → e.state ≡ states.Live)
@@ -339,7 +339,7 @@ agree_drained p w (stands asked told e s) z d = agree_by p w asked told s d
 
 -- ---- runs
 
--- one step more at the end of a run
+-- one more step at the end of a run
 pub record Extended (p : PairState) (w : World) (moves : List Move) (replies : List Reply)
     (last : PairState) : Type 0 where
   pub world : World

@@ -33,15 +33,15 @@ module _ {X : Type 0} (p : X → Bool) where
       let l : k < length xs = slice_get_within xs k x h in
       rw (q, lt-ltb k (length xs) l) refl
 
--- equal by test is equal
+-- texts that the test calls equal are equal
 pub bytes_same : (xs ys : List ℕ) → bytes_eq xs ys ≡ true → xs ≡ ys
 bytes_same xs ys h = (bytes_eq-Decides xs ys).0 h
 
--- a text is equal to itself by test
+-- the test calls a text equal to itself
 pub bytes_self : (xs : List ℕ) → bytes_eq xs xs ≡ true
 bytes_self xs = (bytes_eq-Decides xs xs).1 refl
 
--- the place of an interface's name is its own
+-- the place of an interface's name is the interface's place
 pub place_there : (tables : List Interface) → Valid tables → (iface : Iface) (i : Interface)
     → interface_at tables iface.0 ≡ Some i → place_of tables i.name ≡ Some iface
 place_there tables v iface i h =

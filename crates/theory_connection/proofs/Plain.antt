@@ -1,4 +1,4 @@
--- What a standing pair's messages in flight say in plain words.
+-- The messages in flight of a pair that represents its world, in plain words.
 use Rattle.std.proofs.Common.{true, false, ◌++◌, ◌∷◌, [], ◌≡◌, ℕ, ◌<◌, ◌≤◌, Bool, List, ◌⊎◌, inl}
 use Rattle.std.proofs.Common.{inr, sym, ◌∙◌, ap, subst, arith, ◌≢◌}
 use Rattle.std.specs.declared.option.Option.{Option}
@@ -14,7 +14,7 @@ use Rattle.theory_connection.proofs.Flight.{put_row_tells, put_row_same, held_at
 use Rattle.theory_connection.proofs.Flight.{free_after, live_after, put_row_other, range_apart, fresh_range}
 use Rattle.theory_connection.proofs.Flight.{told_apart, open_at_server}
 
--- what is held when another ends was held before
+-- an object that is held after another ends was held before
 pub kept_end : (v : Rows Row) (x y : Known) → IsHeldInRows v y → IsHeldInRows (at v y.id (Some (Ending y.born))) x
     → IsHeldInRows v x
 kept_end v x y a h = elim (put_row_tells v.rows y.id (Some (Ending y.born)) x.id) [
@@ -23,7 +23,7 @@ kept_end v x y a h = elim (put_row_tells v.rows y.id (Some (Ending y.born)) x.id
   | inr p ↦ elim h [ inl q ↦ inl (sym p.1 ∙ q) | inr q ↦ inr (sym p.1 ∙ q) ]
 ]
 
--- what is held when an id is closed was held before
+-- an object that is held after an id is closed was held before
 pub kept_delete : (v : Rows Row) (x : Known) (i : ℕ) → IsHeldInRows (at v i None) x → IsHeldInRows v x
 kept_delete v x i h = elim (put_row_tells v.rows i None x.id) [
   | inl p ↦ elim h [ inl q ↦ absurd (cc (p.1, q)) | inr q ↦ absurd (cc (p.1, q)) ]
@@ -46,14 +46,14 @@ at_some : (o : Option Born) (e : Born) → (at_client o ≡ Some (Open e)) ⊎ (
 at_some None e h = elim h [ inl p ↦ absurd (cc p) | inr p ↦ absurd (cc p) ]
 at_some (Some x) e h = elim h [ inl p ↦ cc | inr p ↦ absurd (cc p) ]
 
--- what an event makes is another than an object of the client's range, which stays
+-- an object of the client's range stays held when an event makes an object
 held_past : (v : Rows Row) (n x : Known) → NextTold v n → IsOfClient x.id → IsHeldInRows v x
     → IsHeldInRows (with_told v n.id (Open n.born)) x
 held_past v n x g l h =
     let same = put_row_other v.rows n.id (Some (Open n.born)) x.id (λ q. range_apart x.id n.id l g.range (sym q)) in
     elim h [ inl p ↦ inl (same ∙ p) | inr p ↦ inr (same ∙ p) ]
 
--- what is held when an event has made an object was held before, or is that object
+-- an object that is held after an event made an object was held before, or is that object
 pub kept_told : (v : Rows Row) (n x : Known) → IsHeldInRows (with_told v n.id (Open n.born)) x
     → IsHeldInRows v x ⊎ (x ≡ n)
 kept_told v n x h = elim (put_row_tells v.rows n.id (Some (Open n.born)) x.id) [
@@ -62,13 +62,13 @@ kept_told v n x h = elim (put_row_tells v.rows n.id (Some (Open n.born)) x.id) [
   | inr p ↦ inl (elim h [ inl q ↦ inl (sym p.1 ∙ q) | inr q ↦ inr (sym p.1 ∙ q) ])
 ]
 
--- it is ending, and of an interface without a destroying event
+-- the object is ending, and its interface has no destroying event
 pub record Asked (test : Born → Bool) (m : Rows Row) (n : Known) : Type 0 where
   pub ending : m.rows n.id ≡ Some (Ending n.born)
   pub test_is : test n.born ≡ false
 
 module _ {test : Born → Bool} where
-  -- a free id of the client's occurs in no event in flight
+  -- no event in flight is about a free id of the client's range
   free_tells : {es : List Tell} {v w : Rows Row} (i : ℕ) → ReadsInFlight test es v w → IsOfClient i → v.rows i ≡ None
       → Each (λ t. tell_id t ≢ i) es
   free_tells i done l h = tt
@@ -81,7 +81,7 @@ module _ {test : Born → Bool} where
   free_tells i (delete {v = v} {x = n} z q a b r) l h =
       (held_some v n i a h, free_tells i r l (grind (arith, put_row_tells)))
 
-  -- nor in a request
+  -- no request in flight is about a free id
   pub free_asks : {qs : List Ask} {s : Rows Born} {m : Rows Row} (i : ℕ) → Tied test qs s m → m.rows i ≡ None
       → Each (λ a. ask_id a ≢ i) qs
   free_asks i (drained same r u b k) h = tt
@@ -92,14 +92,14 @@ module _ {test : Born → Bool} where
       (held_some m n i (inr c) h, free_asks i t (grind (arith, put_row_tells)))
   free_asks i (give_back {m = m} {x = n} q a b c t) h = (held_some m n i (inr c) h, free_asks i t h)
 
-  -- an id of the client's with no row at the client is named nowhere in flight
+  -- nothing in flight is about an id of the client's range with no row at the client
   pub free_nowhere : {es : List Tell} {qs : List Ask} {v : Rows Row} {s : Rows Born} (i : ℕ)
       → MeetInMiddle test es qs v s
       → IsOfClient i → v.rows i ≡ None → Each (λ t. tell_id t ≢ i) es × Each (λ a. ask_id a ≢ i) qs
   free_nowhere i m l h = (free_tells i m.reads l h, free_asks i m.tied (free_after i m.reads l h))
 
-  -- what the client holds in its range has its delete in an event in flight, or is held once the
-  -- events are read
+  -- the delete of an object that the client holds in its range is in flight, or the object is still
+  -- held once the events are read
   deleted_or : {es : List Tell} {v w : Rows Row} (n : Known) → ReadsInFlight test es v w → IsOfClient n.id
       → IsHeldInRows v n → In (Delete n) es ⊎ IsHeldInRows w n
   deleted_or n done l h = inr h
@@ -117,7 +117,7 @@ module _ {test : Born → Bool} where
     | inr p ↦ elim (deleted_or n r l (held_other v n x.id _ h p.0)) [ inl q ↦ inl (inr q) | inr q ↦ inr q ]
   ]
 
-  -- what will be held in the client's range is open at the server or made on the way
+  -- an object that will be held in the client's range is open at the server or made on the way
   open_or_made : {qs : List Ask} {s : Rows Born} {m : Rows Row} (n : Known) → Tied test qs s m → IsOfClient n.id
       → IsHeldInRows m n → (s.rows n.id ≡ Some n.born) ⊎ In (Make n) qs
   open_or_made n (drained {s = s} same rows u b k) l h =
@@ -147,13 +147,14 @@ module _ {test : Born → Bool} where
         | inr p ↦ inr (inr p)
       ]
 
-  -- what the client holds in its range is deleted on the way, open at the server, or made on the way
+  -- an object that the client holds in its range is deleted on the way, open at the server, or made
+  -- on the way
   pub held_where : {es : List Tell} {qs : List Ask} {v : Rows Row} {s : Rows Born} (n : Known)
       → MeetInMiddle test es qs v s → IsOfClient n.id
       → IsHeldInRows v n → In (Delete n) es ⊎ (s.rows n.id ≡ Some n.born) ⊎ In (Make n) qs
   held_where n m l h = elim (deleted_or n m.reads l h) [ inl p ↦ inl p | inr p ↦ inr (open_or_made n m.tied l p) ]
 
-  -- what will be open in the server's range the server has
+  -- the server has an object that will be open in the server's range
   pub open_given : {qs : List Ask} {s : Rows Born} {m : Rows Row} (n : Known) → Tied test qs s m
       → is_of_server n.id ≡ true → m.rows n.id ≡ Some (Open n.born) → s.rows n.id ≡ Some n.born
   open_given n (drained {s = s} {m = m} same rows u b k) l h =
@@ -168,13 +169,13 @@ module _ {test : Born → Bool} where
       let ne : x.id ≢ n.id = λ q. (let d = sym c ∙ ap m.rows q ∙ h in cc d) in
       sym (put_row_other s.rows x.id None n.id ne) ∙ open_given n t l h
 
-  -- what is open at the client in the server's range the server has
+  -- the server has an object of the server's range that is open at the client
   pub open_where : {es : List Tell} {qs : List Ask} {v : Rows Row} {s : Rows Born} (n : Known)
       → MeetInMiddle test es qs v s → is_of_server n.id ≡ true → test n.born ≡ false
       → v.rows n.id ≡ Some (Open n.born) → s.rows n.id ≡ Some n.born
   open_where n m l f h = open_given n m.tied l (live_after n.id n.born m.reads h f)
 
-  -- nothing after a delete in flight names its object's id
+  -- nothing after a delete in flight is about its object's id
   pub deleted_last : (before after : List Tell) (x : Known) {v w : Rows Row}
       → ReadsInFlight test (before ++ (Delete x ∷ after)) v w → Each (λ t. tell_id t ≢ x.id) after
   deleted_last [] after x (delete {v = v} z l a b r) = free_tells x.id r l (grind (arith, put_row_tells))
@@ -183,9 +184,9 @@ module _ {test : Born → Bool} where
   deleted_last (b ∷ bs) after x (end t l h r) = deleted_last bs after x r
   deleted_last (b ∷ bs) after x (delete z l h c r) = deleted_last bs after x r
 
-  -- ---- and back, and only one of these
+  -- ---- the converse, and only one of these
 
-  -- what will be held is held, or made by an event on the way
+  -- an object that will be held is held, or made by an event on the way
   pub held_before : {es : List Tell} (x : Known) {v w : Rows Row} → ReadsInFlight test es v w → IsHeldInRows w x
       → IsHeldInRows v x ⊎ In (Made x) es
   held_before x done h = inl h
@@ -199,7 +200,7 @@ module _ {test : Born → Bool} where
   held_before x (delete {v = v} {x = y} z l a b r) h =
       elim (held_before x r h) [ inl p ↦ inl (kept_delete v x y.id p) | inr p ↦ inr (inr p) ]
 
-  -- what an event makes is of the server's range
+  -- an object that an event makes is in the server's range
   pub made_range : {es : List Tell} (x : Known) {v w : Rows Row} → ReadsInFlight test es v w → In (Made x) es
       → is_of_server x.id ≡ true
   made_range x done i = absurd i
@@ -211,7 +212,7 @@ module _ {test : Born → Bool} where
   made_range x (end b l a r) i = elim i [ inl p ↦ absurd (cc p) | inr p ↦ made_range x r p ]
   made_range x (delete z l a b r) i = elim i [ inl p ↦ absurd (cc p) | inr p ↦ made_range x r p ]
 
-  -- a delete on the way is of an object of the client's
+  -- a delete on the way is for an object in the client's range
   pub deleted_client : {es : List Tell} (x : Known) {v w : Rows Row} → ReadsInFlight test es v w → In (Delete x) es
       → IsOfClient x.id
   deleted_client x done i = absurd i
@@ -223,7 +224,7 @@ module _ {test : Born → Bool} where
     | inr p ↦ deleted_client x r p
   ]
 
-  -- the client holds what a delete on the way is of, and frees its id when it reads that
+  -- the client holds the object of a delete on the way, and frees its id when it reads the delete
   deleted_held : {es : List Tell} (x : Known) {v w : Rows Row} → ReadsInFlight test es v w → In (Delete x) es
       → IsHeldInRows v x × (w.rows x.id ≡ None)
   deleted_held x done i = absurd i
@@ -262,7 +263,7 @@ module _ {test : Born → Bool} where
       elim i [ inl p ↦ absurd (cc p) | inr p ↦ kept_delete m x y.id (make_held x t p) ]
   make_held x (give_back l a b c t) i = elim i [ inl p ↦ absurd (cc p) | inr p ↦ make_held x t p ]
 
-  -- what a request makes is of the client's range, and was not counted
+  -- an object that a request makes is in the client's range, and was not counted
   pub make_new : {qs : List Ask} (x : Known) {s : Rows Born} {m : Rows Row} → Tied test qs s m → In (Make x) qs
       → (s.births ≤ x.born.birth.number) × IsOfClient x.id
   make_new x (drained same r u b k) i = absurd i
@@ -276,7 +277,7 @@ module _ {test : Born → Bool} where
   make_new x (destroy z l a b c t) i = elim i [ inl p ↦ absurd (cc p) | inr p ↦ make_new x t p ]
   make_new x (give_back l a b c t) i = elim i [ inl p ↦ absurd (cc p) | inr p ↦ make_new x t p ]
 
-  -- and what is one of these the client holds, or an event on the way makes it
+  -- the client holds an object for which one of these holds, or an event on the way makes it
   pub held_back : {es : List Tell} {qs : List Ask} {v : Rows Row} {s : Rows Born} (x : Known)
       → MeetInMiddle test es qs v s
       → In (Delete x) es ⊎ (s.rows x.id ≡ Some x.born) ⊎ In (Make x) qs → IsHeldInRows v x ⊎ In (Made x) es
@@ -289,29 +290,29 @@ module _ {test : Born → Bool} where
     ]
   ]
 
-  -- of the client's range the client holds it
+  -- in the client's range, the client holds it
   pub held_back_here : {es : List Tell} {qs : List Ask} {v : Rows Row} {s : Rows Born} (x : Known)
       → MeetInMiddle test es qs v s → IsOfClient x.id
       → In (Delete x) es ⊎ (s.rows x.id ≡ Some x.born) ⊎ In (Make x) qs → IsHeldInRows v x
   held_back_here x m l h = elim (held_back x m h)
       [ inl p ↦ p | inr p ↦ absurd (let k = made_range x m.reads p in cc (l, k)) ]
 
-  -- what is open at the server has no delete on the way
+  -- an object that is open at the server has no delete on the way
   pub not_open_deleted : {es : List Tell} {qs : List Ask} {v : Rows Row} {s : Rows Born} (x : Known)
       → MeetInMiddle test es qs v s → s.rows x.id ≡ Some x.born → In (Delete x) es → ⊥
   not_open_deleted x m h d = held_some_row m.middle x (held_at_client x m.tied h) (deleted_held x m.reads d).1
 
-  -- what is made on the way has no delete on the way
+  -- an object that is made on the way has no delete on the way
   pub not_made_deleted : {es : List Tell} {qs : List Ask} {v : Rows Row} {s : Rows Born} (x : Known)
       → MeetInMiddle test es qs v s → In (Make x) qs → In (Delete x) es → ⊥
   not_made_deleted x m h d = held_some_row m.middle x (make_held x m.tied h) (deleted_held x m.reads d).1
 
-  -- what is made on the way was not counted by the server
+  -- the server has not counted an object that is made on the way
   pub not_made_counted : {es : List Tell} {qs : List Ask} {v : Rows Row} {s : Rows Born} (x : Known)
       → MeetInMiddle test es qs v s → In (Make x) qs → x.born.birth.number < s.births → ⊥
   not_made_counted x m h l = let k = (make_new x m.tied h).0 in absurd (omega (arith, k, l))
 
-  -- ---- what is ending
+  -- ---- ending objects
 
   ending_read : {es : List Tell} {v w : Rows Row} (n : Known) → ReadsInFlight test es v w → IsOfClient n.id
       → v.rows n.id ≡ Some (Ending n.born)
@@ -348,7 +349,7 @@ module _ {test : Born → Bool} where
   ]
   ending_asked n (give_back k a b c t) l h = inr (ending_asked n t l h)
 
-  -- what is ending at the client in its range is deleted or destroyed on the way
+  -- an object in the client's range that is ending at the client is deleted or destroyed on the way
   pub ending_where : {es : List Tell} {qs : List Ask} {v : Rows Row} {s : Rows Born} (n : Known)
       → MeetInMiddle test es qs v s → IsOfClient n.id
       → v.rows n.id ≡ Some (Ending n.born) → In (Delete n) es ⊎ In (Destroy n) qs
@@ -389,13 +390,13 @@ module _ {test : Born → Bool} where
     | inr p ↦ open_read n r (p.1 ∙ h) k
   ]
 
-  -- no request on the way destroys what is open at the client
+  -- no request on the way destroys an object that is open at the client
   pub open_unasked : {es : List Tell} {qs : List Ask} {v : Rows Row} {s : Rows Born} (n : Known)
       → MeetInMiddle test es qs v s
       → v.rows n.id ≡ Some (Open n.born) → In (Destroy n) qs → ⊥
   open_unasked n m h i = let k = asked_ending n m.tied i in cc (open_read n m.reads h k.ending, k.test_is)
 
-  -- a destroying event alone makes an open object's delete come before its turn
+  -- if the delete of an open object is on the way, its interface has a destroying event
   pub open_deleted : {es : List Tell} {v w : Rows Row} (n : Known) → ReadsInFlight test es v w
       → v.rows n.id ≡ Some (Open n.born) → In (Delete n) es → test n.born ≡ true
   open_deleted n done h i = absurd i
@@ -423,7 +424,7 @@ module _ {test : Born → Bool} where
     ]
   ]
 
-  -- what an event makes the client has not counted
+  -- the client has not counted an object that an event makes
   pub made_later : {es : List Tell} {v w : Rows Row} (x : Known) → ReadsInFlight test es v w → In (Made x) es
       → v.by_server.births ≤ x.born.birth.number
   made_later x done i = absurd i
@@ -436,12 +437,12 @@ module _ {test : Born → Bool} where
   made_later x (end b l a r) i = elim i [ inl p ↦ absurd (cc p) | inr p ↦ made_later x r p ]
   made_later x (delete z l a b r) i = elim i [ inl p ↦ absurd (cc p) | inr p ↦ made_later x r p ]
 
-  -- what a request in flight destroys the client holds, or an event on the way makes it
+  -- the client holds an object that a request on the way destroys, or an event on the way makes it
   pub destroyed_before : {es : List Tell} {qs : List Ask} {v : Rows Row} {s : Rows Born} (n : Known)
       → MeetInMiddle test es qs v s → In (Destroy n) qs → IsHeldInRows v n ⊎ In (Made n) es
   destroyed_before n m i = held_before n m.reads (inr (asked_ending n m.tied i).ending)
 
-  -- nothing is both destroyed and deleted on the way
+  -- no object is both destroyed and deleted on the way
   pub not_destroyed_deleted : {es : List Tell} {qs : List Ask} {v : Rows Row} {s : Rows Born} (n : Known)
       → MeetInMiddle test es qs v s → In (Destroy n) qs → In (Delete n) es → ⊥
   not_destroyed_deleted n m i d = let k = (asked_ending n m.tied i).ending in let g = (deleted_held n m.reads d).1

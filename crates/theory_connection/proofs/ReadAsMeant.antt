@@ -52,12 +52,12 @@ pub record HeldAt (view : Objects) (rows : Birth → Option Row) (x : Known) : T
   pub same : born_of_entry x.id entry ≡ x.born
   pub shown : rows x.born.birth ≡ Some (row_of_entry x.id entry)
 
--- what an id is to a reader as that of a new object in a message of this side
+-- the reader's result for the id of a new object in a message of this side
 abbrev pub new_id_for : Side → Reader → ℕ → NewId
 new_id_for Request r id = r.new_id id
 new_id_for Event r id = r.new_server_id id
 
--- a new object of a message of this side fits, as one of the side's maker
+-- a new object of a message of this side: its id is free, and it is the next birth
 pub record FreeAt (tables : List Interface) (side : Side) (view : Objects) (x : Known) : Type 0 where
   pub free : new_id_for side (reader_of tables side view) x.id ≡ Free
   pub birth : x.born.birth ≡ record { maker = maker_of x.id; number = next_birth (maker_by side) view }
@@ -68,21 +68,21 @@ Met tables side view rows (New x) = FreeAt tables side view x
 Met tables side view rows (NewNamed name own x) = FreeAt tables side view x
 Met tables side view rows _ = Unit {0}
 
--- each argument of a message of this side meets its object or a free id
+-- for each argument, the end has its object, or the id of its new object is free
 abbrev pub AllMet : List Interface → Side → Objects → (Birth → Option Row) → List (Arg Known) → Type 0
 AllMet tables side view rows [] = Unit {0}
 AllMet tables side view rows (a ∷ args) = Met tables side view rows a × AllMet tables side view rows args
 
--- ---- what a reader finds
+-- ---- what a reader knows
 
--- it knows an object with this id, of the interface and version that was meant
+-- the reader knows an object with this id, with the interface and version that were meant
 pub record HasObject (r : Reader) (x : Known) : Type 0 where
   pub entry : Entry
   pub there : r.object x.id ≡ Some entry
   pub iface : entry.iface ≡ x.born.iface
   pub version : entry.version ≡ x.born.version
 
--- it finds what an argument names
+-- the reader knows the object of an argument, or a new id is free to it
 abbrev pub Finds : Side → Reader → Arg Known → Type 0
 Finds side r (Obj (Some x)) = HasObject r x
 Finds side r (New x) = new_id_for side r x.id ≡ Free
@@ -93,11 +93,11 @@ is_of_same : (iface : Option Iface) (e d : Entry) → e.iface ≡ d.iface → is
 is_of_same None e d h k = refl
 is_of_same (Some iface) e d h k = rw h k
 
--- it forgives nothing
+-- the reader, without forgiving
 abbrev strict : Reader → Reader
 strict r = record r { forgives = false }
 
--- the id of a new object is free where its kind is of the side's maker
+-- the id of a new object is free if its kind is of the side's maker
 new_right : (tables : List Interface) (version place : ℕ) (side : Side) (r : Reader) (kind : Kind) (x : Known)
     → MadeFor side kind → NamesRightly tables version kind (New x) → new_id_for side r x.id ≡ Free
     → value_fault (strict r) place kind (wire (New x)) ≡ None
@@ -173,7 +173,7 @@ tokens_one kinds.Array (Array z) s = refl
 tokens_one kinds.Fd (Fd z) s = refl
 tokens_one _ _ s = absurd s
 
--- the kinds take as many tokens as the arguments have
+-- the kinds take the number of tokens that the arguments have
 pub tokens_taken : (tables : List Interface) (version : ℕ) (ks : List Kind) (args : List (Arg Known))
     → SuitKinds tables version ks args → descriptors ks ≡ length (tokens args)
 tokens_taken tables version [] [] f = refl
@@ -191,7 +191,7 @@ tokens_taken tables version (kind ∷ ks) (a ∷ args) f =
 
 -- ---- the whole message
 
--- by any reader that knows what it names
+-- read by any reader that knows the objects that the message names
 pub received_by_any : (tables : List Interface) (side : Side) (r : Reader) (m : Message Known) (header : Header)
     (waiting : ℕ) (o : HasObject r m.target) (f : FitsSignature tables side m) → Each (MadeFor side) f.signature.kinds
     → header.object ≡ m.target.id → header.opcode ≡ m.opcode → Each (Finds side r) m.args → length (tokens m.args) ≤ waiting
@@ -246,7 +246,7 @@ module _ (tables : List Interface) (side : Side) (view : Objects) (rows : Birth 
   all_found [] m = tt
   all_found (a ∷ args) m = (one_found a m.0, all_found args m.1)
 
--- by an end
+-- read by an end
 pub received_right : (tables : List Interface) (side : Side) (view : Objects) (rows : Birth → Option Row)
     (m : Message Known) (header : Header) (waiting : ℕ) (entry : Entry) (f : FitsSignature tables side m)
     → Each (MadeFor side) f.signature.kinds
@@ -311,9 +311,9 @@ reports_right tables side view rows (a ∷ args) more m =
       reports_right tables side view rows args more m.1,
     ) refl
 
--- ---- the object that it makes
+-- ---- the object that the message makes
 
--- a new object as its end opens it
+-- a new object, as an end opens it
 abbrev pub made_of : Known → NewObject
 made_of x = record { id = x.id; iface = x.born.iface; version = x.born.version }
 
@@ -337,7 +337,7 @@ or_made : (a b : Option Known) → made_or_else (option_map made_of a) (option_m
 or_made None b = refl
 or_made (Some x) b = refl
 
--- what arguments make is what the kinds make of them
+-- the object that the kinds make from the arguments is the new object in them
 pub made_read : (tables : List Interface) (version : ℕ) (ks : List Kind) (args : List (Arg Known))
     → SuitKinds tables version ks args → made tables version ks (map wire args) ≡ option_map made_of (made_in args)
 made_read tables version [] [] f = refl

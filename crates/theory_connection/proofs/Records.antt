@@ -1,4 +1,4 @@
--- What was recorded stays, whatever is done.
+-- What was recorded stays, whatever moves follow.
 use Rattle.std.proofs.Common.{◌≡◌, ℕ, Bool, List, [], ◌++◌, refl, sym, ◌∙◌}
 use Rattle.std.proofs.lemmas.List.{append-nil}
 use Rattle.std.specs.declared.option.Option.{Option}
@@ -21,7 +21,7 @@ use Rattle.theory_connection.specs.Answers.{KeepsRecord}
 pub unchanged : (p : PairState) → KeepsRecord p p
 unchanged p = record { more = []; pieces = sym (append-nil p.recording); mark = λ count h. h }
 
--- one with the same record
+-- a pair with the same recording and mark
 same : (p p' : PairState) → p'.recording ≡ p.recording → p'.ended_at ≡ p.ended_at → KeepsRecord p p'
 same p p' r e = record { more = []; pieces = r ∙ sym (append-nil p.recording); mark = λ count h. e ∙ h }
 
@@ -67,7 +67,7 @@ mark_stays : (o : Option ℕ) (n count : ℕ) → o ≡ Some count → ended_mar
 mark_stays None n count h = absurd (cc h)
 mark_stays (Some first) n count h = h
 
--- An error marks the end, where none is marked.
+-- An error marks the end of the recording, unless it is marked.
 posted : (p p' : PairState) (n : ℕ) → p'.recording ≡ p.recording → p'.ended_at ≡ ended_mark p.ended_at n
     → KeepsRecord p p'
 posted p p' n r e = record {
@@ -76,7 +76,7 @@ posted p p' n r e = record {
   mark = λ count h. e ∙ mark_stays p.ended_at n count h;
 }
 
--- a move keeps the pieces recorded and the first mark
+-- a move keeps the recorded pieces and the first mark
 pub keeps_record : (p : PairState) (move : Move) (reply : Reply) (p' : PairState) → Does p move reply p'
     → KeepsRecord p p'
 keeps_record p (ClientSend target opcode given) (ClientSend reply) p' d =

@@ -54,7 +54,7 @@ marks_cond : (b : Bool) (xs ys : List server.Registry)
 marks_cond true xs ys = refl
 marks_cond false xs ys = refl
 
--- the marks of the registries, with one that is made
+-- the marks of the registries after a message that may make one
 pub marks_with : (c : Core) (rs : List server.Registry) (n : Option Known)
     → IfThere (λ x. x.born.birth ≡ birth_at (record { id = x.id; birth = c.view.client.births })) n
     → map marks_of (registries_after c rs (option_map made_of n)) ≡ marks_after (option_map born_of n) (map marks_of rs)
@@ -66,18 +66,18 @@ marks_with c rs (Some x) h =
     (map_more marks_of rs r ∙ ap (λ (b : Birth). map marks_of rs
     ++ record { birth = b; told = r.told; removed = r.removed } ∷ []) (sym h))
 
--- the object that is known so
+-- an end's name for the object
 abbrev pub object_of : Known → Object
 object_of x = record { id = x.id; birth = x.born.birth.number }
 
--- it has the birth that it is known by
+-- that name has the object's birth
 pub object_birth : (v : Objects) (x : Known) → ThereRow (server_rows v) x → birth_at (object_of x) ≡ x.born.birth
 object_birth v x h =
     let r = there_row v x h in
     let maker : maker_of x.id ≡ x.born.birth.maker = ap (λ (b : Born). b.birth.maker) r.same in
     λ i. record { maker = maker i; number = x.born.birth.number }
 
--- The marks go by the birth: each registry of the object's birth is the object.
+-- Removing an object is removing its birth, if each registry with this birth is the object.
 marks_without : (object : Object) (rs : List server.Registry)
     → ((o : Object) → IsAmong o rs → birth_at o ≡ birth_at object → o ≡ object)
     → map marks_of (without_object true object rs)
@@ -121,11 +121,11 @@ among_new c rs (Some x) o h = elim (by_test (same_iface x.born.iface registry) h
     by_test true a = elim (among_more o rs new a) [ inl p ↦ inl p | inr p ↦ inr (sym p) ]
     by_test false a = inl a
 
--- the births that are open at the server
+-- these are the births that are open at the server
 abbrev pub Shown : Objects → (Birth → Option Born) → Type 0
 Shown v there = ShowsBirths birth_of NoneIsGone (server_rows v).rows (births_in (server_rows v)) there
 
--- a registry of the birth of an object that has a row is that object
+-- a registry with the birth of an object that has a row is that object
 one_of_birth : (c : Core) (rs : List server.Registry) (n : Option Known) (x : Known) (there : Birth → Option Born)
     → Shown c.view there → IfThere (Fresh (server_rows c.view)) n
     → ThereRow (server_rows c.view) x → HasRegistries c.view rs
@@ -150,7 +150,7 @@ abbrev pub registries_left : Option Known → List server.Registry → List serv
 registries_left None rs = rs
 registries_left (Some x) rs = without_object true (object_of x) rs
 
--- the marks without those of a registry that is closed
+-- the marks without those of a closed registry
 pub marks_left : (c : Core) (rs : List server.Registry) (n o : Option Known) (there : Birth → Option Born)
     → Shown c.view there → IfThere (Fresh (server_rows c.view)) n
     → IfThere (ThereRow (server_rows c.view)) o → HasRegistries c.view rs
@@ -163,7 +163,7 @@ marks_left c rs n (Some x) there s g held h =
     marks_without (object_of x) after (λ o a e. one_of_birth c rs n x there s g held h o a (e ∙ birth))
     ∙ ap (λ (b : Birth). without_registry same_birth marks_birth true b (map marks_of after)) birth
 
--- the registries without what ends
+-- the registries without the object that ends
 pub left_are : (b : Bool) (object : Object) (o : Option Known) (rs : List server.Registry) → b ≡ is_some o
     → IfThere (λ x. x.id ≡ object.id) o → IfThere (λ x. x.born.birth ≡ birth_at object) o
     → without_object b object rs ≡ registries_left o rs
@@ -178,7 +178,7 @@ left_are b object (Some x) rs f d h =
 pub registry_plain : (tables : List Interface) → Valid tables → is_ended_by_event (interface_at tables 1) ≡ false
 registry_plain tables v = rw v.fixed_four.registry refl
 
--- what ends by an event is no registry
+-- an object that ends by an event is no registry
 pub no_registry : (tables : List Interface) → Valid tables → (v : Objects) (x : Known) → ThereRow (server_rows v) x
     → by_event tables x.born ≡ true → (d : Entry) → look v x.id ≡ Some d → d.iface ≢ registry
 no_registry tables valid v x t e d row is =
@@ -197,12 +197,12 @@ fresh_look : (id : ℕ) (o : Option Entry) → option_map (born_of_entry id) o �
 fresh_look id None h = refl
 fresh_look id (Some e) h = absurd (cc h)
 
--- what is fresh has no row
+-- a fresh object has no row
 pub fresh_row : (v : Objects) (n : Option Known) → IfThere (Fresh (server_rows v)) n → IsFreshId v (option_map made_of n)
 fresh_row v None f = tt
 fresh_row v (Some x) f = (fresh_look x.id (look v x.id) f.free, fresh_range f)
 
--- the registries fit after a request is read
+-- the list still has exactly the registries after a request is read
 pub has_read : (c : Core) (rs : List server.Registry) (n o : Option Known)
     → IsFreshId c.view (option_map made_of n) → IfThere (HeldRow c.view) o → HasRegistries c.view rs
     → HasRegistries (ended_view Event (opens c.view (option_map made_of n)) o)
@@ -213,7 +213,7 @@ has_read c rs n (Some x) f r h =
     has_closed (opens c.view made) (registries_after c rs made) (object_of x) r.entry
     (row_kept c.view made x.id r.entry f r.there) (ap (λ (b : Born). b.birth.number) r.same) (has_opened c rs made f h)
 
--- the registries fit after the server makes an object that is no registry
+-- the same after the server makes an object that is no registry
 has_more : (v : Objects) (rs : List server.Registry) (n : Option Known) → IfThere (FreshTold (server_rows v)) n
     → IfThere (λ x. x.born.iface ≢ registry) n → HasRegistries v rs → HasRegistries (opens v (option_map made_of n)) rs
 has_more v rs None f o h = h
@@ -237,7 +237,7 @@ has_more v rs (Some x) f o h =
           });
     }
 
--- the registries fit after an event that makes and ends no registry
+-- the same after an event that makes and ends no registry
 pub has_told : (v : Objects) (rs : List server.Registry) (n o : Option Known) → IfThere (FreshTold (server_rows v)) n
     → IfThere (λ x. x.born.iface ≢ registry) n
     → IfThere (λ (x : Known). (d : Entry) → look v x.id ≡ Some d → d.iface ≢ registry) o → HasRegistries v rs

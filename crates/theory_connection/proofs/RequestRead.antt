@@ -1,4 +1,4 @@
--- The server reads.
+-- The server reads a request.
 use Rattle.std.proofs.Common.{◌≡◌, ℕ, ◌+◌, ◌<◌, ◌≤◌, Bool, true, false, List, [], ◌∷◌, ◌++◌, map}
 use Rattle.std.proofs.Common.{◌≢◌, length, refl, sym, ap, subst, ◌∙◌, arith, min, cond, inl, inr}
 use Rattle.std.proofs.lemmas.Bool.{ne_eqb}
@@ -63,9 +63,9 @@ use Rattle.theory_connection.proofs.FoundInFront.{the_found, the_message, finds,
 use Rattle.theory_connection.proofs.EndedObject.{EndsAs, ended_view, after_is, argument_is, ends_have, if_by}
 use Rattle.wl_server.proofs.Fronts.{named_object}
 
--- ---- what is found
+-- ---- the request at the front
 
--- the first request is in front
+-- the first request is at the front: it is found, and its objects are there
 pub record InFront (p : PairState) (w : World) (m : Message Known) (n : ℕ) : Type 0 where
   pub entry : Entry
   pub there : look p.server.core.view m.target.id ≡ Some entry
@@ -113,14 +113,14 @@ no_bad_bind : (b g : Bool) → (b ≡ true → g ≡ true) → (b && not g) ≡ 
 no_bad_bind false g h = refl
 no_bad_bind true g h = rw (h refl) refl
 
--- ---- the end after it
+-- ---- the end after the request
 
--- whether a delete answers the end of this
+-- whether the end of this object needs a delete
 abbrev pub is_owed : Option Known → Bool
 is_owed None = false
 is_owed (Some x) = not (is_of_server x.id)
 
--- what answers the end of an object: its delete where the client made it, else nothing
+-- the end of an object is followed by its delete if the client made it, else by nothing
 pub answer_is : (P : List (Coming Known) → Type 0) (o : Option Known) → P []
     → ((x : Known) → o ≡ Some x → OfClient x → P (Delete x ∷ [])) → P (answer id_maker o)
 answer_is P None none some = none
@@ -130,7 +130,7 @@ answer_is P (Some x) none some = by_range (is_of_server x.id) refl
     by_range true t = none
     by_range false t = some x refl t
 
--- the delete of what ends follows in the outbox
+-- the delete of the object that ends is appended to the outbox
 pub followed : (b : Bool) (id : ℕ) (o : Option Known) (c : Core) → b ≡ is_owed o → IfThere (λ x. x.id ≡ id) o
     → with_following b id c ≡ record c {
       outbox =
@@ -165,7 +165,7 @@ answer_whole limit o =
     answer_is (λ l. Each (λ (m : boxes.QueuedMessage). IsMessage limit.bytes m.bytes) (map spelled_coming l)) o tt
     (λ x e r. delete_whole limit (Some x))
 
--- the delete of what ends, by births
+-- the delete of an object that ends, by births
 pub map_delete : (o : Option Known) → map (recoming born_of) (delete o) ≡ delete (option_map born_of o)
 map_delete None = refl
 map_delete (Some x) = refl
@@ -174,7 +174,7 @@ answer_born : (k : Maker) (x : Known) → map (recoming born_of) (answer_by k x)
 answer_born Client x = refl
 answer_born Server x = refl
 
--- the answer to the end of what the server has, by births
+-- what follows the end of an object that the server has, by births
 pub map_answer : (v : Objects) (o : Option Known) → IfThere (ThereRow (server_rows v)) o
     → map (recoming born_of) (answer id_maker o) ≡ answer born_maker (option_map born_of o)
 map_answer v None h = refl
@@ -188,13 +188,13 @@ births_of : (v : Objects) (n : Option Known) → IfThere (Fresh (server_rows v))
 births_of v None g = tt
 births_of v (Some x) g = g.birth ∙ sym (by_client x.id v.client.births (fresh_range g))
 
--- a delete of a low id fits
+-- a delete fits if its id is within the limit
 pub delete_fits : (p : PairState) (o : Option Known) → IfThere (λ x. x.id ≤ 1048576) o
     → Each (ComesFitly p.server.core.tables p.server.globals) (delete o)
 delete_fits p None h = tt
 delete_fits p (Some x) h = (h, tt)
 
--- the server's core as it is left
+-- the server's core after the request
 abbrev pub left_core : Core → Message Known → ℕ → Core
 left_core c m n = record c {
   view = ended_view event_side (opens c.view (option_map made_of (made_in m.args))) m.ends;
@@ -203,14 +203,14 @@ left_core c m n = record c {
   read = min (c.read + n) 18446744073709551615;
 }
 
--- the server as it is left
+-- the server after the request
 abbrev pub left_state : server.State → Message Known → ℕ → server.State
 left_state st m n = record st {
   core = left_core st.core m n;
   registries = registries_left m.ends (registries_after st.core st.registries (option_map made_of (made_in m.args)));
 }
 
--- What the server ends is what the message means: by its id and by its birth.
+-- The object that the server ends is the one that the message means, by its id and by its birth.
 record EndsRightly (what : Destroys) (object : Object) (o : Option Known) : Type 0 where
   ends : EndsAs what object.id o
   birth : IfThere (λ x. x.born.birth ≡ birth_at object) o
@@ -258,7 +258,7 @@ owed_by : (b : Bool) (id : ℕ) (o : Option Known) → b ≡ is_some o → IfThe
 owed_by b id None f h = λ i. f i && not (is_of_server id)
 owed_by b id (Some x) f h = λ i. f i && not (is_of_server (sym h i))
 
--- a request is answered by a delete_id where it destroys an object of the client
+-- a request must be followed by a delete_id if it destroys an object of the client
 pub owes_is : (st : server.State) (m : Message Known) (n : ℕ) (entry : Entry)
     (f : FitsSignature st.core.tables request_side m)
     → Valid st.core.tables → born_of_entry m.target.id entry ≡ m.target.born
@@ -268,7 +268,7 @@ owes_is st m n entry f v s h hs =
     let e = (ends_rightly st m n entry f v s h hs).ends in
     owed_by (destroys_one f.signature.destroys) (ended st.core (the_found n m entry f.signature)).id m.ends e.flag e.same
 
--- reading a request leaves the server so
+-- reading a request leaves the server in this state
 pub left_is : (st : server.State) (m : Message Known) (n : ℕ) (entry : Entry)
     (f : FitsSignature st.core.tables request_side m)
     → Valid st.core.tables → born_of_entry m.target.id entry ≡ m.target.born
@@ -307,41 +307,41 @@ left_is st m n entry f v s h hs =
     (with_view (past st.core n (length (tokens m.args))) (ended_view event_side (opens st.core.view new) m.ends))
     refl e.ends.same))
 
--- ---- deletes follow
+-- ---- a delete follows the event that ends its object
 
 begins_more : (x : Known) (cs ds : List (Coming Known)) → BeginsWithDelete x cs → BeginsWithDelete x (cs ++ ds)
 begins_more x [] ds h = absurd h
 begins_more x (Event m ∷ cs) ds h = absurd h
 begins_more x (Delete y ∷ cs) ds h = h
 
--- deletes still follow in a longer list
+-- this holds in a longer list
 pub follow_more : (cs ds : List (Coming Known)) → DeletesFollow cs → DeletesFollow ds → DeletesFollow (cs ++ ds)
 follow_more [] ds h k = k
 follow_more (Event m ∷ cs) ds h k = (if_by (λ x. begins_more x cs ds) m.ends h.0, follow_more cs ds h.1 k)
 follow_more (Delete x ∷ cs) ds h k = follow_more cs ds h k
 
--- deletes follow in a delete alone
+-- this holds for a delete alone
 pub follow_delete : (o : Option Known) → DeletesFollow (delete o)
 follow_delete None = tt
 follow_delete (Some x) = tt
 
--- nor in an answer
+-- this holds for what follows the end of an object
 pub follow_answer : (o : Option Known) → DeletesFollow (answer id_maker o)
 follow_answer o = answer_is DeletesFollow o tt (λ x e r. tt)
 
--- what ends is followed by its delete
+-- an object that ends is followed by its delete
 pub begins_delete : (o : Option Known) → IfThere (λ x. BeginsWithDelete x (delete o)) o
 begins_delete None = tt
 begins_delete (Some x) = refl
 
 -- ---- the pair represents the next world
 
--- an id of the client's that has a row is no more than the greatest
+-- an id of the client's range that has a row is at most 1,048,576
 pub low_there : (v : Objects) → ObjectsAreSound v → (x : Known) → ThereRow (server_rows v) x → OfClient x
     → x.id ≤ 1048576
 low_there v s x h l = let r = there_row v x h in (row_low v x.id r.entry s l r.there).1
 
--- what the server made still does not end by an event
+-- objects that the server made still do not end by an event
 plain_ends : (test : Born → Bool) (s : Rows Born) (o : Option Known) → MadePlain test s → MadePlain test (server_ends o s)
 plain_ends test s None p = p
 plain_ends test s (Some y) p = λ id x l h. elim (put_row_tells s.rows y.id None id) [
@@ -424,9 +424,9 @@ server_read_stands p w m ms told s n a up =
       };
     }
 
--- ---- what is answered
+-- ---- the result of the read
 
--- a request in front: its objects are open, it is found, and the rest is in flight
+-- a request at the front: its objects are open, it is found, and the rest is in flight
 pub record InRequest (p : PairState) (w : World) (m : Message Known) (ms : List (Message Known))
     (told : List (Coming Known)) (s : StandsBy p w (m ∷ ms) told) (n : ℕ) : Type 0 where
   pub entry : Entry
@@ -445,7 +445,7 @@ judge : (st : server.State) (f : Found) → (is_bind request_side f.message.entr
     → request st ≡ Ok (Some f)
 judge st f h e = ap (unless_bad_bind st) e ∙ rw h refl
 
--- the first request, where it is whole
+-- the first request, if it is whole
 pub in_request : (p : PairState) (w : World) (m : Message Known) (ms : List (Message Known))
     (told : List (Coming Known)) (s : StandsBy p w (m ∷ ms) told) (n : ℕ)
     → in_front p.server.core.inbox ≡ Whole n → InRequest p w m ms told s n

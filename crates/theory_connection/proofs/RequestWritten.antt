@@ -29,7 +29,7 @@ use Rattle.theory_connection.proofs.RequestRead.{test_of}
 use Rattle.wl_sigs.specs.Side.TheVariants.{Request}
 use Rattle.theory_connection.proofs.EndedObject.{Mortal, ended_view, ends_have, if_by}
 
--- ---- any request that fits and whose objects are open
+-- ---- any request that fits, with open objects
 
 -- a request that fits, whose objects are open at the client and whose new object is fresh
 pub record CanAsk (p : PairState) (m : Message Known) : Type 0 where
@@ -44,14 +44,14 @@ pub record CanAsk (p : PairState) (m : Message Known) : Type 0 where
   pub mortal : IfThere Mortal m.ends
   pub short : message_len (map wire m.args) ≤ p.client.core.outbox.limit.bytes
 
--- the client's core with it
+-- the client's core after the request
 abbrev pub asked_core : Core → Message Known → Core
 asked_core c m = record c {
   view = ended_view Request (opens_view c.view (option_map made_of (made_in m.args))) m.ends;
   outbox = record c.outbox { messages = c.outbox.messages ++ spelled_meant m ∷ [] };
 }
 
--- the pair with it
+-- the pair after the request
 abbrev pub asked_pair : PairState → Message Known → PairState
 asked_pair p m = with_client_core p (asked_core p.client.core m)
 

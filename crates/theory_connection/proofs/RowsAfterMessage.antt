@@ -39,7 +39,7 @@ use Rattle.theory_connection.proofs.EndedObject.{Mortal, ended_view}
 
 -- ---- the object of a row
 
--- what is mapped to something is something
+-- only something is mapped to something
 pub map_some : {X Y : Type 0} (f : X → Y) (o : Option X) (y : Y) → option_map f o ≡ Some y
     → (x : X) × (o ≡ Some x) × (f x ≡ y)
 map_some f None y h = absurd (cc h)
@@ -58,7 +58,7 @@ pub record HeldRow (v : Objects) (x : Known) : Type 0 where
   pub there : look v x.id ≡ Some entry
   pub same : born_of_entry x.id entry ≡ x.born
 
--- the entry of what the client holds
+-- the entry of an object that the client holds
 pub held_row : (v : Objects) (x : Known) → IsHeldInRows (client_rows v) x → HeldRow v x
 held_row v x h = elim h [
   | inl p ↦ (let m = map_some (row_of_entry x.id) (look v x.id) (Open x.born) p
@@ -67,14 +67,14 @@ held_row v x h = elim h [
       in record { entry = m.0; there = m.1; same = row_born m.0.state (born_of_entry x.id m.0) x.born (inr m.2) })
 ]
 
--- the entry of what is open at the server
+-- the entry of an object that is open at the server
 pub there_row : (v : Objects) (x : Known) → ThereRow (server_rows v) x → HeldRow v x
 there_row v x h = let m = map_some (born_of_entry x.id) (look v x.id) x.born h
     in record { entry = m.0; there = m.1; same = m.2 }
 
 -- ---- the rows
 
--- the server's rows after a message that makes this and ends that
+-- the server's rows after a message that makes n and ends o
 pub server_after : (v : Objects) (n o : Option Known) → IfThere (Fresh (server_rows v)) n
     → server_rows (ended_view Event (opens v (option_map made_of n)) o)
     ≡ server_ends o (server_makes (server_rows v) n)
@@ -92,7 +92,7 @@ apart v y id e f h =
     let b : eqb id y.id ≡ false = grind (arith, nat_tests) in
     look-opened_at v y.id y.born.iface y.born.version id ∙ rw b h
 
--- the client's rows after a message that makes this and ends that
+-- the client's rows after a message that makes n and ends o
 pub client_after : (v : Objects) (n o : Option Known) → IfThere (Fresh (client_rows v)) n → IfThere (HeldRow v) o
     → client_rows (ended_view Request (opens v (option_map made_of n)) o)
     ≡ client_ends o (client_makes (client_rows v) n)
@@ -105,7 +105,7 @@ client_after v (Some y) (Some x) g h =
     ∙ ap (λ (b : Born). at (client_rows (opened_at v y.id y.born.iface y.born.version)) x.id (Some (Ending b))) h.same
     ∙ ap (λ (r : Rows Row). at r x.id (Some (Ending x.born))) (client_opened v y g)
 
--- the server's rows after an event that makes this and ends that
+-- the server's rows after an event that makes n and ends o
 pub server_after_event : (v : Objects) (n o : Option Known) → IfThere (FreshTold (server_rows v)) n
     → server_rows (ended_view Event (opens v (option_map made_of n)) o)
     ≡ server_ends o (server_told (server_rows v) n)
@@ -115,8 +115,7 @@ server_after_event v (Some y) None g = server_told_rows v y g.range g.birth
 server_after_event v (Some y) (Some x) g = server_closed (opened_at v y.id y.born.iface y.born.version) x.id
     ∙ ap (λ (r : Rows Born). at r x.id None) (server_told_rows v y g.range g.birth)
 
--- the client's rows after an event that makes this and ends that, where what ends has the row of
--- another id
+-- the client's rows after an event that makes n and ends o, if these have different ids
 pub client_after_event : (v : Objects) (n o : Option Known) → IfThere (NextTold (client_rows v)) n
     → IfThere (HeldRow v) o → IfThere OfClient o
     → client_rows (ended_view Request (opens v (option_map made_of n)) o)
@@ -147,7 +146,7 @@ server_opens_rows : (v : Objects) (n : Option Known) → IfThere (Fresh (server_
 server_opens_rows v None g = refl
 server_opens_rows v (Some y) g = server_opened v y g
 
--- closing what has a row keeps an end sound
+-- closing an object that has a row keeps an end sound
 closed_sound : (v : Objects) (o : Option Known) → ObjectsAreSound v → IfThere (ThereRow (server_rows v)) o
     → IfThere Mortal o → ObjectsAreSound (ended_view Event v o)
 closed_sound v None s h y = s
@@ -161,7 +160,7 @@ there_kept_if : (s : Rows Born) (n o : Option Known) → IfThere (Fresh s) n →
 there_kept_if s n None g h = tt
 there_kept_if s n (Some x) g h = there_kept s n x g h
 
--- the server's view stays sound at a request
+-- the server's objects are sound after a request
 pub server_sound : (v : Objects) (n o : Option Known) → ObjectsAreSound v → IfThere (Fresh (server_rows v)) n
     → IfThere (ThereRow (server_rows v)) o → IfThere Mortal o
     → ObjectsAreSound (ended_view Event (opens v (option_map made_of n)) o)
@@ -179,7 +178,7 @@ server_tells_rows : (v : Objects) (n : Option Known) → IfThere (FreshTold (ser
 server_tells_rows v None g = refl
 server_tells_rows v (Some y) g = server_told_rows v y g.range g.birth
 
--- and at an event
+-- the server's objects are sound after an event
 pub server_event_sound : (v : Objects) (n o : Option Known) → ObjectsAreSound v
     → IfThere (FreshTold (server_rows v)) n → IfThere (ThereRow (server_rows v)) o → IfThere Mortal o
     → ObjectsAreSound (ended_view Event (opens v (option_map made_of n)) o)
@@ -187,19 +186,19 @@ server_event_sound v n o s g h y =
     closed_sound (opens v (option_map made_of n)) o (server_tells_sound v n s g)
     (there_then _ _ o (server_tells_rows v n g) (there_told_if (server_rows v) n o g h)) y
 
--- a client stays sound where something ends
+-- the client's objects are sound after an object ended
 pub client_sound : (v : Objects) (o : Option Known) → ObjectsAreSound v → IfThere Mortal o
     → ObjectsAreSound (ended_view Request v o)
 client_sound v None s y = s
 client_sound v (Some x) s y = ObjectsAreSound-zombied v x.id s y
 
--- what an event makes keeps a client sound
+-- the client's objects are sound after an event made an object
 pub client_event_sound : (v : Objects) (n : Option Known) → ObjectsAreSound v → IfThere (NextTold (client_rows v)) n
     → ObjectsAreSound (opens v (option_map made_of n))
 client_event_sound v None s g = s
 client_event_sound v (Some y) s g = told_sound v y.id y.born.iface y.born.version s g.range g.next g.low g.left
 
--- no id of the server's is freed at a client where a message makes this and ends that
+-- a message that makes n and ends o frees no id of the server's range at a client
 pub never_freed : (v : Objects) (n o : Option Known) → v.server.freed ≡ []
     → (ended_view Request (opens v (option_map made_of n)) o).server.freed ≡ []
 never_freed v n None h = freed_opened v (option_map made_of n) h
@@ -222,7 +221,7 @@ pub server_live : (v : Objects) (n o : Option Known) → AllLive v
 server_live v n None l = opens_live v n l
 server_live v n (Some x) l = λ id e h. opens_live v n l id e (row-closed (opens v (option_map made_of n)) x.id id e h).1
 
--- ---- messages with their objects named otherwise
+-- ---- messages with their objects renamed
 
 module _ {A B : Type 0} (f : A → B) where
   or_map : (a b : Option A) → or_else (option_map f a) (option_map f b) ≡ option_map f (or_else a b)
@@ -233,7 +232,7 @@ module _ {A B : Type 0} (f : A → B) where
   new_map (Obj None) = refl
   new_map a = refl
 
-  -- what arguments make, with objects named otherwise
+  -- the object that arguments make, with objects renamed
   pub made_map : (args : List (Arg A)) → made_in (map (rearg f) args) ≡ option_map f (made_in args)
   made_map [] = refl
   made_map (a ∷ args) = rw (new_map a, made_map args) (or_map (new_object_in a) (made_in args))
@@ -242,7 +241,7 @@ module _ {A B : Type 0} (f : A → B) where
   object_map (Obj None) xs = refl
   object_map a xs = refl
 
-  -- the objects of arguments, named otherwise
+  -- the objects of arguments, renamed
   pub objects_map : (args : List (Arg A)) → objects (map (rearg f) args) ≡ map f (objects args)
   objects_map [] = refl
   objects_map (a ∷ args) = rw (objects_map args) (object_map a (objects args))
@@ -251,19 +250,19 @@ module _ {A B : Type 0} (f : A → B) where
   token_map (Obj None) xs = refl
   token_map a xs = refl
 
-  -- the tokens are the same, however objects are named
+  -- the tokens do not depend on the names of objects
   pub tokens_map : (args : List (Arg A)) → tokens (map (rearg f) args) ≡ tokens args
   tokens_map [] = refl
   tokens_map (a ∷ args) = rw (tokens_map args) (token_map a (tokens args))
 
--- what is so of each of these, seen through a function
+-- if P holds for f of each element, it holds for each element of the mapped list
 pub each_map : {X Y : Type 0} (f : X → Y) (P : Y → Type 0) (xs : List X) → Each (λ x. P (f x)) xs → Each P (map f xs)
 each_map f P [] h = tt
 each_map f P (x ∷ xs) h = (h.0, each_map f P xs h.1)
 
--- ---- versions are from 1
+-- ---- versions are 1 or above
 
--- each entry has a version from 1
+-- each entry has version 1 or above
 abbrev pub Aged : Objects → Type 0
 Aged v = (id : ℕ) (e : Entry) → look v id ≡ Some e → 1 ≤ e.version
 
@@ -277,7 +276,7 @@ kept_version : (b : Bool) (d : Entry) → (cond b (zombie d) d).version ≡ d.ve
 kept_version true d = refl
 kept_version false d = refl
 
--- versions stay from 1 at the client
+-- versions stay 1 or above at the client
 pub client_aged : (v : Objects) (n o : Option Known) → IfThere (λ y. 1 ≤ y.born.version) n → Aged v
     → Aged (ended_view Request (opens v (option_map made_of n)) o)
 client_aged v n None g a = opens_aged v n g a
@@ -287,13 +286,13 @@ client_aged v n (Some x) g a = λ id e h.
     let q = ap (λ (d : Entry). d.version) z.1.1 ∙ kept_version (eqb id x.id) z.0 in
     omega (arith, k, q)
 
--- versions stay from 1 at the server
+-- versions stay 1 or above at the server
 pub server_aged : (v : Objects) (n o : Option Known) → IfThere (λ y. 1 ≤ y.born.version) n → Aged v
     → Aged (ended_view Event (opens v (option_map made_of n)) o)
 server_aged v n None g a = opens_aged v n g a
 server_aged v n (Some x) g a = λ id e h. opens_aged v n g a id e
     (row-closed (opens v (option_map made_of n)) x.id id e h).1
 
--- versions stay from 1 where an id is closed
+-- versions stay 1 or above after an id is closed
 pub closed_aged : (v : Objects) (x : ℕ) → Aged v → Aged (closed v x)
 closed_aged v x a = λ id e h. a id e (row-closed v x id e h).1

@@ -1,4 +1,4 @@
--- What the rules of valid tables give a writer.
+-- What the rules of valid tables guarantee to a writer.
 use Rattle.std.proofs.Common.{◌≡◌, ◌≢◌, ℕ, zero, suc, ◌<◌, ◌≤◌, Bool, true, false, List, [], ◌∷◌}
 use Rattle.std.proofs.Common.{map, length, inl, inr, refl, sym, ap, subst, ◌∙◌, arith}
 use Rattle.std.specs.Prelude.{nat_eq, ◌&&◌, slice_get}
@@ -76,7 +76,7 @@ target_plain tables v x opcode m h =
     ap is_ended_by_event o.there ∙ with_event o.interface (has_destroying_event o.interface) opcode m refl
     (v.race_free.no_requests x.iface.0 o.interface o.there) o.message
 
--- nor has the interface of an object that a request names
+-- an interface that a request's argument can have has no destroying event
 argument_plain : (tables : List Interface) (iface : Iface) (e : Iface) (o : Option Interface)
     → interface_at tables e.0 ≡ o → nat_eq iface.0 e.0 ≡ true
     → ((i : Interface) → interface_at tables iface.0 ≡ Some i → has_destroying_event i ≡ false)
@@ -171,7 +171,7 @@ pub display_lasts : (tables : List Interface) → Valid tables → (opcode : ℕ
 display_lasts tables v opcode m h = display_keeps opcode m
     (ap (option_and_then (message_of Request opcode)) (sym v.fixed_four.display) ∙ h)
 
--- an interface with a destroying event has one
+-- an interface with an event that destroys its target passes the test for a destroying event
 event_ends : (i : Interface) (opcode : ℕ) (m : MessageSignature) → slice_get i.events opcode ≡ Some m
     → destroys_target m.destroys ≡ true → has_destroying_event i ≡ true
 event_ends i opcode m h d =

@@ -1,4 +1,4 @@
--- The four histories are histories.
+-- Each of the four histories has the steps that it says.
 use Rattle.std.proofs.Common.{List, [], ◌∷◌, refl}
 use Rattle.wl_sigs.specs.Tables.{Interface}
 use Rattle.theory_connection.specs.Meant.{Delete}

@@ -1,4 +1,4 @@
--- A move of the server's reading.
+-- The move in which the server reads.
 use Rattle.std.proofs.Common.{◌≡◌, ◌≢◌, ℕ, Bool, true, false, cond, List, [], ◌∷◌, ◌++◌, map, refl}
 use Rattle.std.proofs.Common.{sym, ap, subst, ◌∙◌, arith}
 use Rattle.std.specs.Prelude.{not, ◌&&◌}
@@ -41,7 +41,7 @@ use Rattle.theory_connection.proofs.RequestRead.{InRequest, in_request, left_sta
 use Rattle.theory_connection.proofs.RequestRead.{server_read_stands}
 use Rattle.theory_connection.proofs.Moves.{Moves, goes_on, stays, reading_request}
 
--- ---- nothing in front
+-- ---- nothing at the front
 
 idle : (p : PairState) (w : World) (asked : List (Message Known)) (told : List (Coming Known))
     (s : StandsBy p w asked told) → in_front p.server.core.inbox ≡ More
@@ -52,7 +52,7 @@ idle p w asked told s e =
     in
     (r, rw (s.server.lives, r) refl, rw (s.server.lives, r) refl)
 
--- ---- a request in front
+-- ---- a request at the front
 
 record Answered (p : PairState) (m : Message Known) (f : Found) (b : Bool) : Type 0 where
   answer : next_answer p.server ≡ cond b (Err errors.OutFull) (Ok (Some (report p.server.core f)))
@@ -62,7 +62,7 @@ answer_is : (p : PairState) (m : Message Known) (f : Found) (b : Bool) → p.ser
     → request p.server ≡ Ok (Some f) → is_out_full p.server.core f ≡ b → Answered p m f b
 answer_is p m f b l r e = record { answer = rw (l, r, e) refl; leaves = rw (l, r, e) refl }
 
--- the report of a request needs memory where the request has arguments
+-- the report of a request needs memory only if the request has arguments
 is_some_request : (w : World) (m : Message Born) (r : Report) → ReportsRequest w m r → needs_memory r ≡ true
     → m.args ≢ []
 is_some_request w m r t h e = by_args r.args refl
@@ -160,7 +160,7 @@ is_client : (b : Bool) → same_maker (cond b Server Client) Client ≡ not b
 is_client true = refl
 is_client false = refl
 
--- a request is answered in the world where it is at the end
+-- a delete follows a request in the world if and only if it does at the end
 owed_so : (v : Objects) (o : Option Known) → IfThere (ThereRow (server_rows v)) o
     → is_answered (option_map born_of o) ≡ is_owed o
 owed_so v None h = refl

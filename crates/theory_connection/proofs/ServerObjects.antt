@@ -1,5 +1,6 @@
--- Where the objects are that the server made, in the words of a standing pair's world, and what was
--- counted of them. Beside it what is known behind a request that destroys an object, whoever made it.
+-- Where the objects that the server made are, in the words of the world that the pair represents,
+-- and which of them were counted. Also what holds after a request that destroys an object, whoever
+-- made it.
 use Rattle.std.proofs.Common.{true, false, cond, ◌++◌, ◌∷◌, [], ◌≡◌, ℕ, ◌<◌, ◌≤◌, Bool, List, map, ◌⊎◌, inl}
 use Rattle.std.proofs.Common.{inr, refl, sym, ◌∙◌, ap, subst, arith, ◌≢◌}
 use Rattle.std.specs.Prelude.{option_map, is_some, ◌↔◌}
@@ -56,7 +57,7 @@ module _ (p : PairState) (w : World) (asked : List (Message Known)) (told : List
     makes = made_map born_of e.event.args ∙ ap (option_map born_of) e.makes_it;
   }
 
-  -- what an event on the way makes, under its id
+  -- the object that an event on the way makes, with its id
   pub event_known : (x : Born) → EventMakes w x → (k : Known) × (In (Made k) (all_tells told) × (k.born ≡ x))
   event_known x h =
       let f = from_map (recoming born_of) (Event h.event) told (subst (In (Event h.event)) s.events.in_world h.there) in
@@ -90,7 +91,8 @@ module _ (p : PairState) (w : World) (asked : List (Message Known)) (told : List
 
   -- ---- where the server's objects are
 
-  -- what is open at the server is made by an event, open at the client, or destroyed by a request
+  -- an object that is open at the server is made by an event, open at the client, or destroyed by a
+  -- request
   pub there_where : (x : Born) → IsThere w.server x → EventMakes w x ⊎ IsOpen w.client x ⊎ DestroyComes w x
   there_where x h =
       let k = worlds.there_known p w asked told s x h in
@@ -105,7 +107,7 @@ module _ (p : PairState) (w : World) (asked : List (Message Known)) (told : List
   there_now : (k : Known) (x : Born) → k.born ≡ x → o.rows k.id ≡ Some k.born → IsThere w.server x
   there_now k x e h = subst (IsThere w.server) e (s.server.sets.shown k.id k.born h)
 
-  -- and back, of what the server made
+  -- the converse, for an object that the server made
   pub where_there : (x : Born) → x.birth.maker ≡ Server → EventMakes w x ⊎ IsOpen w.client x ⊎ DestroyComes w x
       → IsThere w.server x
   where_there x c h = elim h [
@@ -126,7 +128,7 @@ module _ (p : PairState) (w : World) (asked : List (Message Known)) (told : List
     ]
   ]
 
-  -- what an event on the way makes the client has not counted
+  -- the client has not counted an object that an event on the way makes
   pub told_not_counted : (x : Born) → EventMakes w x → x.birth.number < p.client.core.view.server.births → ⊥
   told_not_counted x h l =
       let k = event_known x h in
@@ -134,7 +136,7 @@ module _ (p : PairState) (w : World) (asked : List (Message Known)) (told : List
       let e = ap (λ (b : Born). b.birth.number) k.1.1 in
       absurd (omega (arith, later, e, l))
 
-  -- so the client does not hold it
+  -- the client does not hold an object that an event on the way makes
   made_not_held : (x : Born) (j : Known) → EventMakes w x → j.born ≡ x → IsHeldInRows v j → ⊥
   made_not_held x j h e held =
       let c : j.born.birth.maker ≡ Server = born_maker j.born x e ∙ made_by_event x h in
@@ -147,32 +149,32 @@ module _ (p : PairState) (w : World) (asked : List (Message Known)) (told : List
       told_not_counted x h
       (subst (λ (b : Born). b.birth.number < p.client.core.view.server.births) e counted)
 
-  -- what an event makes is not open at the client
+  -- an object that an event makes is not open at the client
   pub made_not_open : (x : Born) → EventMakes w x → IsOpen w.client x → ⊥
   made_not_open x h i = let k = worlds.open_row p w asked told s x i in made_not_held x k.0 h k.1.1 (inl k.1.0)
 
-  -- what an event makes no request on the way destroys
+  -- no request on the way destroys an object that an event makes
   pub made_not_destroyed : (x : Born) → EventMakes w x → DestroyComes w x → ⊥
   made_not_destroyed x h i =
       let k = worlds.destroy_known p w asked told s x i in
       made_not_held x k.0 h k.1.1 (inr (flight.destroyed_ending k.0 s.meet k.1.0))
 
-  -- what a request on the way destroys is ending at the client
+  -- an object that a request on the way destroys is ending at the client
   pub destroyed_is_ending : (x : Born) → DestroyComes w x → IsEnding w.client x
   destroyed_is_ending x h =
       let k = worlds.destroy_known p w asked told s x h in
       subst (IsEnding w.client) k.1.1
       (s.client.sets.shown k.0.id (Ending k.0.born) (flight.destroyed_ending k.0 s.meet k.1.0))
 
-  -- what the client holds of the server's making it has counted
+  -- the client has counted an object that the server made and the client holds
   pub held_counted : (x : Born) → x.birth.maker ≡ Server → is_some (w.client x.birth) ≡ true
       → (0 < x.birth.number) × (x.birth.number < p.client.core.view.server.births)
   held_counted x c h =
       let b : server_birth x.birth.number ≡ x.birth = λ i. record { maker = sym c i; number = x.birth.number } in
       (s.client.holds_counted x.birth.number).0 (ap (λ (b : Birth). is_some (w.client b)) b ∙ h)
 
-  -- what the server made and is ending at the client is open at the server exactly where a request
-  -- destroys it
+  -- an object that the server made and that is ending at the client is open at the server if and
+  -- only if a request destroys it
   pub ending_there : (x : Born) → x.birth.maker ≡ Server → IsEnding w.client x
       → IsThere w.server x ↔ DestroyComes w x
   ending_there x c h = (
@@ -183,7 +185,7 @@ module _ (p : PairState) (w : World) (asked : List (Message Known)) (told : List
     λ i. where_there x c (inr (inr i)),
   )
 
-  -- ---- what a request names
+  -- ---- the objects that requests name
 
   named_known : (x : Born) → NameComes w x → (k : Known) × (In (Use k) (all_asks asked) × (k.born ≡ x))
   named_known x h =
@@ -200,7 +202,7 @@ module _ (p : PairState) (w : World) (asked : List (Message Known)) (told : List
         ))
       ]
 
-  -- an id of the server's that a request is about has a row at the client
+  -- an object of the server's range that a request names is held at the client
   used_has_row : (k : Known) → In (Use k) (all_asks asked) → IsHeldInRows v k
   used_has_row k i = elim (plain.held_before k s.meet.reads (flight.used_held k s.meet.tied i)) [
     | inl h ↦ h
@@ -209,7 +211,8 @@ module _ (p : PairState) (w : World) (asked : List (Message Known)) (told : List
         let later = plain.made_later k s.meet.reads h in absurd (omega (arith, below, later)))
   ]
 
-  -- what the server made and a request on the way names is open there, and the client holds it
+  -- an object that the server made and a request on the way names is open at the server, and the
+  -- client holds it
   pub named_open : (x : Born) → x.birth.maker ≡ Server → NameComes w x → IsThere w.server x × IsHeldAtClient w x
   named_open x c h =
       let k = named_known x h in (
@@ -221,7 +224,7 @@ module _ (p : PairState) (w : World) (asked : List (Message Known)) (told : List
         subst (IsHeldAtClient w) k.1.1 (worlds.held_world p w asked told s k.0 (used_has_row k.0 k.1.0)),
       )
 
-  -- no request on the way is about an id of the server's without a row at the client
+  -- no request on the way is about an id of the server's range without a row at the client
   pub free_unasked : (id : ℕ) → is_of_server id ≡ true → v.rows id ≡ None → IsUnasked id asked
   free_unasked id range free = each_of (all_asks asked) (λ a i e. by_action a i e)
     where
@@ -236,7 +239,7 @@ module _ (p : PairState) (w : World) (asked : List (Message Known)) (told : List
 
   -- ---- after a destroying request
 
-  -- no request after it concerns the id
+  -- no request after it is about the id
   pub last_asked_id : (k : Known) (front rest : List (Message Known)) (m : Message Known) → asked ≡ front ++ m ∷ rest
       → m.ends ≡ Some k → IsUnasked k.id rest
   last_asked_id k front rest m e d =
@@ -272,7 +275,7 @@ module _ (p : PairState) (w : World) (asked : List (Message Known)) (told : List
       at_later t.front t.item t.rest k.0 t.whole k.1 k.2 f.item f.there
       (subst (λ (r : Message Born). MessageNames x r ⊎ (r.ends ≡ Some x)) (sym f.is) n)
     where
-      -- an action about it has its id
+      -- an action about the object has its id
       at_ask : (front rest : List (Message Known)) (m : Message Known) (k : Known) → asked ≡ front ++ m ∷ rest
           → m.ends ≡ Some k → k.born ≡ x → (a : Ask) (j : Known) → (a ≡ Use j) ⊎ (a ≡ Destroy j)
           → In a (all_asks rest) → j.born ≡ x → ⊥
@@ -313,16 +316,16 @@ module _ (p : PairState) (w : World) (asked : List (Message Known)) (told : List
             (in_asks (Destroy j.0) l rest here (asked_destroy j.0 l j.1)) j.2)
       ]
 
-  -- ---- what is made first
+  -- ---- the objects that are made first
 
-  -- the first of what comes that is about an id of the server's without a row makes an object there
+  -- the first event that is about an id of the server's range without a row makes an object there
   pub made_first : (id : ℕ) → is_of_server id ≡ true → v.rows id ≡ None → IsMadeFirst id told
   made_first id range free = λ before after action e unnamed about.
       flight.first_makes before after action id
       (subst (λ (l : List Tell). ReadsInFlight (by_event p.server.core.tables) l v s.meet.middle) e s.meet.reads)
       range free unnamed about
 
-  -- an event names by an id the object that the client has there when the event's turn comes
+  -- an event names, by an id, the object that the client has there when it reads the event
   pub latest_named : (k : Known) (front rest : List (Coming Known)) (m : Message Known) → told ≡ front ++ Event m ∷ rest
       → MessageNames k m → IsLatest v k (news_told front)
   latest_named k front rest m q n =
@@ -331,7 +334,7 @@ module _ (p : PairState) (w : World) (asked : List (Message Known)) (told : List
       (flight.named_latest (all_tells front ++ map Name a.names_before) a.rest k
       (subst (λ (l : List Tell). ReadsInFlight (by_event p.server.core.tables) l v s.meet.middle) a.whole s.meet.reads))
 
-  -- what an event names the client holds, or an event before it makes it
+  -- the client holds an object that an event names, or an earlier event makes it
   pub named_in_turn : (x : Born) → IsNamedInTurn w x
   named_in_turn x = λ before after event e n.
       let t = parted (recoming born_of) told before (Event event) after (sym s.events.in_world ∙ e) in
@@ -362,7 +365,7 @@ module _ (p : PairState) (w : World) (asked : List (Message Known)) (told : List
 
   -- ---- what was counted
 
-  -- the births that events make, in their order
+  -- the births that events make, in order
   pub events_in_order : IsInOrder Server p.client.core.view.server.births p.server.core.view.server.births
       (map birth_of (news_told w.events))
   events_in_order =
@@ -377,7 +380,7 @@ module _ (p : PairState) (w : World) (asked : List (Message Known)) (told : List
         ),
       )
 
-  -- and those that requests make
+  -- the births that requests make, in order
   pub requests_in_order : IsInOrder Client p.server.core.view.client.births p.client.core.view.client.births
       (map birth_of (news w.requests))
   requests_in_order =

@@ -1,4 +1,4 @@
--- Moves of the server's writing.
+-- The moves in which the server writes.
 use Rattle.std.proofs.Common.{◌≡◌, ℕ, Bool, true, false, cond, List, [], ◌∷◌, ◌++◌, map, length}
 use Rattle.std.proofs.Common.{refl, sym, ap, subst, ◌∙◌}
 use Rattle.std.proofs.lemmas.Bool.{not-false}
@@ -96,7 +96,7 @@ event_ends tables v x args opcode m h = by_what m.destroys refl
     by_what Target d = ends_so tables x.born opcode m h (ap destroys_target d)
     by_what (ends_arg k) d = absurd (no_event tables x.born.iface.0 opcode m k v h d)
 
--- the next object of the server fits
+-- the server's next object has a free id
 pub next_told : (v : Objects) (x : Known) → ObjectsAreSound v → can_open Server v ≡ true
     → x.id ≡ next_id Server v → x.born.birth ≡ server_birth v.server.births → FreshTold (server_rows v) x
 next_told v x s o e b =
@@ -114,7 +114,7 @@ next_told v x s o e b =
       left = grind (arith, nat_tests, o);
     }
 
--- what the new object of an event is, where there is one
+-- the new object of an event, if there is one, is fresh
 pub told_fits : (v : Objects) (new : Known) (o : Option Known) → ObjectsAreSound v → new.id ≡ next_id Server v
     → new.born.birth ≡ server_birth v.server.births
     → (o ≡ None) ⊎ (o ≡ Some new) → IfThere (λ (x : Known). can_open Server v ≡ true) o
@@ -126,7 +126,7 @@ told_fits v new (Some x) s i b h c =
     let birth : x.born.birth ≡ server_birth v.server.births = ap (λ (k : Known). k.born.birth) e ∙ b in
     next_told v x s c id birth
 
--- its interface is one that the server may make
+-- the interface of the new object is one that the server may make
 told_made : (P : Iface → Type 0) (o : Option Known) (made : Option NewObject) → made ≡ option_map made_of o
     → ((m : NewObject) → made ≡ Some m → P m.iface) → IfThere (λ x. P x.born.iface) o
 told_made P None made e f = tt
@@ -165,7 +165,7 @@ server_can p w asked told s target opcode given signature c k n =
       short = k.short;
     }
 
--- the delete of what an event ends follows in the outbox
+-- the delete of an object that an event ends is appended to the outbox
 followed_event : (b : Bool) (id : ℕ) (o : Option Known) (c : Core) → b ≡ is_some o → IfThere (λ x. x.id ≡ id) o
     → with_following b id c ≡ record c {
       outbox =
@@ -215,7 +215,7 @@ if_born : (births : ℕ) (o : Option Known) → IfThere (λ x. x.born.birth ≡ 
 if_born births None h = tt
 if_born births (Some x) h = h
 
--- in the world it is a step
+-- the call is a step in the world
 pub tells_world : (p : PairState) (w : World) (asked : List (Message Known)) (told : List (Coming Known))
     (s : StandsBy p w asked told) (m : Message Known) → CanTell p m
     → Steps p.server.core.tables w (WriteEvent (renamed born_of m)) (event_written w (renamed born_of m))
@@ -239,7 +239,7 @@ told_counted s None f = tt
 told_counted s (Some x) f =
     next_counted x.born.birth Server s.by_server.births (births_in (with_told s x.id x.born)) f.birth (omega arith)
 
--- the report of it
+-- the reply to the call
 tells_one : (p : PairState) (w : World) (asked : List (Message Known)) (told : List (Coming Known))
     → StandsBy p w asked told → (m : Message Known) (c : CanTell p m)
     → LeadsTo p asked told (with_server_core p (told_core p.server.core m)) asked (told ++ (event_of m ∷ delete m.ends))
@@ -352,7 +352,7 @@ droppable core object l h =
     droppable_at core object (live_row core.view object) refl
     (sym (ap (λ (b : Bool). cond b (Some refusals.Failed) (drop_at core (live_row core.view object))) l) ∙ h)
 
--- after the drop of an object the pair represents the next world
+-- after an object is dropped the pair represents the next world
 pub server_drop_keeps : (p : PairState) (w : World) (asked : List (Message Known)) (told : List (Coming Known))
     → StandsBy p w asked told → NotEnded p w → (object : Object) (reply : Result (Unit {0}) SendError) (p' : PairState)
     → Calls (drop_refusal p.server.core object) p (with_server_core p (after_drop p.server.core object)) reply p'
@@ -386,7 +386,7 @@ server_drop_keeps p w asked told s z object reply p' (refused h) =
 
 -- ---- an error
 
--- an error that is posted ends the world
+-- posting an error ends the world
 pub post_error_keeps : (p : PairState) (w : World) (asked : List (Message Known)) (told : List (Coming Known))
     → StandsBy p w asked told → NotEnded p w → (object : Object) (code : ℕ) (text : List ℕ)
     (reply : Result (Unit {0}) SendError) (p' : PairState)

@@ -1,4 +1,4 @@
--- The rows of an end and the set of births that they are.
+-- The rows of an end and the set of births that they represent.
 use Rattle.std.proofs.Common.{◌≡◌, ℕ, ◌≤◌, Bool, cond, inl, inr, refl, sym, ◌∙◌, ap, subst, arith}
 use Rattle.wl_object_map.specs.declared.object.Maker.{Maker}
 use Rattle.wl_object_map.specs.declared.object.Maker.TheVariants.{Client, Server}
@@ -18,7 +18,7 @@ use Rattle.theory_connection.proofs.WholeInFlight.{ThereRow, client_makes, clien
 use Rattle.theory_connection.proofs.WholeInFlight.{client_told, server_told, FreshTold}
 
 module _ {X : Type 0} (birth : X → Birth) (Gone : X → Type 0) where
-  -- the set with another state of one that has a row
+  -- the set after the state of an object with a row changed
   pub shows_put : (rows : ℕ → Option X) (n : Maker → ℕ) (w : Birth → Option X) (i : ℕ) (x y : X)
       → ShowsBirths birth Gone rows n w
       → rows i ≡ Some x → birth y ≡ birth x
@@ -47,7 +47,7 @@ module _ {X : Type 0} (birth : X → Birth) (Gone : X → Type 0) where
     ];
   }
 
-  -- the set without one that has a row
+  -- the set without an object that has a row
   pub shows_drop : (rows : ℕ → Option X) (n : Maker → ℕ) (w : Birth → Option X) (i : ℕ) (x : X)
       → ShowsBirths birth Gone rows n w
       → rows i ≡ Some x
@@ -75,7 +75,7 @@ module _ {X : Type 0} (birth : X → Birth) (Gone : X → Type 0) where
     ];
   }
 
-  -- The set with one more birth, whose id is free or that of one that may be gone.
+  -- The set with one more birth. Its id is free, or is that of an object that may be gone.
   pub shows_make : (rows : ℕ → Option X) (n m : Maker → ℕ) (w : Birth → Option X) (i : ℕ) (y : X)
       → ShowsBirths birth Gone rows n w
       → ((z : X) → rows i ≡ Some z → Gone z) → ((k : Maker) → n k ≤ m k) → IsAmongFirst m (birth y)
@@ -122,24 +122,24 @@ module _ {X : Type 0} (birth : X → Birth) (Gone : X → Type 0) where
       new_birth : (j : ℕ) (z : X) → rows j ≡ Some z → birth y ≡ birth z → ⊥
       new_birth j z k q = new (subst (IsAmongFirst n) (sym q) (s.below j z k))
 
--- ---- the client's
+-- ---- the client's set
 
--- what ends leaves the count of births
+-- ending an object does not change the count of births
 pub births_ends : (o : Option Known) (v : Rows Row) → (client_ends o v).births ≡ v.births
 births_ends (Some x) v = refl
 births_ends None v = refl
 
--- what is made is counted
+-- an object that is made is counted
 pub births_makes : (v : Rows Row) (n : Option Known) → (client_makes v n).births ≡ births_counted n v.births
 births_makes v None = refl
 births_makes v (Some n) = refl
 
--- events count no birth of the client
+-- events do not change the count of the client's births
 pub births_told : (v : Rows Row) (n : Option Known) → (client_told v n).births ≡ v.births
 births_told v None = refl
 births_told v (Some n) = refl
 
--- the births of the server at the server
+-- the count of the server's births at the server
 pub server_births_ends : (o : Option Known) (s : Rows Born) → (server_ends o s).by_server.births ≡ s.by_server.births
 server_births_ends None s = refl
 server_births_ends (Some x) s = refl
@@ -153,7 +153,7 @@ pub server_births_told : (s : Rows Born) (n : Option Known)
 server_births_told s None = refl
 server_births_told s (Some n) = refl
 
--- the counts stay where a row changes
+-- changing a row does not change the counts
 pub at_count : {X : Type 0} (v : Rows X) (i : ℕ) (o : Option X) → births_in (at v i o) ≡ births_in v
 at_count v i o = let each : (k : Maker) → births_in (at v i o) k ≡ births_in v k = by_maker in λ j k. each k j
   where
@@ -169,7 +169,7 @@ pub gone_count : (o : Option Known) (s : Rows Born) → births_in (server_ends o
 gone_count None s = refl
 gone_count (Some x) s = at_count s x.id None
 
--- no count falls where something is made
+-- making an object lowers no count
 pub made_counts : {X : Type 0} (v : Rows X) (i : ℕ) (x : X) (k : Maker)
     → births_in v k ≤ births_in (with_made v i x) k
 made_counts v i x Client = omega arith
@@ -180,7 +180,7 @@ pub told_counts : {X : Type 0} (v : Rows X) (i : ℕ) (x : X) (k : Maker)
 told_counts v i x Client = omega arith
 told_counts v i x Server = omega arith
 
--- the client's set with what is made
+-- the client's set after the client made an object
 pub client_made : (v : Rows Row) (w : Birth → Option Row) (n : Option Known)
     → ShowsBirths birth_in IsEndingOfServer v.rows (births_in v) w
     → IfThere (Fresh v) n
@@ -193,7 +193,7 @@ client_made v w (Some n) s c =
     (next_counted n.born.birth Client v.births (births_in (with_made v n.id (Open n.born))) c.birth (omega arith))
     (next_uncounted n.born.birth Client (births_in v) c.birth)
 
--- the client's set with what an event makes, free or in place of one that is ending
+-- the client's set after an event made an object, at a free id or replacing an ending object
 pub client_learns : (v : Rows Row) (w : Birth → Option Row) (n : Option Known)
     → ShowsBirths birth_in IsEndingOfServer v.rows (births_in v) w
     → IfThere (NextTold v) n
@@ -211,7 +211,7 @@ client_learns v w (Some n) s c by =
     gone (Open x) h = absurd (c.not_open x h)
     gone (Ending x) h = by n.id (Ending x) h ∙ ap (λ (b : Bool). cond b Server Client) c.range
 
--- the client's set with what is ending
+-- the client's set after an object started ending
 pub client_ended : (v : Rows Row) (w : Birth → Option Row) (o : Option Known)
     → ShowsBirths birth_in IsEndingOfServer v.rows (births_in v) w
     → IfThere (IsHeldInRows v) o
@@ -222,7 +222,7 @@ client_ended v w (Some x) s h = elim h [
   | inr p ↦ shows_put birth_in IsEndingOfServer v.rows (births_in v) w x.id (Ending x.born) (Ending x.born) s p refl
 ]
 
--- the client's set without what is deleted
+-- the client's set after an object was deleted
 pub client_deleted : (v : Rows Row) (w : Birth → Option Row) (x : Known)
     → ShowsBirths birth_in IsEndingOfServer v.rows (births_in v) w
     → IsHeldInRows v x
@@ -232,9 +232,9 @@ client_deleted v w x s h = elim h [
   | inr p ↦ shows_drop birth_in IsEndingOfServer v.rows (births_in v) w x.id (Ending x.born) s p
 ]
 
--- ---- what the client holds of the server's
+-- ---- the server's objects that the client holds
 
--- the births of the server at the client
+-- the count of the server's births at the client
 pub told_births_ends : (o : Option Known) (v : Rows Row) → (client_ends o v).by_server.births ≡ v.by_server.births
 told_births_ends None v = refl
 told_births_ends (Some x) v = refl
@@ -248,7 +248,7 @@ pub told_births : (v : Rows Row) (n : Option Known)
 told_births v None = refl
 told_births v (Some n) = refl
 
--- what has a row is in the set
+-- an object that has a row is in the set
 pub held_in : {births : Maker → ℕ} (v : Rows Row) (w : Birth → Option Row) (o : Option Known)
     → ShowsBirths birth_in IsEndingOfServer v.rows births w → IfThere (IsHeldInRows v) o
     → IfThere (λ x. is_some (w x.born.birth) ≡ true) o
@@ -258,7 +258,7 @@ held_in v w (Some x) s h = elim h [
   | inr p ↦ ap is_some (s.shown x.id (Ending x.born) p)
 ]
 
--- two sets that have the same births of the server hold the same of its objects
+-- what is held of the server's objects depends only on which of its births the set has
 holds_same : (n : ℕ) (f g : Birth → Option Row) → HoldsServerObjects n f
     → ((number : ℕ) → is_some (g (server_birth number)) ≡ is_some (f (server_birth number))) → HoldsServerObjects n g
 holds_same n f g h e = λ number. ((λ k. (h number).0 (sym (e number) ∙ k)), (λ k. e number ∙ (h number).1 k))
@@ -266,13 +266,13 @@ holds_same n f g h e = λ number. ((λ k. (h number).0 (sym (e number) ∙ k)), 
 of_maker : (b : Birth) (number : ℕ) → b.maker ≡ Client → server_birth number ≢ b
 of_maker b number c e = let k = ap (λ (x : Birth). x.maker) e in cc (k, c)
 
--- an object of the client's changes nothing of them
+-- changing an object that the client made does not change them
 pub holds_other : (n : ℕ) (w : Birth → Option Row) (b : Birth) (o : Option Row) → b.maker ≡ Client → HoldsServerObjects n w
     → HoldsServerObjects n (put w b o)
 holds_other n w b o c h =
     holds_same n w (put w b o) h (λ number. ap is_some (put_other w b o (server_birth number) (of_maker b number c)))
 
--- nor does what is ending, since it was held
+-- an object that starts ending does not change them, since it was held
 pub holds_ended : (n : ℕ) (w : Birth → Option Row) (o : Option Known) → HoldsServerObjects n w
     → IfThere (λ x. is_some (w x.born.birth) ≡ true) o → HoldsServerObjects n (ending (option_map born_of o) w)
 holds_ended n w None h k = h
@@ -282,14 +282,14 @@ holds_ended n w (Some x) h k = holds_same n w (put w x.born.birth (Some (Ending 
       | inr p ↦ ap is_some p.1
     ])
 
--- nor what a request makes
+-- an object that a request makes does not change them
 pub holds_made : (n : ℕ) (w : Birth → Option Row) (v : Rows Row) (o : Option Known) → IfThere (Fresh v) o
     → HoldsServerObjects n w → HoldsServerObjects n (born_into Open (option_map born_of o) w)
 holds_made n w v None f h = h
 holds_made n w v (Some x) f h =
     holds_other n w x.born.birth (Some (Open x.born)) (ap (λ (b : Birth). b.maker) f.birth) h
 
--- what an event makes is one more, and counted
+-- an object that an event makes is one more, and is counted
 pub holds_told : (w : Birth → Option Row) (v : Rows Row) (o : Option Known) → 0 < v.by_server.births
     → IfThere (NextTold v) o → HoldsServerObjects v.by_server.births w
     → HoldsServerObjects (births_counted o v.by_server.births) (born_into Open (option_map born_of o) w)
@@ -311,9 +311,9 @@ holds_told w v (Some x) some f h = λ number.
     below : (a n : ℕ) → a < n + 1 → a ≢ n → a < n
     below a n l ne = grind (arith, l, ne)
 
--- ---- the server's
+-- ---- the server's set
 
--- the server's set with what a request makes
+-- the server's set after a request made an object
 pub server_made : (s : Rows Born) (w : Birth → Option Born) (n : Option Known)
     → ShowsBirths birth_of NoneIsGone s.rows (births_in s) w
     → IfThere (Fresh s) n
@@ -326,7 +326,7 @@ server_made s w (Some n) h g =
     (next_counted n.born.birth Client s.births (births_in (with_made s n.id n.born)) g.birth (omega arith))
     (next_uncounted n.born.birth Client (births_in s) g.birth)
 
--- the server's set with what an event makes
+-- the server's set after an event made an object
 pub server_tells : (s : Rows Born) (w : Birth → Option Born) (n : Option Known)
     → ShowsBirths birth_of NoneIsGone s.rows (births_in s) w
     → IfThere (FreshTold s) n
@@ -339,7 +339,7 @@ server_tells s w (Some n) h g =
     (next_counted n.born.birth Server s.by_server.births (births_in (with_told s n.id n.born)) g.birth (omega arith))
     (next_uncounted n.born.birth Server (births_in s) g.birth)
 
--- the server's set without what ends
+-- the server's set after an object ended
 pub server_ended : (s : Rows Born) (w : Birth → Option Born) (o : Option Known)
     → ShowsBirths birth_of NoneIsGone s.rows (births_in s) w
     → IfThere (ThereRow s) o
@@ -347,7 +347,7 @@ pub server_ended : (s : Rows Born) (w : Birth → Option Born) (o : Option Known
 server_ended s w None h g = h
 server_ended s w (Some x) h g = shows_drop birth_of NoneIsGone s.rows (births_in s) w x.id x.born h g
 
--- what is open stays open when another is made
+-- an open object stays open when another is made
 pub there_kept : (s : Rows Born) (n : Option Known) (x : Known) → IfThere (Fresh s) n → ThereRow s x
     → ThereRow (server_makes s n) x
 there_kept s None x g h = h
@@ -355,7 +355,7 @@ there_kept s (Some n) x g h = grind (arith, put_row_tells, g.free)
 
 -- ---- at the beginning
 
--- no rows are the empty set
+-- no rows represent the empty set
 pub no_object : {X : Type 0} (birth : X → Birth) (Gone : X → Type 0) (n : Maker → ℕ)
     → ShowsBirths birth Gone nothing n nothing
 unfolding nothing

@@ -49,9 +49,9 @@ use Rattle.theory_connection.proofs.RowsAfterMessage.{client_aged, server_after,
 use Rattle.theory_connection.proofs.RowsAfterMessage.{server_live, server_aged, closed_aged}
 use Rattle.theory_connection.proofs.EndedObject.{Mortal, ended_view, if_by}
 
--- ---- wl_display stays
+-- ---- wl_display keeps its row
 
--- what is made gets an id that has no row, and that of wl_display has one
+-- the id of a new object has no row, so it is not that of wl_display
 display_opens : {X : Type 0} (f : ℕ → Entry → X) (v : Objects) (n : Option Known) (e : Entry)
     → IfThere (λ x. option_map (f x.id) (look v x.id) ≡ None) n → look v 1 ≡ Some e
     → look (opens v (option_map made_of n)) 1 ≡ Some e
@@ -62,7 +62,7 @@ display_opens {X = X} f v (Some x) e g h = look-opened_at v x.id x.born.iface x.
     other i g = ne_eqb 1 i (λ k. (let q : ◌≡◌ {A = Option X} (Some (f i e)) None = ap (option_map (f i))
         (sym h ∙ ap (look v) k) ∙ g in cc q))
 
--- what an event makes has another id than wl_display
+-- the id of an object that an event makes is not that of wl_display
 display_told : (v : Objects) (n : Option Known) (e : Entry) → IfThere (λ (x : Known). is_of_server x.id ≡ true) n
     → look v 1 ≡ Some e → look (opens v (option_map made_of n)) 1 ≡ Some e
 display_told v None e g h = h
@@ -83,7 +83,7 @@ counted_map : (f : Known → Born) (n : Option Known) (b : ℕ) → births_count
 counted_map f None b = refl
 counted_map f (Some x) b = refl
 
--- a row's birth is of its id's maker
+-- the maker of a row's birth is that of its id
 row_maker : (s : State) (b : Born) → (birth_in (as_row s b)).maker ≡ b.birth.maker
 row_maker states.Live b = refl
 row_maker states.Zombie b = refl
@@ -93,13 +93,13 @@ by_makers v id r h =
     let m = map_some (row_of_entry id) (look v id) r h in
     ap (λ (x : Row). (birth_in x).maker) (sym m.2) ∙ row_maker m.0.state (born_of_entry id m.0)
 
--- an end's first birth of the server's range follows that of row 1, which has no meaning
+-- at least one birth of the server's range was counted: that of row 1, which has no meaning
 pub some_births : (view : Objects) → ObjectsAreSound view → 0 < view.server.births
 some_births view sound = sound.server.born 1 _ sound.server.display.1
 
 module _ {view : Objects} {failed : Bool} {births : ℕ} {held : Birth → Option Row}
     (s : ClientStands view failed births held) where
-  -- A request makes this at the client, and ends that: the client's objects represent the next
+  -- After a request that makes `new` and ends `ends`, the client's objects represent the next
   -- world.
   pub client_message : (new ends : Option Known) → ObjectsAreSound (opens view (option_map made_of new))
       → IfThere (Fresh (client_rows view)) new → IfThere (λ x. 1 ≤ x.born.version) new
@@ -134,8 +134,7 @@ module _ {view : Objects} {failed : Bool} {births : ℕ} {held : Birth → Optio
         lives = lives;
       }
 
-  -- An event makes this at the client, and ends that: the client's objects represent the next
-  -- world.
+  -- After an event that makes `new` and ends `ends`, the client's objects represent the next world.
   pub client_event : (new ends : Option Known) → IfThere (NextTold (client_rows view)) new
       → IfThere (λ x. 1 ≤ x.born.version) new
       → IfThere (IsHeldInRows (client_rows view)) ends → IfThere OfClient ends
@@ -170,7 +169,7 @@ module _ {view : Objects} {failed : Bool} {births : ℕ} {held : Birth → Optio
         lives = lives;
       }
 
-  -- A delete of what the client has: the client's objects represent the next world.
+  -- After a delete of an object that the client has, its objects represent the next world.
   pub client_delete : (x : Known) → IsHeldInRows (client_rows view) x → x.id ≢ 1 → OfClient x → (now : Bool)
       → now ≡ false
       → ClientStands (closed view x.id) now births (put held x.born.birth None)
@@ -198,7 +197,7 @@ module _ {view : Objects} {failed : Bool} {births : ℕ} {held : Birth → Optio
 
 module _ {view : Objects} {failed : Bool} {births : ℕ} {there : Birth → Option Born}
     (s : ServerStands view failed births there) where
-  -- A request makes this at the server, and ends that: the server's objects represent the next
+  -- After a request that makes `new` and ends `ends`, the server's objects represent the next
   -- world.
   pub server_message : (new ends : Option Known) → IfThere (Fresh (server_rows view)) new
       → IfThere (λ x. 1 ≤ x.born.version) new → IfThere (ThereRow (server_rows view)) ends → IfThere Mortal ends
@@ -226,8 +225,7 @@ module _ {view : Objects} {failed : Bool} {births : ℕ} {there : Birth → Opti
         lives = s.lives;
       }
 
-  -- An event makes this at the server, and ends that: the server's objects represent the next
-  -- world.
+  -- After an event that makes `new` and ends `ends`, the server's objects represent the next world.
   pub server_event : (new ends : Option Known) → IfThere (FreshTold (server_rows view)) new
       → IfThere (λ x. 1 ≤ x.born.version) new → IfThere (ThereRow (server_rows view)) ends → IfThere Mortal ends
       → ServerStands (ended_view Event (opens view (option_map made_of new)) ends) failed
@@ -256,7 +254,7 @@ module _ {view : Objects} {failed : Bool} {births : ℕ} {there : Birth → Opti
         lives = s.lives;
       }
 
--- ---- what is in flight, either way
+-- ---- what is in flight in either direction
 
 -- what a read of the first message finds, and what is in flight after it
 pub record First (from : Outgoing) (to : Arrived) (first : boxes.QueuedMessage) (rest : List boxes.QueuedMessage)
@@ -301,7 +299,7 @@ module _ {M W : Type 0} {as_born : M → W} {as_sent : M → boxes.QueuedMessage
     fit = each_more Fitly messages more t.fit f;
   }
 
-  -- The messages in flight, each fit as before, are each fit otherwise.
+  -- The messages in flight fit in another sense, if the first sense implies it.
   pub travel_by : {Other : M → Type 0} {from : Outgoing} {to : Arrived} {births : List W} {messages : List M}
       → ((m : M) → Fitly m → Other m)
       → Travel as_born as_sent Fitly from to births messages → Travel as_born as_sent Other from to births messages

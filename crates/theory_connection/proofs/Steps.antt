@@ -1,4 +1,4 @@
--- Each move keeps a standing pair standing.
+-- After each move, a pair that represents its world represents the next.
 use Rattle.std.proofs.Common.{◌≡◌, ℕ, false, List, [], ◌∷◌, subst}
 use Rattle.std.specs.declared.option.Option.{Option}
 use Rattle.std.specs.declared.result.Result.{Result}
@@ -67,7 +67,7 @@ step_keeps p w (ended e) move reply p' m d = record {
 }
 step_keeps p w (stands asked told z s) move reply p' m d = forget (does_moves p w asked told s z move reply p' m d)
 
--- whole lists of moves
+-- the same for lists of moves
 pub run_keeps : (p : PairState) (w : World) (moves : List Move) (replies : List Reply) (last : PairState) → Stands p w
     → Each IsMove moves → DoesAll p moves replies last → Runs p w moves replies last
 run_keeps p w [] [] last s m d = d

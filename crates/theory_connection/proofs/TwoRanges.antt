@@ -1,4 +1,4 @@
--- What an end's two tables are together: where a row is, and what a change leaves of the counts.
+-- An end's two tables together: which table has a row, and how changes affect the counts.
 use Rattle.std.proofs.Common.{◌≡◌, ℕ, ◌+◌, ◌<◌, ◌≤◌, Bool, true, false, cond, max, inl, inr}
 use Rattle.std.proofs.Common.{refl, sym, ap, ◌∙◌, arith, is_some}
 use Rattle.std.proofs.lemmas.Bool.{cases_Bool}
@@ -24,7 +24,7 @@ pub row_of_client : (v : Objects) (id : ℕ) (e : Entry) → is_of_server id ≡
     → table.look v.client id ≡ Some e
 row_of_client v id e range row = sym (in_range-client table.look v id range) ∙ row
 
--- a row of the server's range is in the server's
+-- a row of the server's range is in the server's table
 pub row_of_server : (v : Objects) (id : ℕ) (e : Entry) → is_of_server id ≡ true → look v id ≡ Some e
     → table.look v.server (table_id id) ≡ Some e
 row_of_server v id e range row = sym (in_range-server table.look v id range) ∙ row
@@ -42,7 +42,7 @@ row_low v id e s range row =
       | unused l t a ↦ absurd (cc (l, there))
     ]
 
--- an id with a row fits into a word, and is not null
+-- an id with a row fits in a word, and is not null
 pub row_word : (v : Objects) (id : ℕ) (e : Entry) → ObjectsAreSound v → look v id ≡ Some e
     → (0 < id) × (id < 4294967296)
 row_word v id e s row = elim (cases_Bool (is_of_server id)) [
@@ -80,17 +80,17 @@ server_changed : (change : View → ℕ → View) → ((view : View) (id : ℕ) 
 server_changed change used births true view id = λ i. record { next = wire_id (used view id i + 1); births = births view id i }
 server_changed change used births false view id = refl
 
--- a closing leaves them
+-- closing an object does not change them
 pub counts_closed : (v : Objects) (id : ℕ) → counts_of (closed v id) ≡ counts_of v
 counts_closed v id =
     server_changed table.closed (λ view place. refl) (λ view place. refl) (is_of_server id) v.server (table_id id)
 
--- and so does a zombie-making
+-- making an object a zombie does not change them
 pub counts_zombied : (v : Objects) (id : ℕ) → counts_of (zombied v id) ≡ counts_of v
 counts_zombied v id =
     server_changed table.zombied (λ view place. refl) (λ view place. refl) (is_of_server id) v.server (table_id id)
 
--- an opening in the client's range leaves them
+-- opening an object in the client's range does not change them
 pub counts_by_client : (v : Objects) (id : ℕ) (iface : Iface) (version : ℕ) → is_of_server id ≡ false
     → counts_of (opened_at v id iface version) ≡ counts_of v
 counts_by_client v id iface version h =
@@ -99,24 +99,24 @@ counts_by_client v id iface version h =
 next_is : (used id : ℕ) → 4278190080 ≤ id → wire_id (max used (table_id id) + 1) ≡ most (wire_id (used + 1)) (id + 1)
 next_is used id l = grind (arith, nat_tests, l)
 
--- one in the server's range is counted
+-- opening an object in the server's range is counted
 pub counts_by_server : (v : Objects) (id : ℕ) (iface : Iface) (version : ℕ) → is_of_server id ≡ true
     → counts_of (opened_at v id iface version) ≡ one_counted (counts_of v) id
 counts_by_server v id iface version h =
     ap counts_of (changed_server (λ view place. table.opened_at view place iface version) v id h)
     ∙ (let e = next_is v.server.used id (is_from id h) in λ i. record { next = e i; births = v.server.births + 1 })
 
--- ---- what the server makes at the client
+-- ---- objects that the server makes, at the client
 
--- what follows has room
+-- there is room for the server's next object
 pub told_room : (v : Objects) (id : ℕ) → is_of_server id ≡ true → id ≤ max_server_id → v.server.births < max_births
     → has_room v id ≡ true
 told_room v id range low left =
     in_range-server table.has_room v id range
     ∙ (let from = is_from id range in grind (arith, nat_tests, low, left, from))
 
--- An opening at an id of the server's that was used or is the next keeps both tables sound: it has a
--- row, or is free.
+-- Opening an object at an id of the server's range keeps both tables sound, if the id was used or
+-- is the next.
 pub told_sound : (v : Objects) (id : ℕ) (iface : Iface) (version : ℕ) → ObjectsAreSound v → is_of_server id ≡ true
     → id ≤ (counts_of v).next → id ≤ max_server_id → v.server.births < max_births
     → ObjectsAreSound (opened_at v id iface version)

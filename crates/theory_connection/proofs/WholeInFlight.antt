@@ -1,4 +1,4 @@
--- What a whole message at an end's edge does to what is in flight.
+-- What writing or reading a whole message does to what is in flight.
 use Rattle.std.proofs.Common.{◌≡◌, ℕ, Bool, true, false, List, [], ◌∷◌, ◌++◌, map, inl, inr, refl}
 use Rattle.std.proofs.Common.{sym, ◌∙◌, ap, subst, arith, ◌≢◌}
 use Rattle.std.proofs.lemmas.List.{append_assoc, append-nil}
@@ -22,40 +22,40 @@ use Rattle.theory_connection.proofs.Flight.{live_after, free_after, counts_after
 use Rattle.theory_connection.proofs.Flight.{make_before, destroy_before, reads_more, held_at_client, end_before}
 use Rattle.theory_connection.proofs.Flight.{tell_before, use_more, make_more, destroy_more, give_more}
 
--- it is open at the client
+-- the object is open at the client
 abbrev pub OpenRow : Rows Row → Known → Type 0
 OpenRow v x = v.rows x.id ≡ Some (Open x.born)
 
--- it is open at the server
+-- the object is open at the server
 abbrev pub ThereRow : Rows Born → Known → Type 0
 ThereRow s x = s.rows x.id ≡ Some x.born
 
--- the client's rows with what is made
+-- the client's rows after the client made an object
 abbrev pub client_makes : Rows Row → Option Known → Rows Row
 client_makes v None = v
 client_makes v (Some x) = with_made v x.id (Open x.born)
 
--- the client's rows with what is ending
+-- the client's rows after an object started ending
 abbrev pub client_ends : Option Known → Rows Row → Rows Row
 client_ends None v = v
 client_ends (Some x) v = at v x.id (Some (Ending x.born))
 
--- the server's rows with what is made
+-- the server's rows after the client made an object
 abbrev pub server_makes : Rows Born → Option Known → Rows Born
 server_makes s None = s
 server_makes s (Some x) = with_made s x.id x.born
 
--- the client's rows with what the server makes
+-- the client's rows after the server made an object
 abbrev pub client_told : Rows Row → Option Known → Rows Row
 client_told v None = v
 client_told v (Some x) = with_told v x.id (Open x.born)
 
--- the server's rows with what the server makes
+-- the server's rows after the server made an object
 abbrev pub server_told : Rows Born → Option Known → Rows Born
 server_told s None = s
 server_told s (Some x) = with_told s x.id x.born
 
--- it has an id of the client's range
+-- the object has an id of the client's range
 abbrev pub OfClient : Known → Type 0
 OfClient x = is_of_server x.id ≡ false
 
@@ -69,11 +69,11 @@ pub record FreshTold (s : Rows Born) (x : Known) : Type 0 where
   pub low : x.id ≤ max_server_id
   pub left : s.by_server.births < max_births
 
--- who makes the objects of an object's id
+-- the maker of the objects in the range of an object's id
 abbrev pub id_maker : Known → Maker
 id_maker x = maker_of x.id
 
--- the server's rows without what ends
+-- the server's rows after an object ended
 abbrev pub server_ends : Option Known → Rows Born → Rows Born
 server_ends None s = s
 server_ends (Some x) s = at s x.id None
@@ -83,7 +83,7 @@ pub live_made : (v : Rows Row) (n : Option Known) (x : Known) → IfThere (Fresh
 live_made v None x c h = h
 live_made v (Some n) x c h = grind (arith, put_row_tells, c.free)
 
--- what is open stays open when another is made
+-- an open object stays open when another is made
 pub live_made_if : (v : Rows Row) (n o : Option Known) → IfThere (Fresh v) n → IfThere (OpenRow v) o
     → IfThere (OpenRow (client_makes v n)) o
 live_made_if v n None c h = tt
@@ -92,14 +92,14 @@ live_made_if v n (Some x) c h = live_made v n x c h
 put_tells_same : (m : Rows Row) (x : Known) → put_row m.rows x.id (Some (Ending x.born)) x.id ≡ Some (Ending x.born)
 put_tells_same m x = grind (arith, put_row_tells)
 
--- what is open at the server stays open when the server makes another
+-- an object that is open at the server stays open when the server makes another
 pub there_told : (s : Rows Born) (n : Option Known) (x : Known) → IfThere (FreshTold s) n → ThereRow s x
     → ThereRow (server_told s n) x
 there_told s None x c h = h
 there_told s (Some n) x c h =
     put_row_other s.rows n.id _ x.id (λ q. (let d = sym c.free ∙ ap s.rows q ∙ h in cc d)) ∙ h
 
--- what the client holds in its own range it holds when the server makes an object
+-- an object that the client holds in its own range stays held when the server makes one
 pub held_told : (v : Rows Row) (n : Option Known) (x : Known) → IfThere (NextTold v) n → OfClient x → IsHeldInRows v x
     → IsHeldInRows (client_told v n) x
 held_told v None x g l h = h
@@ -112,7 +112,7 @@ pub held_told_if : (v : Rows Row) (n o : Option Known) → IfThere (NextTold v) 
 held_told_if v n None g l h = tt
 held_told_if v n (Some x) g l h = held_told v n x g l h
 
--- so is what ends
+-- the same for an object that ends
 pub there_told_if : (s : Rows Born) (n o : Option Known) → IfThere (FreshTold s) n → IfThere (ThereRow s) o
     → IfThere (ThereRow (server_told s n)) o
 there_told_if s n None c h = tt
@@ -124,7 +124,7 @@ pub record Past (test : Born → Bool) (qs : List Ask) (s : Rows Born) (m : Rows
   pub reads : ReadsInFlight test es m middle
   pub tied : Tied test qs s middle
 
--- the first request, where its turn has come
+-- the first request, when the server reads it
 pub record AsksAt (test : Born → Bool) (qs : List Ask) (s : Rows Born) (m : Rows Row) (x : Known) (xs : List Known)
     (n : Option Known) (o : Option Known) : Type 0 where
   pub target : ThereRow s x
@@ -133,7 +133,7 @@ pub record AsksAt (test : Born → Bool) (qs : List Ask) (s : Rows Born) (m : Ro
   pub past : Past test qs (server_ends o (server_makes s n)) m (all_tells (answer id_maker o))
   pub mortal : IfThere Mortal o
 
--- the first event, where its turn has come
+-- the first event, when the client reads it
 pub record TellsAt (test : Born → Bool) (es : List Tell) (v w : Rows Row) (x : Known) (xs : List Known)
     (n o : Option Known) : Type 0 where
   pub target : IsHeldInRows v x
@@ -144,7 +144,7 @@ pub record TellsAt (test : Born → Bool) (es : List Tell) (v w : Rows Row) (x :
   pub ends_it : IfThere (λ x. test x.born ≡ true) o
   pub range : IfThere OfClient o
 
--- the first delete, where its turn has come
+-- the first delete, when the client reads it
 pub record DeletesAt (test : Born → Bool) (es : List Tell) (v w : Rows Row) (x : Known) : Type 0 where
   pub mortal : x.id ≢ 1
   pub range : OfClient x
@@ -162,7 +162,7 @@ module _ {test : Born → Bool} where
       subst (λ (l : List Ask). Tied test l s m) (append_assoc qs (Use x ∷ []) (map Use xs))
       (uses_more xs (use_more x t h.0 f.0) h.1 f.1)
 
-  -- what is open and ends by no event is open after what comes is read
+  -- an open object that ends by no event is still open after the events are read
   pub all_live_after : {es : List Tell} {v m : Rows Row} (xs : List Known) → ReadsInFlight test es v m
       → Each (OpenRow v) xs
       → Each (λ x. test x.born ≡ false) xs → Each (OpenRow m) xs
@@ -242,7 +242,7 @@ module _ {test : Born → Bool} where
   asks_new {s = s} x xs (Some n) b h k (make g c) = let p = past_ends b c
       in record { target = h; args = k; new = g; past = p.0; mortal = p.1 }
 
-  -- a request in front is about what is open at the server
+  -- the objects of the first request are open at the server
   pub asks_at : {qs : List Ask} {s : Rows Born} {m : Rows Row} (x : Known) (xs : List Known) (n : Option Known)
       (b : Option Known)
       → Tied test ((Use x ∷ (map Use xs ++ (make_ask n ++ destroy_ask b))) ++ qs) s m → AsksAt test qs s m x xs n b
@@ -270,7 +270,7 @@ module _ {test : Born → Bool} where
       (record { rows = f; used = u; births = b; by_server = c })
       (record { rows = h; used = u; births = b; by_server = c })) e done
 
-  -- the making of an event
+  -- the part of an event that makes its new object
   makes_meet : {es : List Tell} {qs : List Ask} {v : Rows Row} {s : Rows Born} (n : Option Known)
       → IfThere (FreshTold s) n → IfThere (λ x. test x.born ≡ false) n
       → MeetInMiddle test es qs v s → MeetInMiddle test (es ++ make_tell n) qs v (server_told s n)
@@ -336,7 +336,7 @@ module _ {test : Born → Bool} where
 
   -- ---- the client reads what comes
 
-  -- what is named is held, and the rest is read on
+  -- the objects that are named are held, and the other actions are read after them
   pub reads_all : {es : List Tell} {v w : Rows Row} (xs : List Known) → ReadsInFlight test (map Name xs ++ es) v w
       → Each (IsHeldInRows v) xs × ReadsInFlight test es v w
   reads_all [] r = (tt, r)
@@ -353,7 +353,7 @@ module _ {test : Born → Bool} where
   rest_makes None r = (r, (tt, tt))
   rest_makes (Some x) (made b g r) = (r, (g, b))
 
-  -- an event in front is about what the client holds, and what it makes follows
+  -- the client holds the objects of the first event, and its new object is the server's next
   pub tells_at : {es : List Tell} {v w : Rows Row} (x : Known) (xs : List Known) (n b : Option Known)
       → ReadsInFlight test ((Name x ∷ (map Name xs ++ (make_tell n ++ ends b))) ++ es) v w
       → TellsAt test es v w x xs n b
@@ -363,50 +363,50 @@ module _ {test : Born → Bool} where
       let e = rest_ends b c.0 in
       record { target = h; args = k.0; new = c.1.0; plain = c.1.1; rest = e.0; ends_it = e.1.0; range = e.1.1 }
 
-  -- a delete in front is of what the client holds
+  -- the client holds the object of the first delete
   pub deletes_at : {es : List Tell} {v w : Rows Row} (x : Known) → ReadsInFlight test (Delete x ∷ es) v w
       → DeletesAt test es v w x
   deletes_at x (delete z l h c r) = record { mortal = z; range = l; held = h; rest = r }
 
 -- ---- lists of messages
 
--- what is asked with one request more
+-- the actions of requests and one more
 pub all_asks_more : (rs : List (Message Known)) (r : Message Known) → all_asks (rs ++ r ∷ []) ≡ all_asks rs ++ asks r
 all_asks_more [] r = append-nil (asks r)
 all_asks_more (x ∷ xs) r = rw (all_asks_more xs r) (sym (append_assoc (asks x) (all_asks xs) (asks r)))
 
--- what is asked in two parts
+-- the actions of two lists of requests
 pub all_asks_both : (rs qs : List (Message Known)) → all_asks (rs ++ qs) ≡ all_asks rs ++ all_asks qs
 all_asks_both [] qs = refl
 all_asks_both (x ∷ xs) qs = rw (all_asks_both xs qs) (sym (append_assoc (asks x) (all_asks xs) (all_asks qs)))
 
--- what is told in two parts
+-- the actions of two lists of events
 pub all_tells_more : (es fs : List (Coming Known)) → all_tells (es ++ fs) ≡ all_tells es ++ all_tells fs
 all_tells_more [] fs = refl
 all_tells_more (x ∷ xs) fs = rw (all_tells_more xs fs) (sym (append_assoc (tells x) (all_tells xs) (all_tells fs)))
 
--- what is so of each in two lists is so in both together
+-- what holds for each in two lists holds for each in both together
 pub each_more : {X : Type 0} (P : X → Type 0) (xs ys : List X) → Each P xs → Each P ys → Each P (xs ++ ys)
 each_more P [] ys h p = p
 each_more P (x ∷ xs) ys h p = (h.0, each_more P xs ys h.1 p)
 
--- what is so of each is so of each in front
+-- what holds for each holds for each in the first part
 pub each_front : {X : Type 0} (P : X → Type 0) (xs ys : List X) → Each P (xs ++ ys) → Each P xs
 each_front P [] ys h = tt
 each_front P (x ∷ xs) ys h = (h.0, each_front P xs ys h.1)
 
--- what is so of each is so of each of the rest
+-- what holds for each holds for each in the rest
 pub each_rest : {X : Type 0} (P : X → Type 0) (xs ys : List X) → Each P (xs ++ ys) → Each P ys
 each_rest P [] ys h = h
 each_rest P (x ∷ xs) ys h = each_rest P xs ys h.1
 
--- what is so of each, seen through a function
+-- if each has a property, each has what the property implies
 pub each_by : {X : Type 0} (P Q : X → Type 0) (f : (x : X) → P x → Q x) (xs : List X) → Each P xs → Each Q xs
 each_by P Q f [] h = tt
 each_by P Q f (x ∷ xs) h = (f x h.0, each_by P Q f xs h.1)
 
--- drained ends: what is open at the client is what the server has, and in the client's range nothing
--- else stands there
+-- drained ends: the server has exactly the objects that are open at the client, and the client has
+-- no other in its range
 pub record Drained (v : Rows Row) (s : Rows Born) : Type 0 where
   pub same : (id : ℕ) → only_open (v.rows id) ≡ s.rows id
   pub of_client : (id : ℕ) → is_of_server id ≡ false → v.rows id ≡ at_client (s.rows id)

@@ -1,5 +1,5 @@
--- Where no event of the tables makes an object, what is known of the client's objects and ids alone is
--- known of all.
+-- If no event of the tables makes an object, what is known for the client's objects and ids is
+-- known for all.
 use Rattle.std.proofs.Common.{◌≡◌, ℕ, ◌≤◌, false, List, ◌⊎◌, inl, inr, refl, sym, ◌∙◌, ap, subst, arith, ◌∷◌}
 use Rattle.std.specs.Prelude.{is_some}
 use Rattle.std.specs.declared.option.Option.TheVariants.{None}
@@ -38,7 +38,7 @@ module _ (p : PairState) (w : World) (asked : List (Message Known)) (told : List
       let one = one_birth in
       omega (arith, up, same, one)
 
-  -- so no event on the way makes an object
+  -- no event on the way makes an object
   none_told : (k : Known) → In (Made k) (all_tells told) → ⊥
   none_told k i =
       let later = made_later k s.meet.reads i in
@@ -48,14 +48,14 @@ module _ (p : PairState) (w : World) (asked : List (Message Known)) (told : List
       let some = some_births p.client.core.view s.client.sound in
       absurd (omega (arith, later, counted, same, one, some))
 
-  -- the client holds no object of the server's
+  -- the client holds no object that the server made
   none_held : (x : Born) → x.birth.maker ≡ Server → IsHeldAtClient w x → ⊥
   none_held x c h =
       let k = held_counted p w asked told s x c (elim h [ inl a ↦ ap is_some a | inr a ↦ ap is_some a ]) in
       let some = k.0 in let below = k.1 in let few = few_births in
       absurd (omega (arith, some, below, few))
 
-  -- and none is open at the server
+  -- no object that the server made is open at the server
   none_there : (x : Born) → x.birth.maker ≡ Server → IsThere w.server x → ⊥
   none_there x c h = elim (there_where p w asked told s x h) [
     | inl a ↦ (let k = event_known p w asked told s x a in none_told k.0 k.1.0)
@@ -65,7 +65,7 @@ module _ (p : PairState) (w : World) (asked : List (Message Known)) (told : List
     ]
   ]
 
-  -- none is made, named or deleted on the way
+  -- no object that the server made is made, named or deleted on the way
   not_made : (x : Born) → EventMakes w x → ⊥
   not_made x h = let k = event_known p w asked told s x h in none_told k.0 k.1.0
 
@@ -100,9 +100,9 @@ module _ (p : PairState) (w : World) (asked : List (Message Known)) (told : List
     ]
   ]
 
-  -- ---- the laws, of all objects and ids
+  -- ---- the laws for all objects and ids
 
-  -- an object of the server's is nowhere
+  -- an object that the server made is nowhere
   pub no_object : (x : Born) → x.birth.maker ≡ Server
       → IsHeldAtClient w x ⊎ IsThere w.server x ⊎ IsOnTheWay w x → ⊥
   no_object x c h = elim h [

@@ -1,4 +1,4 @@
--- What a standing pair has in flight, in the words of its world.
+-- What is in flight in a pair that represents its world, in the words of that world.
 use Rattle.std.proofs.Common.{true, ◌++◌, ◌∷◌, [], ◌≡◌, ℕ, ◌+◌, ◌<◌, ◌≤◌, Bool, List, map, ◌⊎◌, inl, inr}
 use Rattle.std.proofs.Common.{refl, sym, ◌∙◌, ap, subst, arith, ◌≢◌, false, cond}
 use Rattle.std.specs.Prelude.{option_map, ◌↔◌}
@@ -34,10 +34,10 @@ use Rattle.theory_connection.proofs.MessageActions.{delete_of_tells, tells_in, a
 use Rattle.theory_connection.proofs.MessageActions.{destroy_asked, asked_make, asked_destroy, made_news}
 use Rattle.theory_connection.proofs.MessageActions.{news_made, comes_news, news_comes}
 
--- ---- more of what is read
+-- ---- more about what is read
 
 module _ {test : Born → Bool} where
-  -- what an event names the client holds, or an event on the way makes it
+  -- the client holds an object that an event names, or an event on the way makes it
   pub named_held : {es : List Tell} (x : Known) {v w : Rows Row} → ReadsInFlight test es v w → In (Name x) es
       → IsHeldInRows v x ⊎ In (Made x) es
   named_held x done i = absurd i
@@ -61,7 +61,7 @@ module _ {test : Born → Bool} where
     | inr p ↦ elim (named_held x r p) [ inl q ↦ inl (plain.kept_delete v x y.id q) | inr q ↦ inr (inr q) ]
   ]
 
-  -- what an event makes is of the server's making
+  -- the server is the maker of an object that an event makes
   pub made_maker : {es : List Tell} (x : Known) {v w : Rows Row} → ReadsInFlight test es v w → In (Made x) es
       → x.born.birth.maker ≡ Server
   made_maker x done i = absurd i
@@ -73,8 +73,8 @@ module _ {test : Born → Bool} where
   made_maker x (end b l a r) i = elim i [ inl p ↦ absurd (cc p) | inr p ↦ made_maker x r p ]
   made_maker x (delete z l a b r) i = elim i [ inl p ↦ absurd (cc p) | inr p ↦ made_maker x r p ]
 
-  -- the births and the ids of the client's range at the client are those of the server and of what
-  -- is made on the way
+  -- the births and ids of the client's range that the client counted are those that the server
+  -- counted and those made on the way
   births_tied : {qs : List Ask} {s : Rows Born} {m : Rows Row} (b : Birth) → Tied test qs s m → b.maker ≡ Client
       → b.number < m.births
       → (b.number < s.births) ⊎ ((x : Known) × (In (Make x) qs × (x.born.birth ≡ b)))
@@ -167,7 +167,7 @@ module _ (p : PairState) (w : World) (asked : List (Message Known)) (told : List
   delete_comes k h = subst (In (delete_of k.born)) (sym s.events.in_world)
       (in_map (recoming born_of) (delete_of k) told (delete_of_tells k told h))
 
-  -- the object whose delete is on the way, under its id
+  -- the object whose delete is on the way, with its id
   pub delete_known : (x : Born) → DeleteComes w x → (k : Known) × (In (Delete k) (all_tells told) × (k.born ≡ x))
   delete_known x h =
       let f = from_map (recoming born_of) (delete_of x) told (subst (In (delete_of x)) s.events.in_world h) in
@@ -218,7 +218,7 @@ module _ (p : PairState) (w : World) (asked : List (Message Known)) (told : List
 
   -- ---- rows
 
-  -- a row's maker is that of its id
+  -- the maker of an object that has a row is that of its id
   pub row_by : (k : Known) → IsHeldInRows v k → maker_of k.id ≡ k.born.birth.maker
   row_by k h = let r = held_row p.client.core.view k h in ap (λ (b : Born). b.birth.maker) r.same
 
@@ -232,7 +232,7 @@ module _ (p : PairState) (w : World) (asked : List (Message Known)) (told : List
       by_range true e = absurd (cc e)
       by_range false e = refl
 
-  -- what the client holds is an object of the client's or open, so it has a row
+  -- an object that the client holds has a row, if the client made it or it is open
   held_known : (x : Born) → IsHeldAtClient w x → (x.birth.maker ≡ Client) ⊎ IsOpen w.client x
       → (k : Known) × (IsHeldInRows v k × (k.born ≡ x))
   held_known x h c = elim h [
@@ -288,7 +288,7 @@ module _ (p : PairState) (w : World) (asked : List (Message Known)) (told : List
   pub deleted_is_held : (k : Known) → In (Delete k) (all_tells told) → IsHeldInRows v k
   deleted_is_held k a = plain.held_back_here k s.meet (plain.deleted_client k s.meet.reads a) (inl a)
 
-  -- a delete on the way is of an object of the client's
+  -- a delete on the way is for an object that the client made
   pub deleted_by : (x : Born) → DeleteComes w x → x.birth.maker ≡ Client
   deleted_by x h =
       let k = delete_known x h in
@@ -296,7 +296,7 @@ module _ (p : PairState) (w : World) (asked : List (Message Known)) (told : List
       sym (ap (λ (b : Born). b.birth.maker) k.1.1) ∙ sym (row_by k.0 (deleted_is_held k.0 k.1.0))
       ∙ ap (λ (b : Bool). cond b Server Client) l
 
-  -- what the client holds of its own making is somewhere on the way or at the server
+  -- an object that the client made and holds is on the way or at the server
   pub where_held : (x : Born) → x.birth.maker ≡ Client → IsHeldAtClient w x → IsSomewhere w x
   where_held x c h =
       let k = held_known x h (inl c) in
@@ -312,7 +312,7 @@ module _ (p : PairState) (w : World) (asked : List (Message Known)) (told : List
   make_client : (k : Known) → In (Make k) (all_asks asked) → is_of_server k.id ≡ false
   make_client k a = (plain.make_new k s.meet.tied a).1
 
-  -- and what is there of the client's making the client holds
+  -- the client holds an object that it made and that is on the way or at the server
   pub back_held : (x : Born) → x.birth.maker ≡ Client → IsSomewhere w x → IsHeldAtClient w x
   back_held x c h = elim h [
     | inl a ↦ (let k = delete_known x a in subst (IsHeldAtClient w) k.1.1 (held_world k.0 (deleted_is_held k.0 k.1.0)))
@@ -326,7 +326,7 @@ module _ (p : PairState) (w : World) (asked : List (Message Known)) (told : List
     ]
   ]
 
-  -- what is open at the server has no delete on the way
+  -- an object that is open at the server has no delete on the way
   pub open_not_deleted : (x : Born) → IsThere w.server x → DeleteComes w x → ⊥
   open_not_deleted x h i =
       let j = there_known x h in
@@ -336,7 +336,7 @@ module _ (p : PairState) (w : World) (asked : List (Message Known)) (told : List
       (k.1.1 ∙ sym j.1.1) in
       plain.not_open_deleted j.0 s.meet j.1.0 (subst (λ (n : Known). In (Delete n) (all_tells told)) e k.1.0)
 
-  -- what is made on the way has no delete on the way
+  -- an object that is made on the way has no delete on the way
   pub made_not_deleted : (x : Born) → MakeComes w x → DeleteComes w x → ⊥
   made_not_deleted x h i =
       let j = make_known x h in
@@ -353,7 +353,7 @@ module _ (p : PairState) (w : World) (asked : List (Message Known)) (told : List
       let held = plain.held_back_here j.0 s.meet l (inr (inr j.1.0)) in
       sym (ap (λ (b : Born). b.birth.maker) j.1.1) ∙ sym (row_by j.0 held) ∙ ap (λ (b : Bool). cond b Server Client) l
 
-  -- what is made on the way is not yet open at the server
+  -- an object that is made on the way is not yet open at the server
   pub made_not_open : (x : Born) → MakeComes w x → IsThere w.server x → ⊥
   made_not_open x h i =
       let j = make_known x h in
@@ -363,14 +363,14 @@ module _ (p : PairState) (w : World) (asked : List (Message Known)) (told : List
       in let c = subst (λ (m : Maker). k.0.born.birth.number < births_in o m) maker l
       in let b = ap (λ (x : Born). x.birth.number) (j.1.1 ∙ sym k.1.1) in omega (arith, c, b))
 
-  -- what is made on the way was not counted by the server
+  -- the server has not counted an object that is made on the way
   pub made_not_counted : (x : Born) → MakeComes w x → x.birth.number < p.server.core.view.client.births → ⊥
   made_not_counted x h l =
       let k = make_known x h in
       plain.not_made_counted k.0 s.meet k.1.0
       (subst (λ (b : Born). b.birth.number < p.server.core.view.client.births) (sym k.1.1) l)
 
-  -- what is ending at the client, of its own making, is deleted or destroyed on the way
+  -- an object that the client made and that is ending there is deleted or destroyed on the way
   pub where_ending : (x : Born) → x.birth.maker ≡ Client → w.client x.birth ≡ Some (Ending x)
       → DeleteComes w x ⊎ DestroyComes w x
   where_ending x c h = elim (s.client.sets.only x.birth (Ending x) h).1 [
@@ -386,7 +386,7 @@ module _ (p : PairState) (w : World) (asked : List (Message Known)) (told : List
     | inr g ↦ absurd g
   ]
 
-  -- no request on the way destroys what is open at the client
+  -- no request on the way destroys an object that is open at the client
   pub open_not_destroyed : (x : Born) → w.client x.birth ≡ Some (Open x) → DestroyComes w x → ⊥
   open_not_destroyed x h i =
       let k = destroy_known x i in
@@ -401,7 +401,7 @@ module _ (p : PairState) (w : World) (asked : List (Message Known)) (told : List
             let b = ap (λ (y : Born). y.birth.number) (r.1.1 ∙ sym k.1.1) in absurd (omega (arith, c, later, b)))
       ]
 
-  -- nothing is both deleted and destroyed on the way
+  -- no object is both deleted and destroyed on the way
   pub not_both : (x : Born) → DeleteComes w x → DestroyComes w x → ⊥
   not_both x h i =
       let j = delete_known x h in
@@ -414,7 +414,7 @@ module _ (p : PairState) (w : World) (asked : List (Message Known)) (told : List
             let d = made_maker k.0 s.meet.reads told_so in absurd (cc (c, d)))
       ]
 
-  -- what is open at the client and deleted on the way has a destroying event
+  -- an object that is open at the client and deleted on the way has a destroying event
   pub open_deleted : (x : Born) → w.client x.birth ≡ Some (Open x) → DeleteComes w x
       → by_event p.server.core.tables x ≡ true
   open_deleted x h i =
@@ -424,7 +424,7 @@ module _ (p : PairState) (w : World) (asked : List (Message Known)) (told : List
       subst (λ (b : Born). by_event p.server.core.tables b ≡ true) k.1.1
       (plain.open_deleted k.0 s.meet.reads (subst (λ (n : Known). v.rows n.id ≡ Some (Open n.born)) e r.1.0) k.1.0)
 
-  -- nothing concerns an id after its delete
+  -- nothing on the way is about an id after its delete
   pub last_of_id : (k : Known) (front rest : List (Coming Known)) → told ≡ front ++ delete_of k ∷ rest
       → IsUnnamed k.id rest
   last_of_id k front rest e =
@@ -556,7 +556,7 @@ module _ (p : PairState) (w : World) (asked : List (Message Known)) (told : List
 
 -- ---- a pair that represents a world
 
--- what follows for a pair that represents a world follows in a world that goes on
+-- what follows for a pair that represents a world, follows in a world that has not ended
 pub in_world : {A : Type 0} (p : PairState) (w : World) → StandsIn p w
     → ((asked : List (Message Known)) (told : List (Coming Known)) → StandsBy p w asked told → A) → A
 in_world {A} p w h f = by_stands h.stands

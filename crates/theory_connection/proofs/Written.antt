@@ -45,7 +45,7 @@ use Rattle.theory_connection.proofs.TwoRanges.{row_word}
 use Rattle.theory_connection.proofs.Calls.{one_new, made_new, version_of}
 use Rattle.theory_connection.proofs.Rules.{opcode_low, few_made, unnamed_none}
 
--- what a call of this side makes
+-- the object that a call of this side makes
 abbrev pub the_made : Core → Side → Entry → List Given → sigs.MessageSignature → Option NewObject
 the_made core side entry given signature = made core.tables entry.version signature.kinds
     (map (wired (next_id (maker_by side) core.view)) given)
@@ -96,14 +96,14 @@ no_error Request iface opcode h = refl
 no_error Event iface opcode h = and_left (same_iface iface display) (nat_eq opcode 0)
     (or_parts (same_iface iface display) (same_iface iface registry) h).0
 
--- what can be called is no delete_id
+-- a message that a call can write is no delete_id
 pub no_delete : (side : Side) (iface : Iface) (opcode : ℕ) → is_hidden side iface opcode ≡ false
     → is_delete_id side iface opcode ≡ false
 no_delete Request iface opcode h = refl
 no_delete Event iface opcode h = and_left (same_iface iface display) (nat_eq opcode 1)
     (or_parts (same_iface iface display) (same_iface iface registry) h).0
 
--- what is so of the message of a call
+-- facts about the message of a call
 pub record CallIs (core : Core) (side : Side) (target : Object) (opcode : ℕ) (given : List Given)
     (signature : sigs.MessageSignature) (entry : Entry) : Type 0 where
   pub right : AllRight core.view signature.kinds given
@@ -171,7 +171,7 @@ call_is core side target opcode given signature v s g c =
       short = short;
     }
 
--- ---- what a call destroys
+-- ---- the object that a call destroys
 
 at_wired : (n : ℕ) (given : List Given) (k : ℕ) → id_at (map (wired 0) given) k ≡ id_at (map (wired n) given) k
 at_wired n given k = ap id_named (slice_get-map (wired 0) given k)
@@ -196,7 +196,7 @@ ids_wired Nothing id n given = refl
 ids_wired Target id n given = refl
 ids_wired (ends_arg k) id n given = at_wired n given k
 
--- what a call destroys, by its id, is what its message means
+-- the object that a call destroys, by its id, is the one that its message means
 pub call_ends : (core : Core) (side : Side) (target : Object) (opcode : ℕ) (given : List Given)
     (signature : sigs.MessageSignature) → Valid core.tables
     → (c : Checked core.outbox.limit.bytes core.tables side core.view target opcode given signature)
@@ -214,7 +214,7 @@ call_ends core side target opcode given signature v c k =
     same
     (ends_as core.tables side m k.fits_it v))
 
--- ---- what an accepted call answered
+-- ---- the result of an accepted call
 
 pub record Accepted (core : Core) (side : Side) (target : Object) (opcode : ℕ) (given : List Given)
     (new : Option Object) : Type 0 where
@@ -236,7 +236,7 @@ accepted_by core side target opcode given new (Err why) e h = absurd (cc h)
 accepted_by core side target opcode given new (Ok signature) e h =
     record { signature = signature; checks = e; opens_it = fitting _ _ new _ h }
 
--- an accepted call was checked, and opens what it says
+-- an accepted call was checked, and opens the object that it returns
 pub accepted_call : (core : Core) (side : Side) (target : Object) (opcode : ℕ) (given : List Given)
     (new : Option Object) → core.failed ≡ false → send_answer core side target opcode given ≡ Ok new
     → Accepted core side target opcode given new
@@ -247,7 +247,7 @@ accepted_call core side target opcode given new l h =
     else answer_of core side target given (checked core.outbox.limit.bytes core.tables side core.view target opcode
     given)) l) ∙ h)
 
--- an opening: it can be opened, and is the maker's next
+-- an opening: the object can be opened, and is the maker's next
 pub record Opens (core : Core) (maker : Maker) (o : Option NewObject) (new : Option Object) : Type 0 where
   pub can : IfThere (λ (m : NewObject). can_open maker core.view ≡ true) o
   pub is : new ≡ option_map
