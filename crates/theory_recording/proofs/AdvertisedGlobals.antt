@@ -33,9 +33,9 @@ use Rattle.theory_connection.proofs.WholeInFlight.{each_by}
 use Rattle.theory_recording.specs.Follows.{IsAdvertised, TellsAdvertised, BindsAdvertised}
 use Rattle.theory_recording.proofs.JudgedAsMeant.{call_as}
 
--- ---- what is advertised stays so
+-- ---- what is advertised stays advertised
 
--- what was advertised of a global never becomes less
+-- the advertised version of a global never falls
 abbrev pub Grows : Knows → Knows → Type 0
 Grows k k' = (name iface : ℕ) → k.advertised_version name iface ≤ k'.advertised_version name iface
 
@@ -64,7 +64,7 @@ binds_one : (k k' : Knows) → Grows k k' → (m : Message Known) → BindsAdver
 binds_one k k' grows m h = λ is name x first made.
     (let l = h is name x first made in let more = grows name x.born.iface.0 in omega (arith, l, more))
 
--- each global that is bound is still advertised
+-- each global that a request in flight binds is still advertised
 pub binds_on : (k k' : Knows) → Grows k k' → (ms : List (Message Known)) → Each (BindsAdvertised k) ms
     → Each (BindsAdvertised k') ms
 binds_on k k' grows ms h = each_by (BindsAdvertised k) (BindsAdvertised k') (binds_one k k' grows) ms h
@@ -175,7 +175,7 @@ bad_bind_at tables given k m entry fit true v c iface version told is =
     let may = fine_bind tables k g.name g.new low high (told bind g.name g.new first new) in
     rw (is, first, makes, may) refl
 
--- a bind that fits, of a global that was advertised, is not a bad one
+-- a bind that fits, of a global that was advertised, is no bad bind
 pub no_bad_bind : (tables : List Interface) (given : List Global) (k : Knows) (m : Message Known) (entry : Entry)
     (fit : AsksFitly tables given m) → Valid tables → Each (IsGlobal tables) given
     → entry.iface ≡ m.target.born.iface → entry.version ≡ m.target.born.version → BindsAdvertised k m

@@ -1,4 +1,4 @@
--- Behind a message that was read as it was meant.
+-- What a checker knows after a message that was read as it was meant.
 use Rattle.std.proofs.Common.{◌≡◌, ℕ, zero, suc, ◌+◌, Bool, false, cond, None, Some, List, [], ◌∷◌}
 use Rattle.std.proofs.Common.{◌++◌, length, map, refl, sym, ap, subst, ◌∙◌, arith}
 use Rattle.std.specs.Prelude.{Option, option_map, is_some}
@@ -32,8 +32,8 @@ use Rattle.theory_recording.proofs.JudgedAsMeant.{call_as}
 use Rattle.theory_recording.proofs.KnownBehindMessage.{ended_ids, known_behind, known_event, places_behind, grown}
 use Rattle.theory_connection.proofs.EndedObject.{ends_as, ends_have}
 
--- The message that stands at a place of a direction's stream, where its direction brought t tokens,
--- keeps all rules; and so it is behind it.
+-- The message at a place of a direction's stream keeps all rules, if the direction brought t tokens.
+-- Afterwards, the direction has taken the message's tokens too, and `Next` holds.
 pub record One (limit : ℕ) (tables : List Interface) (d : Direction) (stream : List ℕ) (t p : ℕ)
     (sent : boxes.QueuedMessage)
     (e : List Judged) (Next : List Judged → Type 0) : Type 0 where
@@ -44,14 +44,14 @@ pub record One (limit : ℕ) (tables : List Interface) (d : Direction) (stream :
       → (knowledge tables (e ++ Ok call ∷ [])).taken x ≡ (knowledge tables e).taken x
   pub next : Next (e ++ Ok call ∷ [])
 
--- one more message goes on
+-- the session still goes on after one more message
 pub go_on_more : (e : List Judged) (j : Judged) → AllGoOn e → GoesOn j → AllGoOn (e ++ j ∷ [])
 go_on_more [] j a g zero one is = let same : j ≡ one = cc in subst GoesOn same g
 go_on_more [] j a g (suc k) one is = absurd (cc)
 go_on_more (x ∷ xs) j a g zero one is = a zero one is
 go_on_more (x ∷ xs) j a g (suc k) one is = go_on_more xs j (λ i. a (suc i)) g k one is
 
--- the session goes on
+-- the session goes on after a message that fits
 pub goes_on_as : (tables : List Interface) (d : Direction) (m : Message Known) (entry : Entry)
     (f : FitsSignature tables (side_of d) m) → entry.iface ≡ m.target.born.iface
     → GoesOn (Ok (call_as d m entry f.signature))
@@ -82,7 +82,7 @@ other_taken tables e call x apart =
     let b = (behind_one tables e call).taken_is x in
     b ∙ rw apart (omega arith)
 
--- no message makes what was advertised of a global less
+-- no message lowers the advertised version of a global
 pub call_grows : (tables : List Interface) (e : List Judged) (call : Call)
     → Grows (knowledge tables e) (knowledge tables (e ++ Ok call ∷ []))
 call_grows tables e call name iface =
@@ -97,7 +97,7 @@ destroyed_as : (b : Bool) (id : ℕ) (o : Option Known) → b ≡ is_some o → 
 destroyed_as b id None f h = ap (λ (t : Bool). destroyed_id t id) f
 destroyed_as b id (Some x) f h = λ i. destroyed_id (f i) (sym h i)
 
--- what is known after a call that makes this
+-- what is known after a call that makes n and ends o
 record BehindCall (tables : List Interface) (e : List Judged) (call : Call) (n o : Option Known) : Type 0 where
   objects : (id : ℕ) → (knowledge tables (e ++ Ok call ∷ [])).object id
       ≡ cond (is_made (option_map made_of n) id) (Some (made_entry (suc (length e)) Live (new_of (option_map made_of n))))
@@ -130,7 +130,7 @@ behind_call tables e here d m entry f n valid made_is deleted_is =
       places = places_behind tables e call ∙ ap (λ (o : Option NewObject). grown (birth_places tables e) o p) made_is;
     }
 
--- after a request that fits, the checker knows the rows that it leaves
+-- after a request that fits, the checker knows the resulting rows
 pub known_call : (tables : List Interface) (e : List Judged) (here : Rows Row) (d : Direction) (m : Message Known)
     (entry : Entry) (f : FitsSignature tables (side_of d) m) (n : Option Known)
     → Valid tables → KnownAs (knowledge tables e) (birth_places tables e) here → IfThere (Fresh here) n

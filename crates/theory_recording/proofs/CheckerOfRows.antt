@@ -1,4 +1,4 @@
--- A checker that knows these rows has what may be recorded next.
+-- A checker that knows these rows finds what the next recorded message names and makes.
 use Rattle.std.proofs.Common.{◌≡◌, ℕ, ◌+◌, true, false, List, inl, inr, refl, ap, ◌∙◌, arith, subst}
 use Rattle.std.specs.Prelude.{option_map, nat_eq, nat_le}
 use Rattle.std.specs.declared.option.Option.TheVariants.{None, Some}
@@ -24,7 +24,7 @@ use Rattle.theory_connection.proofs.WholeInFlight.{OpenRow, each_by}
 use Rattle.theory_connection.proofs.ReadAsMeant.{HasObject, new_id_for}
 use Rattle.theory_recording.specs.Follows.{KnownAs, entry_at}
 
--- what a request names
+-- the checker has an object that a request names
 pub open_known : (tables : List Interface) (k : Knows) (places : Maker → List ℕ) (here : Rows Row) (x : Known) → KnownAs k places here → OpenRow here x
     → HasObject (reader_by tables k ToServer) x
 open_known tables k places here x a h = record {
@@ -34,7 +34,7 @@ open_known tables k places here x a h = record {
   version = refl;
 }
 
--- what an event names
+-- the checker has an object that an event names
 pub held_known : (tables : List Interface) (k : Knows) (places : Maker → List ℕ) (here : Rows Row) (x : Known) → KnownAs k places here
     → IsHeldInRows here x
     → HasObject (reader_by tables k ToClient) x
@@ -51,7 +51,7 @@ held_known tables k places here x a (inr h) = record {
   version = refl;
 }
 
--- a new object
+-- the id of a new object of the client is free to the checker
 fresh_known : (tables : List Interface) (k : Knows) (places : Maker → List ℕ) (here : Rows Row) (x : Known) → KnownAs k places here → Fresh here x
     → (reader_by tables k ToServer).new_id x.id ≡ Free
 fresh_known tables k places here x a f =
@@ -70,7 +70,7 @@ not_waiting tables k places here x a f = by_row (here.rows x.id) refl
     by_row (Some (Open b)) l = absurd (f.not_open b l)
     by_row (Some (Ending b)) l = ap (waits_for_request tables) (a.objects x.id ∙ ap (option_map (entry_at places)) l)
 
--- a new object of the server
+-- the id of a new object of the server is free to the checker
 pub told_known : (tables : List Interface) (k : Knows) (places : Maker → List ℕ) (here : Rows Row) (x : Known)
     → KnownAs k places here → NextTold here x
     → (reader_by tables k ToClient).new_server_id x.id ≡ Free
@@ -84,7 +84,7 @@ told_known tables k places here x a f =
     let top : nat_le x.id max_server_id ≡ true = grind (arith, nat_tests, low) in
     rw (wait, near, top, f.range) refl
 
--- an id is free for what the arguments make
+-- the id of an argument's new object is free
 abbrev IsFree : Side → Reader → Arg Known → Type 0
 IsFree side r a = IfThere (λ x. new_id_for side r x.id ≡ Free) (new_object_in a)
 
@@ -103,7 +103,7 @@ news_free tables k places here args all a g h =
     ≡ Free}
     (λ x e. fresh_known tables k places here x a (subst (IfThere (Fresh here)) e g)) (new_object_in arg) made) args h
 
--- and one that follows
+-- the id of the server's next object is free to the checker
 pub news_told : (tables : List Interface) (k : Knows) (places : Maker → List ℕ) (here : Rows Row)
     (args all : List (Arg Known)) → KnownAs k places here
     → IfThere (NextTold here) (made_in all) → Each (IsMade all) args

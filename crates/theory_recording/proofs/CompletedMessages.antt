@@ -23,7 +23,7 @@ use Rattle.theory_recording.proofs.CalledAsMeant.{One}
 
 -- ---- what is at the front
 
--- a part of a message is not one
+-- a part of a message is no whole message
 part_front : (limit : ℕ) (x left more : List ℕ) (m : List ℕ) (f : Front) → front limit x ≡ f → x ++ left ≡ m ++ more
     → IsMessage limit m → length x < length m → front limit x ≡ More
 part_front limit x left more m More e is whole h = e
@@ -38,7 +38,7 @@ part_front limit x left more m (Whole n) e is whole h =
     let there = (front_stands limit x n e).there in
     absurd (omega (arith, size, there, h))
 
--- a whole one, and what follows it
+-- bytes that begin with a whole message, and what follows it
 pub record Apart (x left m more : List ℕ) : Type 0 where
   pub rest : List ℕ
   pub is : x ≡ m ++ rest
@@ -67,7 +67,8 @@ module _ {M : Type 0} (sp : M → boxes.QueuedMessage) (limit : ℕ) (tables : L
       → (knowledge tables e).taken d + length (sp m).tokens ≤ t
       → One limit tables d (streams d) t p (sp m) e (λ e'. F e' (seen ++ m ∷ []) later)
 
-  -- Of the messages that were not yet recorded these are complete in the stream, and of the next a part stands there.
+  -- Of the messages that were not yet recorded, `fresh` are complete in the stream, followed by a
+  -- part of the next.
   pub record Walked (e : List Judged) (seen later : List M) (x : List ℕ) (c : Cutting) : Type 0 where
     pub fresh : List M
     pub still : List M
@@ -83,7 +84,7 @@ module _ {M : Type 0} (sp : M → boxes.QueuedMessage) (limit : ℕ) (tables : L
         ≡ (knowledge tables e).taken y
     pub next : F (judged_after limit tables streams e (map (framed d t) c.marks)) (seen ++ fresh) still
 
-  -- only a part is there
+  -- only a part of the next message is there
   stops : (e : List Judged) (seen later : List M) (p : ℕ) (x : List ℕ) → F e seen later → drop p (streams d) ≡ x
       → p ≤ length (streams d) → front limit x ≡ More
       → Walked e seen later x (cutting limit (length (streams d)) (streams d) p)
@@ -106,7 +107,7 @@ module _ {M : Type 0} (sp : M → boxes.QueuedMessage) (limit : ℕ) (tables : L
         next = subst (λ (s : List M). F e s later) (sym (append-nil seen)) f;
       })
 
-  -- one is whole, and what follows it
+  -- the next message is whole, and others may follow it
   goes : (e : List Judged) (seen later : List M) (m : M) (p : ℕ) (x rest : List ℕ) → IsMessage limit (sp m).bytes
       → drop p (streams d) ≡ x → p ≤ length (streams d) → x ≡ (sp m).bytes ++ rest
       → (o : One limit tables d (streams d) t p (sp m) e (λ e'. F e' (seen ++ m ∷ []) later))
@@ -145,8 +146,8 @@ module _ {M : Type 0} (sp : M → boxes.QueuedMessage) (limit : ℕ) (tables : L
             (subst (λ (j : List Judged). F j ((seen ++ m ∷ []) ++ w.fresh) w.still) (sym after) w.next);
       })
 
-  -- Begun are these messages, the first of those not yet recorded: of their bytes these stand in
-  -- the stream and others are still to come.
+  -- These messages are begun, the first of those not yet recorded. Of their bytes, x are in the
+  -- stream, and `left` are still to come.
   pub walk : KeepsOne → (later : List M) (begun others : List boxes.QueuedMessage) (e : List Judged) (seen : List M)
       (p : ℕ)
       (x left : List ℕ) → F e seen later → drop p (streams d) ≡ x → p ≤ length (streams d)

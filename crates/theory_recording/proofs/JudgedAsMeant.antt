@@ -1,4 +1,4 @@
--- A message that stands in a stream is judged to be what was meant, by a checker that knows what it names.
+-- A checker that knows what a message in a stream names judges the message as it was meant.
 use Rattle.std.proofs.Common.{◌≡◌, ℕ, ◌+◌, ◌-◌, ◌≤◌, Bool, true, false, cond, List, [], ◌∷◌, ◌++◌}
 use Rattle.std.proofs.Common.{length, take, drop, map, refl, sym, ap, ◌∙◌, arith}
 use Rattle.std.specs.declared.option.Option.TheVariants.{None, Some}
@@ -29,7 +29,7 @@ use Rattle.wl_sigs.specs.Side.{Side}
 use Rattle.theory_connection.proofs.MadeFor.{MadeFor}
 use Rattle.theory_connection.proofs.ReadAsMeant.{HasObject, Finds, new_id_for, received_by_any, parted}
 
--- the checker finds each argument whose object it has and whose new id is free
+-- the checker finds each argument, if it has the argument's object, or the new id is free
 pub all_found : (side : Side) (r : Reader) (args : List (Arg Known)) → Each (HasObject r) (objects args)
     → Each (λ a. IfThere (λ x. new_id_for side r x.id ≡ Free) (new_object_in a)) args → Each (Finds side r) args
 all_found side r [] o n = tt
@@ -39,7 +39,7 @@ all_found side r (New x ∷ args) o n = (n.0, all_found side r args o n.1)
 all_found side r (NewNamed name own x ∷ args) o n = (n.0, all_found side r args o n.1)
 all_found side r (a ∷ args) o n = (tt, all_found side r args o n.1)
 
--- the call as which a message is read, where its target has this row
+-- the call that a message is read as, if its target has this row
 abbrev pub call_as : Direction → Message Known → Entry → sigs.MessageSignature → Call
 call_as d m entry signature = record {
   direction = d;
@@ -67,9 +67,8 @@ body_is m stream more p e =
     ap (take (length (spelled_meant m).bytes - 8)) behind
     ∙ take_at (spelled_values vs) more (length (spelled_meant m).bytes - 8) n
 
--- A message that fits stands in a stream. It keeps all rules where the checker has what it names,
--- it is no bad bind, and the tokens brought
--- so far are at least those taken before it and its own.
+-- A message in a stream that fits keeps all rules, if the checker has what it names, it is no bad
+-- bind, and its direction brought at least the tokens taken before it and its own.
 pub frame_called : (limit : ℕ) (tables : List Interface) (k : Knows) (d : Direction) (m : Message Known)
     (stream more : List ℕ) (p t : ℕ) (o : HasObject (reader_by tables k d) m.target) (f : FitsSignature tables (side_of d) m)
     → Each (MadeFor (side_of d)) f.signature.kinds → IsMessage limit (spelled_meant m).bytes → drop p stream ≡ (spelled_meant m).bytes ++ more

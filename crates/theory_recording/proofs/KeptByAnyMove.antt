@@ -1,4 +1,5 @@
--- Whatever is done, an end keeps its tables and its limit, and what was recorded before an error stays.
+-- Whatever the move, an end keeps its tables and its limit, and what was recorded before an error
+-- stays.
 use Rattle.std.proofs.Common.{◌≡◌, ℕ, Bool, true, false, cond, List, length, take, refl, ap, ◌∙◌, arith, length-append}
 use Rattle.std.proofs.lemmas.List.{take-append-le}
 use Rattle.std.specs.declared.option.Option.{Option}
@@ -123,7 +124,7 @@ keeps_tables p ServerNext (ServerNext reply) p' d =
     by_next _ _ _ p _ reply p' (next_tables p.server p.server.core.failed) d
 keeps_tables p _ _ p' d = absurd d
 
--- what was lawful up to the mark stays so
+-- what was lawful up to the mark stays lawful
 pub still_lawful : (p p' : PairState) (move : Move) (reply : Reply) → Does p move reply p' → KeepsRecord p p'
     → EndedLawful p → EndedLawful p'
 still_lawful p p' move reply d k l =

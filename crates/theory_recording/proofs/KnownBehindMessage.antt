@@ -36,7 +36,7 @@ use Rattle.theory_connection.proofs.ReadAsMeant.{made_of}
 use Rattle.theory_recording.specs.Follows.{entry_at, place_of_making, places_of_making, birth_places, KnownAs}
 use Rattle.theory_connection.proofs.Births.{maker_itself, counted_more, next_counted}
 
--- the places with that of what a message makes
+-- the places, with one more if the message makes an object
 abbrev pub grown : (Maker → List ℕ) → Option NewObject → ℕ → Maker → List ℕ
 grown places made p by = places by ++ place_of_making by made p
 
@@ -44,7 +44,7 @@ abbrev Below : (Maker → List ℕ) → Rows Row → Type 0
 Below places here = (id : ℕ) (r : Row) → here.rows id ≡ Some r
     → (birth_in r).number < length (places (birth_in r).maker)
 
--- more places tell no known object otherwise
+-- more places do not change what is known of an object
 entry_more : (places more : Maker → List ℕ) (r : Row) → (birth_in r).number < length (places (birth_in r).maker)
     → entry_at (λ by. places by ++ more by) r ≡ entry_at places r
 entry_more places more (Open x) h =
@@ -60,7 +60,7 @@ row_more : (places more : Maker → List ℕ) (o : Option Row)
 row_more places more None h = refl
 row_more places more (Some r) h = ap (λ (e : Entry). Some e) (entry_more places more r (h r refl))
 
--- a new object is the next of its maker, who is that of its id
+-- a new object is the next of its maker, and its id is in that maker's range
 record IsNext (places : Maker → List ℕ) (x : Known) : Type 0 where
   number : x.born.birth.number ≡ length (places x.born.birth.maker)
   maker_is : maker_of x.id ≡ x.born.birth.maker
@@ -160,7 +160,7 @@ ends_objects birth_places v None h id = rw (frees_none id) refl
 ends_objects birth_places v (Some x) h id = rw (frees_none id)
     (at_ended birth_places x v h id (is_id (Some x.id) id) refl)
 
--- what a message destroys is not what it makes
+-- the object that a message destroys is not the one that it makes
 abbrev Differ : Option Known → Option Known → Type 0
 Differ n o = (y x : Known) → n ≡ Some y → o ≡ Some x → x.id ≢ y.id
 
@@ -195,7 +195,7 @@ births_made places p here (Some y) e f Client =
 births_made places p here (Some y) e f Server =
     let range = fresh_range f in rw range (ap length (append-nil (places Server)) ∙ e Server)
 
--- the same where an event makes it
+-- the same if an event makes the object
 births_told : (places : Maker → List ℕ) (p : ℕ) (here : Rows Row) (n : Option Known)
     → ((by : Maker) → length (places by) ≡ births_in here by) → IfThere (NextTold here) n
     → (by : Maker) → length (grown places (option_map made_of n) p by) ≡ births_in (client_told here n) by
@@ -311,7 +311,7 @@ same_used : (o : Option Known) (v : Rows Row)
 same_used None v = (refl, refl)
 same_used (Some x) v = (refl, refl)
 
--- where a message has made its object, here are the rows
+-- the rows after a message made its object, before it ends one
 record Made (places : Maker → List ℕ) (p : ℕ) (here v : Rows Row) (k' : Knows) (n o : Option Known) : Type 0 where
   rows : v.rows ≡ (client_makes here n).rows
   next : IfThere (IsNext places) n
@@ -365,7 +365,7 @@ told_differ here n o f h y x e d =
     let l : OfClient x = subst (IfThere OfClient) d h in
     range_apart x.id y.id l g.range
 
--- The checker knew the rows before a request; it knows them after it.
+-- A checker that knew the rows before a request knows those after it.
 pub known_behind : (k k' : Knows) (places : Maker → List ℕ) (p : ℕ) (here : Rows Row) (n o : Option Known)
     → KnownAs k places here → IfThere (Fresh here) n → IfThere (IsHeldInRows here) o
     → ((id : ℕ) → k'.object id
@@ -391,7 +391,7 @@ known_behind k k' places p here n o a f h objects used server_used =
       made_by = by_made here n f a.made_by;
     }) objects
 
--- It knew them before an event; it knows them after it.
+-- A checker that knew the rows before an event knows those after it.
 pub known_event : (k k' : Knows) (places : Maker → List ℕ) (p : ℕ) (here : Rows Row) (n o : Option Known)
     → KnownAs k places here → IfThere (NextTold here) n → IfThere (IsHeldInRows here) o → IfThere OfClient o
     → ((id : ℕ) → k'.object id
@@ -473,7 +473,7 @@ makers_same f g (suc n) by h =
     let last = h n (omega arith) in
     λ i. front i ++ place_of_making by (last i) n
 
--- after one more message there is one more place where it makes an object
+-- after one more message there is one more place, if it makes an object
 pub places_behind : (tables : List Interface) (e : List Judged) (call : Call)
     → birth_places tables (e ++ Ok call ∷ []) ≡ grown (birth_places tables e) (changes tables call).made (suc (length e))
 unfolding places_of_making
@@ -491,7 +491,7 @@ places_behind tables e call = λ i by. each by i
         ap (λ (k : ℕ). places_of_making (λ q. (changes_at tables all q).made) k by) n
         ∙ (λ i. front i ++ place_of_making by ((last i).made) (suc (length e)))
 
--- wl_display is one of them
+-- if the message at place 0 makes an object of the client, there is a place
 makers_some : (made : ℕ → Option NewObject) (n : ℕ) (first : NewObject) → made 0 ≡ Some first
     → is_of_server first.id ≡ false → 0 < length (places_of_making made (suc n) Client)
 unfolding places_of_making
@@ -499,6 +499,6 @@ makers_some made zero first e l = rw (e, l) (omega arith)
 makers_some made (suc n) first e l = let r = makers_some made n first e l
     in omega (arith, r, length-append (places_of_making made (suc n) Client) (place_of_making Client (made (suc n)) (suc n)))
 
--- wl_display is always made
+-- there is always a place, since wl_display is made
 pub some_place : (tables : List Interface) (e : List Judged) → 0 < length (birth_places tables e Client)
 some_place tables e = makers_some (λ place. (changes_at tables e place).made) (length e) _ refl refl

@@ -1,4 +1,4 @@
--- What one action more does where requests are not yet recorded and events not yet read.
+-- What one more action does, while requests are not yet recorded and events not yet read.
 use Rattle.std.proofs.Common.{◌≡◌, ℕ, Bool, false, List, [], ◌∷◌, ◌++◌, ◌⊎◌, inl, inr, refl}
 use Rattle.std.proofs.Common.{sym, ◌∙◌, ap, subst, arith, ◌≢◌, ◌+◌}
 use Rattle.std.specs.declared.option.Option.{Option}
@@ -28,11 +28,11 @@ pub record Parted (test : Born → Bool) (es fs : List Tell) (v w : Rows Row) : 
   pub first : ReadsInFlight test es v between
   pub then : ReadsInFlight test fs between w
 
--- births rise: a row of the server's range is followed by one of no lesser birth
+-- the id has a row, and the number of its birth is at least b
 abbrev pub HasFrom : Rows Row → ℕ → ℕ → Type 0
 HasFrom v i b = (r : Row) × ((v.rows i ≡ Some r) × (b ≤ (birth_in r).number))
 
--- two things that are so of each are so together
+-- what holds for each and what else holds for each hold together for each
 each_both : {X : Type 0} (P Q : X → Type 0) (xs : List X) → Each P xs → Each Q xs → Each (λ x. P x × Q x) xs
 each_both P Q [] p q = tt
 each_both P Q (x ∷ xs) p q = ((p.0, q.0), each_both P Q xs p.1 q.1)
@@ -46,8 +46,8 @@ module _ {test : Born → Bool} where
 
   -- ---- an event is recorded
 
-  -- what the client comes to hold is held at the recording point, where its making was recorded: that
-  -- of an object of the client's, since requests make no others
+  -- an object that is held after the requests is held at the recording point, if its making was
+  -- recorded; one of the server always is, since requests make none
   pub held_here : {qs : List Ask} {v w : Rows Row} (x : Known) → Leads test qs v w → IsHeldInRows w x
       → (is_of_server x.id ≡ false → x.born.birth.number < v.births)
       → IsHeldInRows v x
@@ -75,7 +75,7 @@ module _ {test : Born → Bool} where
         | inr p ↦ grind (arith)
       ]
 
-  -- an end or a delete of another object
+  -- ending or deleting an object that no request is about
   pub put_elsewhere : {qs : List Ask} {v w : Rows Row} (i : ℕ) (o : Option Row) → Leads test qs v w
       → Each (λ a. ask_id a ≢ i) qs → Leads test qs (at v i o) (at w i o)
   put_elsewhere i o done e = done
@@ -121,7 +121,7 @@ module _ {test : Born → Bool} where
   leads_counts (make a r) = leads_counts r
   leads_counts (destroy z a b r) = leads_counts r
 
-  -- what is open stays so where no request is about its id
+  -- an open object stays open if no request is about its id
   pub open_leads : {qs : List Ask} {v w : Rows Row} (i : ℕ) (e : Born) → Leads test qs v w
       → Each (λ a. ask_id a ≢ i) qs → v.rows i ≡ Some (Open e) → w.rows i ≡ Some (Open e)
   open_leads i e done u h = h
@@ -129,7 +129,7 @@ module _ {test : Born → Bool} where
   open_leads i e (make {v = v} {x = n} a r) u h = open_leads i e r u.1 (put_row_other v.rows n.id _ i u.0 ∙ h)
   open_leads i e (destroy {v = v} {x = n} z a b r) u h = open_leads i e r u.1 (put_row_other v.rows n.id _ i u.0 ∙ h)
 
-  -- an object of the server, at an id about which no request is
+  -- an event makes an object at an id that no request is about
   pub tell_elsewhere : {qs : List Ask} {v w : Rows Row} (i : ℕ) (x : Row) → Leads test qs v w
       → Each (λ a. ask_id a ≢ i) qs → Leads test qs (with_told v i x) (with_told w i x)
   tell_elsewhere i x done e = done
@@ -149,7 +149,8 @@ module _ {test : Born → Bool} where
       destroy z (put_row_other v.rows i (Some x) n.id (λ q. e.0 (sym q)) ∙ a) b
       (leads_rows (put_row_swap _ _ _ _ _ e.0) (tell_elsewhere i x r e.1))
 
-  -- What follows where the requests lead follows where they begin, if none is about its id.
+  -- The server's next object, after the requests, is also its next before them, if none of them is
+  -- about its id.
   pub told_here : {qs : List Ask} {v w : Rows Row} (n : Known) → Leads test qs v w → Each (λ a. ask_id a ≢ n.id) qs
       → NextTold w n → NextTold v n
   told_here {v = v} {w = w} n l u g =
@@ -180,7 +181,7 @@ module _ {test : Born → Bool} where
   rising i b (delete {v = v} {x = n} z q a t r) l c h = rising i b r l c
       (h.0, (put_row_other v.rows n.id None i (range_apart n.id i q l) ∙ h.1.0, h.1.1))
 
-  -- what requests are about in the server's range the server has now
+  -- the server now has the objects in its range that requests are about
   pub asked_there : {qs : List Ask} {s : Rows Born} {m : Rows Row} → Tied test qs s m
       → Each (λ a. is_of_server (ask_id a) ≡ true → s.rows (ask_id a) ≡ Some (asked_about a).born) qs
   asked_there (drained same rows u b c) = tt
@@ -211,7 +212,7 @@ module _ {test : Born → Bool} where
         qs (asked_there t),
   )
 
-  -- and is open where they begin to lead on
+  -- these objects are open before the requests
   pub asked_here : {qs : List Ask} {v w : Rows Row} → Leads test qs v w
       → Each (λ a. is_of_server (ask_id a) ≡ true → v.rows (ask_id a) ≡ Some (Open (asked_about a).born)) qs
   asked_here done = tt
@@ -236,8 +237,8 @@ module _ {test : Born → Bool} where
         qs (asked_here r),
   )
 
-  -- So no request that is not yet recorded is about the id of an object that an event makes whose
-  -- recording is next: what it is about was made before.
+  -- No request that is not yet recorded is about the id of an object that the next recorded event
+  -- makes, since the objects of requests were made before.
   pub unasked : (qs rs : List Ask) {fs : List Tell} {here common middle : Rows Row} {s : Rows Born} (n : Known)
       → Leads test rs here common → Tied test (qs ++ rs) s middle
       → NextTold common n → ReadsInFlight test fs (with_told common n.id (Open n.born)) middle
@@ -290,7 +291,7 @@ module _ {test : Born → Bool} where
           of_row x r le (inl q) = let k = ap (λ (y : Row). (birth_in y).number) q in omega (arith, le, k)
           of_row x r le (inr q) = let k = ap (λ (y : Row). (birth_in y).number) q in omega (arith, le, k)
 
-  -- ---- the client writes one action more
+  -- ---- the client writes one more action
 
   pub use_last : {qs : List Ask} {v w : Rows Row} (n : Known) → Leads test qs v w → w.rows n.id ≡ Some (Open n.born)
       → test n.born ≡ false → Leads test (qs ++ Use n ∷ []) v w
@@ -299,7 +300,7 @@ module _ {test : Born → Bool} where
   use_last n (make a r) h f = make a (use_last n r h f)
   use_last n (destroy z a b r) h f = destroy z a b (use_last n r h f)
 
-  -- requests lead to where one more makes an object
+  -- one more action makes an object
   pub make_last : {qs : List Ask} {v w : Rows Row} (n : Known) → Leads test qs v w → Fresh w n
       → Leads test (qs ++ Make n ∷ []) v (with_made w n.id (Open n.born))
   make_last n done g = make g done
@@ -307,7 +308,7 @@ module _ {test : Born → Bool} where
   make_last n (make a r) g = make a (make_last n r g)
   make_last n (destroy z a b r) g = destroy z a b (make_last n r g)
 
-  -- requests lead to where one more destroys an object
+  -- one more action destroys an object
   pub destroy_last : {qs : List Ask} {v w : Rows Row} (n : Known) → Leads test qs v w → w.rows n.id ≡ Some (Open n.born)
       → test n.born ≡ false → n.id ≢ 1
       → Leads test (qs ++ Destroy n ∷ []) v (at w n.id (Some (Ending n.born)))
@@ -331,7 +332,7 @@ module _ {test : Born → Bool} where
   reads_parted (e ∷ es) (delete z l a b r) = let p = reads_parted es r
       in record { between = p.between; first = delete z l a b p.first; then = p.then }
 
-  -- events lead from rows to just one set of rows
+  -- the rows that events lead to are unique
   pub reads_one_way : {es : List Tell} {v a b : Rows Row} → ReadsInFlight test es v a → ReadsInFlight test es v b
       → a ≡ b
   reads_one_way all_read all_read = refl

@@ -1,4 +1,4 @@
--- What a whole message does where requests are not yet recorded and events not yet read.
+-- What a whole message does, while requests are not yet recorded and events not yet read.
 use Rattle.std.proofs.Common.{◌≡◌, ℕ, Bool, true, false, List, [], ◌∷◌, ◌++◌, ◌⊎◌, map, ap}
 use Rattle.std.proofs.Common.{inl, inr, sym, ◌∙◌, subst, arith, ◌≢◌}
 use Rattle.std.proofs.lemmas.List.{append_assoc, append-nil}
@@ -25,7 +25,7 @@ use Rattle.theory_recording.specs.Leads.{Joins, Leads, done, use_, make, destroy
 use Rattle.theory_recording.proofs.LeadsByAction.{held_here, put_elsewhere, tell_elsewhere, told_here, use_last}
 use Rattle.theory_recording.proofs.LeadsByAction.{make_last, destroy_last, unasked}
 
--- what is known once a request is recorded
+-- what is known after a request is recorded
 pub record RecordsAsk (test : Born → Bool) (qs : List Ask) (here common : Rows Row) (x : Known) (xs : List Known)
     (n o : Option Known) : Type 0 where
   pub target : OpenRow here x
@@ -34,7 +34,7 @@ pub record RecordsAsk (test : Born → Bool) (qs : List Ask) (here common : Rows
   pub mortal : IfThere Mortal o
   pub rest : Leads test qs (client_ends o (client_makes here n)) common
 
--- what is known once an event is recorded
+-- what is known after an event is recorded
 pub record RecordsTell (test : Born → Bool) (qs : List Ask) (es fs : List Tell) (here client w : Rows Row) (x : Known)
     (xs : List Known) (n : Option Known) (after : Rows Row) : Type 0 where
   pub target : IsHeldInRows here x
@@ -52,7 +52,7 @@ other_born {o} test x n (inl h) a b t = let q : Some (Open x.born) ≡ Some (Ope
     in let s : x.born ≡ n.born = cc q in cc (sym t ∙ ap test s ∙ b)
 other_born {o} test x n (inr h) a b t = let q : Some (Ending x.born) ≡ Some (Open n.born) = sym h ∙ a in absurd (cc q)
 
--- an object of the client's range was counted at these rows
+-- an object was counted in these rows, if it is in the client's range
 abbrev pub Counted : Rows Row → Known → Type 0
 Counted v x = is_of_server x.id ≡ false → x.born.birth.number < v.births
 
@@ -99,7 +99,7 @@ module _ {test : Born → Bool} where
     reads = destroy_before x.id x.born m.reads h f;
   }
 
-  -- a request after those not yet recorded: the rows join again
+  -- one more request that is not yet recorded: the rows still join
   pub asks_more : {qs : List Ask} {es : List Tell} {here v : Rows Row} (x : Known) (xs : List Known)
       (n o : Option Known)
       → Joins test qs es here v → OpenRow v x → test x.born ≡ false → Each (OpenRow v) xs
@@ -136,7 +136,7 @@ module _ {test : Born → Bool} where
   new_off x xs (Some n) o h k (make g r) = let p = ends_off o r
       in record { target = h; args = k; new = g; mortal = p.1; rest = p.0 }
 
-  -- what the first of the requests that lead on names is open, and the others lead on after it
+  -- the objects that the first request names are open, and the other requests lead on after it
   pub ask_recorded : {qs : List Ask} {v w : Rows Row} (x : Known) (xs : List Known) (n o : Option Known)
       → Leads test ((Use x ∷ (map Use xs ++ (make_ask n ++ destroy_ask o))) ++ qs) v w
       → RecordsAsk test qs v w x xs n o
@@ -151,7 +151,7 @@ module _ {test : Born → Bool} where
   all_held_here [] r h l = tt
   all_held_here (x ∷ xs) r h l = (held_here x r h.0 l.0, all_held_here xs r h.1 l.1)
 
-  -- what has a destroying event is in no request that is not yet recorded
+  -- no request that is not yet recorded is about an object with a destroying event
   pub mortal_elsewhere : {qs : List Ask} {v w : Rows Row} (x : Known) → Leads test qs v w → IsHeldInRows v x
       → test x.born ≡ true → Each (λ a. ask_id a ≢ x.id) qs
   mortal_elsewhere x done h t = tt
@@ -163,12 +163,12 @@ module _ {test : Born → Bool} where
       let ne : x.id ≢ n.id = λ e. other_born test x n h (at_same v (sym e) a) b t in
       ((λ e. ne (sym e)), mortal_elsewhere x r (held_other v x n.id (Some (Ending n.born)) h ne) t)
 
-  -- a name changes nothing
+  -- reading a name changes nothing
   names_read : {v : Rows Row} (xs : List Known) → Each (IsHeldInRows v) xs → ReadsInFlight test (map Name xs) v v
   names_read [] h = all_read
   names_read (x ∷ xs) h = name h.0 (names_read xs h.1)
 
-  -- what an event makes is recorded
+  -- the part of an event that makes its new object is recorded
   makes_recorded : {qs : List Ask} {fs : List Tell} {here common w : Rows Row} (n : Option Known)
       → Leads test qs here common → IfThere (λ x. Each (λ a. ask_id a ≢ x.id) qs) n
       → ReadsInFlight test (make_tell n ++ fs) common w
@@ -193,7 +193,8 @@ module _ {test : Born → Bool} where
     r,
   )
 
-  -- no request that is not yet recorded is about the id of what the event makes that is recorded next
+  -- no request that is not yet recorded is about the id of an object that the next recorded event
+  -- makes
   pub unasked_event : (qs rs : List Ask) (fs : List Tell) {here common middle : Rows Row} {s : Rows Born} (x : Known)
       (xs : List Known) (n o : Option Known)
       → Leads test rs here common → Tied test (qs ++ rs) s middle
@@ -210,8 +211,8 @@ module _ {test : Born → Bool} where
       by_made None gs q = tt
       by_made (Some y) gs (made f g q) = unasked qs rs y l t g q below by
 
-  -- an event is recorded: what it names is held there, what it makes follows, and the meeting goes
-  -- on behind it
+  -- an event is recorded: its objects are held there, its new object is the server's next, and the
+  -- rows still join after it
   pub event_recorded : {qs : List Ask} {es fs : List Tell} {here client w : Rows Row} (x : Known) (xs : List Known)
       (n o : Option Known) (m : Joins test qs es here client)
       → ReadsInFlight test ((Name x ∷ (map Name xs ++ (make_tell n ++ ends o))) ++ fs) m.common w
@@ -236,7 +237,7 @@ module _ {test : Born → Bool} where
         rest = e.2;
       }
 
-  -- a delete is recorded: nothing asked and not yet recorded is about its id
+  -- a delete is recorded: no request that is not yet recorded is about its id
   pub delete_recorded : {qs : List Ask} {es fs : List Tell} {here client w : Rows Row} (x : Known)
       (m : Joins test qs es here client)
       → ReadsInFlight test (Delete x ∷ fs) m.common w → Counted here x

@@ -37,7 +37,7 @@ use Rattle.theory_recording.specs.Recorded.{Recorded}
 use Rattle.theory_recording.specs.Follows.{AllGoOn, KnownAs, Follows, knowledge, birth_places, places_of_making, entry_at}
 use Rattle.theory_recording.specs.Linked.{Linked, linked, judgements}
 
--- nothing was recorded
+-- if nothing was recorded, no message was judged
 none_judged : (limit : ℕ) (tables : List Interface) → judgements limit tables [] ≡ []
 unfolding merged_within judged_after
 none_judged limit tables = refl

@@ -40,7 +40,7 @@ one_with {e = e} P Q f o = record { call = o.call; is = o.is; own = o.own; other
 
 -- ---- to the server
 
--- the checker follows the ends, and what is asked and not yet recorded fits
+-- the checker follows the ends, and the requests that are not yet recorded fit
 abbrev Asking : List Interface → List Global → List (Coming Known) → Rows Row → List Remembered → List Judged
     → List (Message Known) → List (Message Known) → Type 0
 Asking tables given told_seen client remembered e seen later =
@@ -106,7 +106,7 @@ carry_to_server_links p w asked told most l s =
 
 -- ---- to the client
 
--- the checker follows the ends, and what is written to the client and not yet recorded fits
+-- the checker follows the ends, and the events that are not yet recorded fit
 abbrev Telling : List Interface → List Global → List (Message Known) → List (Coming Known) → Rows Row → List Remembered
     → List Judged → List (Coming Known) → List (Coming Known) → Type 0
 Telling tables given asked_later told client remembered e seen later =

@@ -1,4 +1,4 @@
--- What is linked was recorded lawfully.
+-- The recording of a linked pair is lawful.
 use Rattle.std.proofs.Common.{◌≡◌, ℕ, Bool, true, false, cond, List, nat_lt, slice_get, refl, sym, ap, subst}
 use Rattle.std.specs.declared.option.Option.{Option}
 use Rattle.std.specs.declared.option.Option.TheVariants.{None, Some}
@@ -22,14 +22,14 @@ if_none : (b : Bool) (o : Option Fault) → o ≡ None → cond b o None ≡ Non
 if_none true o e = e
 if_none false o e = refl
 
--- where all messages go on, none breaks a rule
+-- if the session goes on after each message, none breaks a rule
 pub all_lawful : (limit : ℕ) (tables : List Interface) (pieces : List Piece) → AllGoOn (judgements limit tables pieces)
     → IsLawful tables (session_of limit pieces)
 all_lawful limit tables pieces a k =
     let ms = messages tables (session_of limit pieces) in
     if_none (nat_lt k (examined ms)) (fault_of (slice_get ms k)) (no_fault ms a k (slice_get ms k) refl)
 
--- what a linked pair recorded up to its mark is lawful
+-- the recording of a linked pair, up to its mark, is lawful
 pub linked_lawful : (p : PairState) (w : World) → Linked p w
     → IsLawful p.server.core.tables (session_of (pair_limit p) (up_to p.ended_at p.recording))
 linked_lawful p w (ended e l) = subst (λ (o : Option ℕ). IsLawful p.server.core.tables
@@ -38,7 +38,7 @@ linked_lawful p w (linked asked told z l) =
     subst (λ (o : Option ℕ). IsLawful p.server.core.tables (session_of (pair_limit p) (up_to o p.recording))) (sym z.1)
     (all_lawful (pair_limit p) p.server.core.tables p.recording l.follows.passed)
 
--- whatever a checker answers of it, it says that the session is lawful
+-- any verdict of a checker on this recording says that the session is lawful
 pub check_says_lawful : (p : PairState) (w : World) → Linked p w → (verdict : Verdict)
     → IsVerdictOf p.server.core.tables (session_of (pair_limit p) (up_to p.ended_at p.recording)) verdict
     → SaysLawful verdict

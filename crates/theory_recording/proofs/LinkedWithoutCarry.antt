@@ -1,4 +1,4 @@
--- Each move that carries nothing keeps what is linked.
+-- Each move that carries nothing keeps a pair linked.
 use Rattle.std.proofs.Common.{◌≡◌, ℕ, ◌≤◌, Bool, true, false, List, [], ◌∷◌, ◌++◌, map, inl, inr}
 use Rattle.std.proofs.Common.{refl, sym, ap, subst, ◌∙◌, arith, ◌+◌, min, length}
 use Rattle.std.specs.Prelude.{option_map, Option}
@@ -61,7 +61,7 @@ use Rattle.theory_connection.proofs.Births.{counted_more}
 
 -- ---- nothing in flight changes
 
--- a pair is linked as before where only its world is another
+-- a pair stays linked if only its world changes
 pub again : (p : PairState) (w w' : World) (asked : List (Message Known)) (told : List (Coming Known))
     → LinkedBy p w asked told → StandsBy p w' asked told → LinkedBy p w' asked told
 again p w w' asked told l s = record {
@@ -132,7 +132,7 @@ asked_joins p m c asked_later told_seen here j =
       reads = subst (λ (x : Rows Row). ReadsInFlight test (all_tells told_seen) x more.common) (sym rows) more.reads;
     }
 
--- a pair stays linked when the client writes a request, which is not yet recorded
+-- a pair stays linked when the client writes a request; it is not yet recorded
 pub asked_links : (p : PairState) (w w' : World) (asked : List (Message Known)) (told : List (Coming Known))
     (m : Message Known) (c : CanAsk p m)
     → (is_bind request_side m.target.born.iface m.opcode ≡ true → BindsRemembered p.client.globals m.args)
@@ -173,11 +173,11 @@ more_counted births told news h below =
 below_more : (few many : Maker → ℕ) → ((k : Maker) → few k ≤ many k) → (t : Tell) → IsBelow few t → IsBelow many t
 below_more few many h t l = counted_more (about t).born.birth few many l h
 
--- how many births an end has counted, as its rows have them
+-- how many births an end has counted, from its rows
 abbrev counted_at : Objects → Maker → ℕ
 counted_at v = births_in (server_rows v)
 
--- a pair stays linked when the server writes, none of which is yet recorded
+-- a pair stays linked when the server writes; nothing of this is recorded yet
 pub told_links : (p : PairState) (w w' : World) (asked : List (Message Known)) (told : List (Coming Known))
     (view : Objects) (outbox : Outgoing) (registries : List Registry) (news : List (Coming Known))
     → ((k : Maker) → births_in (server_rows p.server.core.view) k ≤ births_in (server_rows view) k)
@@ -202,7 +202,7 @@ told_links p w w' asked told view outbox registries news rise below l s = record
 
 -- ---- the server reads
 
--- no count falls where an object is opened
+-- opening an object lowers no count
 opened_rise : (v : Objects) (id : ℕ) (iface : Iface) (version : ℕ) (k : Maker)
     → counted_at v k ≤ counted_at (opened_at v id iface version) k
 opened_rise v id iface version Client = births-rise v id iface version
@@ -215,7 +215,7 @@ closed_rise : (v : Objects) (id : ℕ) (k : Maker) → counted_at v k ≤ counte
 closed_rise v id Client = let e = births-closed v id in omega (arith, e)
 closed_rise v id Server = let e = ap (λ (c : Counts). c.births) (counts_closed v id) in omega (arith, e)
 
--- nor where a message makes this and ends that
+-- a message that makes n and ends o lowers no count
 births_kept : (v : Objects) (n o : Option Known) (k : Maker)
     → counted_at v k ≤ counted_at (ended_view event_side (opens v (option_map made_of n)) o) k
 births_kept v None None k = omega arith
@@ -259,11 +259,11 @@ request_links p w w' m ms told n whole there l s =
 
 -- ---- the client reads
 
--- a recorded event advertised it
+-- a recorded event advertised the global
 abbrev Advertised : PairState → Remembered → Type 0
 Advertised p g = IsAdvertised (knows p) g.name g.iface.0 g.version
 
--- a global that an event tells was advertised by it
+-- the global of an event was advertised by it
 told_advertised : (tables : List Interface) (given : List Global) (k : Knows) (m : Message Known)
     → TellsAdvertised tables k (Event m) → is_registry m.target.born ≡ true → m.opcode ≡ 0
     → (t : TellsGiven tables given m.args) → IsAdvertised k t.name t.iface.0 t.version
@@ -290,7 +290,7 @@ event_joins test m asked_later rest here v tables f j =
           (λ (x : Rows Row). ReadsInFlight test (all_tells rest) x j.common) (sym rows) t.rest;
     }
 
--- the client after the first of what comes, with this view and these globals
+-- the client after it read the first of what comes, with this view and these globals
 abbrev read_client : client.State → Coming Known → ℕ → Objects → List Remembered → Option Object → Option Object
     → client.State
 read_client st c n view globals made replaced = record {
@@ -305,8 +305,8 @@ read_client st c n view globals made replaced = record {
   replaced = replaced;
 }
 
--- A pair stays linked when the client reads the first of what comes, where its rows still join and
--- what it remembers is advertised.
+-- A pair stays linked when the client reads the first of what comes, if its rows still join and the
+-- globals that it remembers are advertised.
 coming_links : (p : PairState) (w w' : World) (asked : List (Message Known)) (c : Coming Known)
     (cs : List (Coming Known)) (n : ℕ) (view : Objects) (globals : List Remembered)
     (made replaced : Option Object)

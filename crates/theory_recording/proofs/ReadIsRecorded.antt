@@ -14,7 +14,7 @@ use Rattle.theory_recording.specs.Recorded.{Recorded}
 use Rattle.theory_recording.specs.Linked.{RecordedOf}
 use Rattle.theory_recording.proofs.RecordedCarry.{part_more}
 
--- ---- the first of what is in flight was recorded, where a whole message waits
+-- ---- the first message in flight was recorded, if a whole message waits
 
 pub record SeenFirst {X : Type 0} (m : X) (ms seen later : List X) : Type 0 where
   pub rest : List X
@@ -34,7 +34,7 @@ seen_first spell l d ps inbox taken n m ms (x ∷ rest) later e r whole =
     let others : ms ≡ rest ++ later = cc e in
     record { rest = rest; seen_is = ap (λ (y : _). y ∷ rest) first; others = others }
 
--- the inbox without it
+-- what is recorded and waits after the first message is read
 pub read_on : (l : ℕ) (d : Direction) (ps : List Piece) (inbox : Arrived) (taken n t : ℕ) (first : boxes.QueuedMessage)
     (rest : List boxes.QueuedMessage) → Recorded l d ps inbox taken (first ∷ rest)
     → n ≡ length first.bytes → t ≡ length first.tokens → t ≤ length inbox.tokens

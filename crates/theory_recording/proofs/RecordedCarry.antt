@@ -1,4 +1,4 @@
--- What a carry brings of the messages in flight, and what is recorded of them.
+-- Which messages in flight a carry brings, and how they are recorded.
 use Rattle.std.proofs.Common.{◌≡◌, ℕ, ◌+◌, ◌≤◌, false, List, [], ◌∷◌, ◌++◌, length, length-append}
 use Rattle.std.proofs.Common.{drop, map, refl, sym, ap, subst, ◌∙◌, arith}
 use Rattle.std.proofs.lemmas.List.{append_assoc, map-append, drop_at, drop-append-le}
@@ -24,7 +24,7 @@ use Rattle.theory_recording.specs.Follows.{knowledge}
 use Rattle.theory_recording.specs.Linked.{judgements}
 use Rattle.theory_recording.proofs.CompletedMessages.{KeepsOne, walk}
 
--- what follows the recorded messages is a part of one
+-- what follows the recorded messages is a part of the next
 pub part_more : (limit : ℕ) (d : Direction) (ps : List Piece) (inbox : Arrived) (taken : ℕ)
     (seen : List boxes.QueuedMessage)
     (r : Recorded limit d ps inbox taken seen) → front limit r.part ≡ More
@@ -37,7 +37,7 @@ part_more limit d ps inbox taken seen r =
 same_rest : (xs ys zs : List ℕ) → xs ++ ys ≡ xs ++ zs → ys ≡ zs
 same_rest xs ys zs e = sym (drop_at xs ys (length xs) refl) ∙ ap (drop (length xs)) e ∙ drop_at xs zs (length xs) refl
 
--- of the messages not yet recorded these are begun
+-- these messages, of those not yet recorded, are begun
 pub record Begun (limit : ℕ) (seen later others : List boxes.QueuedMessage) (begun : List boxes.QueuedMessage)
     (x left : List ℕ) : Type 0 where
   pub rest : List boxes.QueuedMessage
@@ -88,7 +88,7 @@ begun_behind limit (s ∷ seen) later (m ∷ begun) others x left e b w =
 
 -- ---- the other direction
 
--- what a carry in one direction leaves of what was recorded in the other
+-- a carry in one direction leaves what was recorded in the other
 pub recorded_other : (limit : ℕ) (tables : List Interface) (d y : Direction) (ps qs : List Piece) (bytes : List ℕ)
     (n : ℕ) (inbox : Arrived) (seen : List boxes.QueuedMessage) → Brings limit tables d ps qs bytes n
     → same_direction d y ≡ false → (knowledge tables (judgements limit tables qs)).taken y
@@ -110,7 +110,7 @@ recorded_other limit tables d y ps qs bytes n inbox seen b apart taken r =
 
 module _ {M : Type 0} (sp : M → boxes.QueuedMessage) (limit : ℕ) (tables : List Interface) (d : Direction)
     (ps qs : List Piece) (bytes : List ℕ) (n : ℕ) (F : List Judged → List M → List M → Type 0) where
-  -- what it brings is recorded, and what it completes keeps all rules
+  -- what a carry brings is recorded, and the messages that it completes keep all rules
   pub record CarryRecorded (inbox : Arrived) (seen later : List M) : Type 0 where
     pub fresh : List M
     pub still : List M
@@ -122,7 +122,7 @@ module _ {M : Type 0} (sp : M → boxes.QueuedMessage) (limit : ℕ) (tables : L
         ≡ (knowledge tables (judgements limit tables ps)).taken y
     pub next : F (judgements limit tables qs) (seen ++ fresh) still
 
-  -- What a carry brings is recorded, and each message that it completes keeps what one keeps.
+  -- This holds if each single message keeps all rules.
   pub carry_recorded : (from : Outgoing) (inbox inbox' : Arrived) (seen later : List M)
       → Brings limit tables d ps qs bytes n → KeepsOne sp limit tables d (λ x. stream_of x qs) (piece_tokens d ps + n) F
       → Recorded limit d ps inbox ((knowledge tables (judgements limit tables ps)).taken d) (map sp seen)

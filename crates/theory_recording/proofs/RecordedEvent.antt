@@ -60,9 +60,9 @@ use Rattle.wl_object_map.specs.declared.object.Maker.{Maker}
 use Rattle.wl_object_map.specs.declared.object.Maker.TheVariants.{Client, Server}
 use Rattle.wl_object_map.specs.Objects.{maker_of}
 
--- ---- where the client will read it
+-- ---- what holds when the client will read the event
 
--- what is in flight, and what of it was recorded
+-- what is in flight, and which of it was recorded
 pub record Whereabouts (tables : List Interface) (asked_seen asked_later : List (Message Known))
     (told : List (Coming Known)) (client : Rows Row) (server : Rows Born) : Type 0 where
   pub meet : MeetInMiddle (by_event tables) (all_tells told) (all_asks asked_seen ++ all_asks asked_later) client server
@@ -70,8 +70,8 @@ pub record Whereabouts (tables : List Interface) (asked_seen asked_later : List 
   pub made_by : (id : ℕ) (x : Born) → server.rows id ≡ Some x → x.birth.maker ≡ maker_of id
   pub display : client.rows 1 ≡ Some (Open display_born)
 
--- what is held where the checker and the client meet, and was counted by the server, was counted by
--- the checker if it is the client's
+-- the checker has counted an object of the client's range that is held where the checker and the
+-- client meet, and that the server has counted
 counted_here : (here common : Rows Row) (server : Rows Born)
     → ((id : ℕ) (r : Row) → common.rows id ≡ Some r → (birth_in r).maker ≡ maker_of id) → server.births ≤ here.births
     → (x : Known) → IsHeldInRows common x → IsAmongFirst (births_in server) x.born.birth → Counted here x
@@ -144,7 +144,7 @@ makes_nothing tables version (kind ∷ ks) (a ∷ args) e =
     let none = both_none (new_object_in a) (made_in args) e in
     rw (makes_none tables version kind a none.0, makes_nothing tables version ks args none.1) refl
 
--- what it advertises
+-- the global that the event advertises
 own_global : (tables : List Interface) (e : List Judged) (m : Message Known) (entry : Entry)
     (signature : sigs.MessageSignature)
     → entry.iface ≡ m.target.born.iface
@@ -233,7 +233,7 @@ event_one limit tables given asked_seen asked_later told client server remembere
 
 -- ---- a delete
 
--- the checker holds wl_display
+-- the checker has wl_display
 display_held : (tables : List Interface) (e : List Judged) (asked_later : List (Message Known))
     (seen : List (Coming Known)) (client : Rows Row) (remembered : List Remembered)
     (f : Follows tables e asked_later seen client remembered)

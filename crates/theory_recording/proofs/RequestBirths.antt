@@ -34,7 +34,7 @@ module _ {test : Born → Bool} where
   tied_births (destroy z l a b c t) = tied_births t
   tied_births (give_back l a b c t) = tied_births t
 
-  -- the recording is ahead of the server, which reads only what was recorded
+  -- the recording is ahead of the server, since the server reads only what was recorded
   pub recorded_first : {es fs : List Tell} (qs rs : List Ask) {here client common : Rows Row} {s : Rows Born}
       → Leads test rs here common → ReadsInFlight test es client common → MeetInMiddle test fs (qs ++ rs) client s
       → s.births ≤ here.births
