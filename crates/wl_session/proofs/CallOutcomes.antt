@@ -1,4 +1,4 @@
--- What a call of an end answers and leaves, as the pair does it: f puts the end into the pair.
+-- The result of an end's call, and what it leaves, as a call of the pair. f puts the end into it.
 use Rattle.std.proofs.Common.{◌≡◌, ℕ, Bool, true, false, cond, inl, inr, refl, sym, ap, ◌∙◌, subst}
 use Rattle.std.proofs.Common.{List, length, OnOk, OnErr, IsOk, IfOk, IfErr, IsErrAnd, is_some}
 use Rattle.std.specs.declared.option.Option.{Option}
@@ -72,7 +72,7 @@ pub binds : {S : Type 0} (f : S → PairState) (answer : Result (Option Object) 
 binds f answer before after now (Ok new) g ok err = accepts f answer true before after now (Some new) g ok
 binds f answer before after now (Err why) g ok err = refuses f answer true before after now why g err
 
--- ---- a call that answers no value
+-- ---- a call that returns no value
 
 pub calls : {S E : Type 0} (f : S → PairState) (refusal : Option E) (before after now : S)
     (result : Result (Unit {0}) E)
@@ -176,7 +176,7 @@ left_is before after (Err errors.Failed) h = refl
 left_is before after (Err errors.Memory) h = absurd (h refl)
 left_is before after (Err errors.OutFull) h = refl
 
--- memory was wanted: for the report, or to open an object
+-- memory was needed: for the report, or to open an object
 wanted : {R : Type 0} (needs : R → Bool) (reports opens : Bool) (answer : Result (Option R) NextError)
     (before after : PairState) → answers_with needs answer ≡ reports → IsOk answer → (reports || opens) ≡ true
     → Nexts needs opens answer before after (Err errors.Memory) before
@@ -200,14 +200,14 @@ nexts {S = S} {R = R} f needs opens answer before after now result never (inr k)
     (subst (λ (r : Result (Option R) NextError). Nexts needs opens answer (f before) (f after) r (f before)) (sym k.0)
     (wanted needs (answers_with needs answer) opens answer (f before) (f after) refl k.2 k.1))
 
--- where nothing is opened, memory was wanted for the report
+-- if nothing is opened, memory was needed for the report
 pub reports_alone : {R : Type 0} (needs : R → Bool) (answer result : Result (Option R) NextError)
     → AnswersOrMemory errors.Memory (answers_with needs answer) answer result
     → AnswersOrMemory errors.Memory (answers_with needs answer || false) answer result
 reports_alone needs answer result (inl e) = inl e
 reports_alone needs answer result (inr k) = inr (k.0, or_left (answers_with needs answer) false k.1, k.2)
 
--- ---- what a client's and a server's read answers
+-- ---- the results of a client's and a server's read
 
 client_found : (core : Core) (r : Result (Option Found) Fault) → front_answer events.client_role core r ≡ Err errors.Memory → ⊥
 client_found core (Err fault) h = cc h

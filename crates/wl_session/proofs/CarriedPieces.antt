@@ -23,7 +23,7 @@ use Rattle.theory_connection.specs.Pair.{Moved, Memory, moved, no_memory}
 use Rattle.theory_connection.proofs.Carries.{carry_fits, carry_whole, begun_few}
 use Rattle.wl_session.specs.Room.{HoldsInbox, filled}
 
--- ---- how much goes
+-- ---- how much is carried
 
 pub goes_is : (from to : Core) (most len nb nt : ℕ) (room : Amounts) → room ≡ in_room to → len ≡ min most room.bytes
     → nb ≡ len → nt ≡ room.tokens → goes from.outbox nb nt ≡ carries from to most
@@ -48,7 +48,7 @@ pub room_held : (bytes tokens : ℕ) (core : Core) (room : Amounts) → room ≡
 room_held bytes tokens core room r h = subst (λ (x : Amounts). Room bytes tokens x) (sym r)
     (room_at bytes tokens core core.failed refl h)
 
--- what fits into a room fits into places that hold it
+-- taking n of at least n places gives n
 pub all_taken : (n : ℕ) (places : List ℕ) → n ≤ length places → length (take n places) ≡ n
 all_taken n places h = omega (arith, length-take n places)
 
@@ -66,7 +66,7 @@ none_begun o n h =
     ap (λ (k : ℕ). length (all_tokens (begun k o.messages))) z
     ∙ ap (λ (ms : List QueuedMessage). length (all_tokens ms)) (begun_none o.messages)
 
--- no token goes without a byte
+-- no token is carried without a byte
 pub together : (from to : Core) (most : ℕ) (going : Amounts) → going ≡ carries from to most → going.bytes ≡ 0
     → going.tokens ≡ 0
 together from to most going g h =
@@ -74,7 +74,7 @@ together from to most going g h =
     let b : (carries from to most).bytes ≡ 0 = sym (ap (λ (t : Amounts). t.bytes) g) ∙ h in
     ap (λ (t : Amounts). t.tokens) g ∙ k.with_tokens ∙ none_begun from.outbox (carries from to most).bytes b
 
--- all that goes is taken in
+-- everything that is carried is taken in
 pub fed_whole : (from to : Core) (most : ℕ) (t : Amounts) → t ≡ carries from to most
     → feeds to (carried_bytes from t) (carried_tokens from t) ≡ t
 fed_whole from to most t e = subst (λ (x : Amounts). feeds to (carried_bytes from x) (carried_tokens from x)
@@ -88,7 +88,7 @@ gone_len : (from to : Core) (most : ℕ) (t : Amounts) → t ≡ carries from to
 gone_len from to most t e = subst (λ (x : Amounts). length (carried_bytes from x) ≡ x.bytes) (sym e)
     (carry_fits from to most).bytes_there
 
--- the room that was made is that of what goes
+-- the room that was made is as large as what is carried
 pub last_is : (from to : Core) (most : ℕ) (before prepared : List Piece) (direction : Direction) (t going : Amounts)
     → t ≡ carries from to most → going ≡ carries from to most
     → prepared ≡ before ++ passed direction (replicate going.bytes 0) going.tokens → 0 < t.bytes
@@ -100,7 +100,7 @@ last_is from to most before prepared direction t going e g p some =
     (omega (arith, zeros, same, some)) in
     sym same ∙ sym zeros ∙ sym last ∙ ap last_len (sym p)
 
--- zeros, and then the bytes over them, if there are any
+-- zeros, overwritten by the bytes, if there are any
 filled_is : (before : List Piece) (direction : Direction) (bytes : List ℕ) (tokens : ℕ)
     → (length bytes ≡ 0 → tokens ≡ 0)
     → filled (before ++ passed direction (replicate (length bytes) 0) tokens) bytes
@@ -232,7 +232,7 @@ goes_lengths from nb nt =
 pub lengths_are : (from : Core) (nb nt : ℕ) (t : Amounts) → t ≡ goes from.outbox nb nt → Lengths from t
 lengths_are from nb nt t e = subst (λ (x : Amounts). Lengths from x) (sym e) (goes_lengths from nb nt)
 
--- what is in the places that were written
+-- the places that were written have the first n values
 pub written : (n : ℕ) (waiting places before : List ℕ) → length (take n waiting) ≡ n
     → places ≡ take n waiting ++ drop n before → take n places ≡ take n waiting
 written n waiting places before l p = ap (take n) p ∙ written_over (take n waiting) (drop n before) n l

@@ -28,7 +28,7 @@ use Rattle.wl_server.specs.Requests as requests
 use Rattle.wl_server.specs.Announcing.{Due, Fitting, with_dues, owed_opcode, values_of, after_announce, owed}
 use Rattle.wl_session.specs.Room.{HoldsInbox}
 
--- one inbox holds as much as another
+-- the two inboxes can hold as much
 pub record AsLarge (a b : Arrived) : Type 0 where
   pub bytes : a.capacity ≡ b.capacity
   pub tokens : a.token_capacity ≡ b.token_capacity
@@ -94,7 +94,7 @@ next_server state false = read_box state (requests.request state)
 pub server_next_box : (state : server.State) → AsLarge (requests.after_next state).core.inbox state.core.inbox
 server_next_box state = next_server state state.core.failed
 
--- so what held it holds it still
+-- a bound on what an inbox can hold still holds
 pub holds : (bytes tokens : ℕ) (a b : Arrived) → AsLarge a b → HoldsInbox bytes tokens b → HoldsInbox bytes tokens a
 holds bytes tokens a b l h = record { bytes_fit = rw l.bytes h.bytes_fit; tokens_fit = rw l.tokens h.tokens_fit }
 

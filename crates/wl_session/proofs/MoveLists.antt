@@ -38,7 +38,7 @@ each_more : {X : Type 0} (P : X → Type 0) (xs : List X) (x : X) → Each P xs 
 each_more P [] x e p = (p, tt)
 each_more P (y ∷ xs) x e p = (e.0, each_more P xs x e.1 p)
 
--- what was done so far, and the next move
+-- the moves that were done so far, and the next one
 pub done_more : {X Y : Type 0} (f : X → world.Move) (g : Y → world.Reply) (p last next : PairState) (xs : List X)
     (i : ℕ) (x : X) (ys now : List Y) (y : Y) → i < length xs → x ≡ get_or xs i x → now ≡ ys ++ y ∷ []
     → DoesAll p (map f (take i xs)) (map g ys) last → Does last (f x) (g y) next

@@ -43,7 +43,7 @@ null_row view id s h = elim (place_of_id view s id) [
 neither : (c s : Option Entry) → c ≡ None → s ≡ None → AreSame c s
 neither c s e f = record { same = e ∙ sym f; live = λ x h. absurd (cc (e, h)) }
 
--- where the ids that were used have the same, all of the range have
+-- if the ids that were used have the same objects, all ids of the client's range have
 pub same_of_client : (client server : Objects) (most : ℕ) → ObjectsAreSound client → ObjectsAreSound server
     → ids_used Client client ≤ most → ids_used Client server ≤ most
     → ((q : ℕ) → 1 ≤ q → q < 1 + most → AreSame (look client q) (look server q))
@@ -78,7 +78,7 @@ same_at client server id most a high limit =
 
 -- ---- the server's range
 
--- two rows are the same where a test of each case says so
+-- two rows are the same if a test of each case says so
 
 pub both_are_live : (b : Bool) (c s : Option Entry) (d e : Entry) → c ≡ Some d → s ≡ Some e
     → IsTrue b ↔ ((d ≡ e) × (d.state ≡ states.Live)) → IsTrue b ↔ AreSameByServer c s
@@ -102,7 +102,7 @@ one_is_freed b c s d p q h = (
   ],
 )
 
--- what two rows tell, where they are the same
+-- what follows for two rows that are the same
 
 same_row : (c s : Option Entry) → AreSameByServer c s
     → (e : Entry) → (s ≡ Some e) ↔ ((c ≡ Some e) × (e.state ≡ states.Live))
@@ -139,7 +139,7 @@ zombie_is : (o : Option Entry) → zombie_in o ≡ true → (e : Entry) × ((o �
 zombie_is None h = absurd (cc h)
 zombie_is (Some e) h = (e, (refl, zombie_state e.state h))
 
--- an id that was used is among the freed ids exactly where it has no row
+-- an id that was used is among the freed ids, once, if it has no row
 listed_once : (view : View) (id : ℕ) → Sound view → 0 < id → id ≤ view.used → table.look view id ≡ None
     → times id view.freed ≡ 1
 listed_once view id s low high h = elim (place_of_id view s id) [
@@ -172,7 +172,7 @@ freed_in_server : (o : Objects) (id : ℕ) → is_of_server id ≡ true
     → is_freed o id ≡ ltb 0 (times (table_id id) o.server.freed)
 freed_in_server o id range = in_range-server (λ view place. ltb 0 (times place view.freed)) o id range
 
--- where the ids that were used have the same, all of the range have
+-- if the ids that were used have the same objects, all ids of the server's range have
 pub same_of_server : (client server : Objects) (used : ℕ) → ObjectsAreSound client → ObjectsAreSound server
     → used ≡ ids_used Server client → used ≡ ids_used Server server
     → next_birth Server client ≡ next_birth Server server
@@ -234,9 +234,9 @@ rows_of_server client server most s counted a id low high =
       | unused l t d ↦ absurd (omega (arith, low, high, counted, used, d))
     ]
 
--- ---- where no event makes an object
+-- ---- if no event makes an object
 
--- the objects are those that the client has
+-- the number of objects is the client's
 pub counts_client : (client server : Objects) → IsServerRangeNew server
     → object_count client server ≡ client_count client
 counts_client client server s =
