@@ -1,10 +1,10 @@
--- The bad line of an error is the first of its text.
+-- The line that an error names is the first bad line of the text.
 use Rattle.std.proofs.Common.{◌≡◌, ℕ, List, ap, ◌∙◌, sym, inl, inr, ◌⊎◌, subst}
 use Rattle.wl_recording.specs.declared.recording.RecordingError.{RecordingError}
 use Rattle.wl_recording.specs.declared.recording.RecordingError.TheVariants.{BadLine, Memory}
 use Rattle.wl_recording.specs.Text.{IsFirstBad}
 
--- the line that an error names, or 0 where it names none
+-- the line that an error names; 0 if it names none
 abbrev line_in : RecordingError → ℕ
 line_in (BadLine n) = n
 line_in Memory = 0

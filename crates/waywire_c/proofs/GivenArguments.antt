@@ -1,4 +1,4 @@
--- The arguments of a call, one after the other.
+-- The arguments of a call, one after another.
 use mathlib.Core.Path.{ap}
 use Rattle.std.proofs.Common.{◌≡◌, ◌≤◌, ◌∙◌, arith, refl, sym, List, [], ◌∷◌, ◌++◌, Some, None, length, take}
 use Rattle.std.proofs.lemmas.List.{take_all}
@@ -8,7 +8,7 @@ use Rattle.wl_objects.specs.Writing.{Given}
 use Rattle.waywire_c.specs.declared.values.CallArg.{CallArg}
 use Rattle.waywire_c.specs.Values.{all_given, given_before, given_by, given_in}
 
--- what is given so far, before what is left
+-- the arguments so far, followed by the rest
 abbrev pub ahead : List Given → Option (List Given) → Option (List Given)
 ahead front None = None
 ahead front (Some more) = Some (front ++ more)
@@ -18,11 +18,11 @@ pub ahead-one : (front : List Given) (given : Given) (more : Option (List Given)
 ahead-one front given None = refl
 ahead-one front given (Some more) = ap Some (sym (append_assoc front (given ∷ []) more))
 
--- where there are few arguments, all of them are looked at
+-- if there are few arguments, all of them are looked at
 pub few_given : (args : List CallArg) → length args ≤ 6 → all_given (take 6 args) ≡ given_in args
 few_given args few = ap all_given (take_all 6 args few ∙ sym (take_all 21 args (omega (arith, few))))
 
--- so what holds of these holds of those that are looked at
+-- so what holds for the first 6 holds for all that are looked at
 pub when_few : (args : List CallArg) (holds : List Given → Type 0) → length args ≤ 6
     → IfSome (all_given (take 6 args)) holds → IfSome (given_in args) holds
 when_few args holds few so = rw (few_given args few) at so

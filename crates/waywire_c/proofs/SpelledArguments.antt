@@ -1,4 +1,4 @@
--- Arguments that a body spells: one more, and all or the first at fault.
+-- Arguments that a body spells: one more; then all of them, or those up to the first fault.
 use Rattle.std.proofs.Common.{◌≡◌, ℕ, suc, ◌+◌, ◌-◌, ◌<◌, ◌≤◌, refl, sym, ap, ◌∙◌, subst, arith, List, []}
 use Rattle.std.proofs.Common.{◌∷◌, ◌++◌, length, map, take, drop, set, get_or, append_assoc, drop-cons, Some, None}
 use Rattle.std.specs.Prelude.{min}
@@ -29,7 +29,7 @@ spelled-count : {ks : List Kind} {vs : List Argument} {b : List ℕ} → SpellsA
 spelled-count (spelling.none e) = refl
 spelled-count (spelling.more h t e) = ap suc (spelled-count t)
 
--- What is spelled so far is in the first slots, and the other slots stay.
+-- The arguments spelled so far are written to the first slots; the other slots stay.
 pub record So (kinds : List Kind) (body : List ℕ) (place len : ℕ) (before slots : List ReportArg) : Type 0 where
   pub values : List Argument
   pub front : SpellsAll (take place kinds) values (take len body)
@@ -50,7 +50,7 @@ so-none kinds body before = record {
   left = refl;
 }
 
--- the bytes from a place on, as a slice has them
+-- the bytes from a place on, as the code borrows them
 pub rest-is : (body : List ℕ) (len : ℕ) → take (length body - len) (drop len body) ≡ drop len body
 rest-is body len = take_all (length body - len) (drop len body) (omega (arith, length-drop len body))
 

@@ -1,4 +1,4 @@
--- One more argument of a report is written.
+-- Writing one more argument of a report.
 use Rattle.std.proofs.Common.{◌≡◌, ℕ, ◌+◌, ◌<◌, sym, ap, ◌∙◌, arith, List, [], ◌∷◌, ◌++◌, length, map, take, drop, set}
 use Rattle.std.proofs.lemmas.List.{length-drop, drop_more, take_more, take_more_set, drop-set, drop-set-lt, map-append}
 use Rattle.std.proofs.lemmas.Grind.{common_steps}
@@ -24,7 +24,7 @@ next-taken all place got rest e =
     let taken = take_more all place got lt in
     grind (arith, common_steps, e, more, taken)
 
--- what is written so far, and what is left
+-- the arguments that were written so far, and those that are left
 abbrev pub Telling : List Reported → List ReportArg → ℕ → List Reported → List ReportArg → Type 0
 Telling all before place left slots =
     (length slots ≡ length before)

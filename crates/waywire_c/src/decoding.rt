@@ -188,7 +188,7 @@ fn put_body(
     spelled_outcome(fault)
 }
 
-/// The messages that a side sends to, or of, an interface at this version.
+/// The requests or events, depending on the side, of an interface at this version.
 #[derive(Clone, Copy)]
 struct MessageSet<'t> {
     tables: &'t Tables,
@@ -267,9 +267,9 @@ fn put_front(
     put_message(set, header, body, decoded, args)
 }
 
-/// Decodes the message at the front of bytes, which a sender writes to, or of, an interface at this
-/// version. Writes what precedes its arguments to `decoded`, and the arguments to the front of
-/// `args`, which has room for as many as a message may have.
+/// Decodes the message at the front of bytes: a request or an event, depending on the sender, of an
+/// interface at this version. Writes what precedes its arguments to `decoded`, and the arguments to
+/// the front of `args`, which has room for as many as a message may have.
 #[unsafe(no_mangle)]
 pub extern "C" fn waywire_c_tables_decode(
     tables: TablesHandle,

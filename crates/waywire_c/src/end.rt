@@ -26,7 +26,7 @@ use crate::statuses::{NOT_FOUND, OK};
 use crate::values::{CAmounts, CObject, CParts, CallArg, ReportArg, maker};
 use wl_connection::End;
 
-/// Frees an end, and what it lends.
+/// Frees an end, and what was borrowed from it.
 #[unsafe(no_mangle)]
 pub extern "C" fn waywire_c_end_free(end: EndHandle) {
     drop(end.opened());
@@ -185,8 +185,8 @@ pub extern "C" fn waywire_c_end_take(
     *taken = CAmounts::of(end.get_mut().take(bytes, tokens));
 }
 
-/// Writes to `parts` where the bytes lie that can go at one time, and to `tokens` how many tokens
-/// go with the first byte.
+/// Writes to `parts` where the bytes that can be sent at one time are, and to `tokens` how many
+/// tokens go with the first byte.
 #[unsafe(no_mangle)]
 pub extern "C" fn waywire_c_end_peek(end: &mut EndHandle, parts: &mut CParts, tokens: &mut usize)
     ensures peeked { Peeks (core_of end.old.held).outbox

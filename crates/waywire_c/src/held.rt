@@ -1,4 +1,4 @@
-//! What handles lead to. Each is a type of its own, so that a handle's proofs name it in a word.
+//! The targets of handles. Each has its own type, so a handle's proofs can name it in one word.
 use std::io::{Read, Write};
 use wl_check::{Follower, Inspector};
 use wl_client::Client;

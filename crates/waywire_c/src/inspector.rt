@@ -39,7 +39,7 @@ pub extern "C" fn waywire_c_inspector_new(
     }
 }
 
-/// Frees an inspector, and what it lends.
+/// Frees an inspector, and what was borrowed from it.
 #[unsafe(no_mangle)]
 pub extern "C" fn waywire_c_inspector_free(inspector: InspectorHandle) {
     drop(inspector.opened());

@@ -26,8 +26,8 @@ pub struct CPiece {
     pub number: usize,
 }
 
-/// Reads up to the end of the next piece's line in a text, of which this is left after as many
-/// lines as `number` says. The piece's bytes are written to the front of `bytes`, if they fit.
+/// Reads a recording's text up to the end of the next piece's line. `text` is the rest of it after
+/// the first `number` lines. The piece's bytes are written to the front of `bytes`, if they fit.
 #[unsafe(no_mangle)]
 pub extern "C" fn waywire_c_recording_next(
     alloc: Global,

@@ -12,8 +12,8 @@ use crate::statuses::{BAD_VALUE, OK, send_place, send_status};
 use crate::values::{CObject, CallArg, MAX_GIVEN, put_args};
 use wl_objects::{Arg, Object, SendError};
 
-/// The number of arguments of a call with few, as most have: only this many slots are initialised
-/// for it.
+/// The most arguments of a call with few arguments, as most calls are: only this many slots are
+/// initialised for it.
 const FEW: usize = 6;
 
 /// The contents of a slot before an argument is put in.

@@ -13,8 +13,8 @@ use wl_message::{Amounts, Limit, Peek, Sizes};
 use wl_objects::{Arg, GotRef, Maker, Named, Object};
 use wl_wire::Fixed;
 
-/// The most arguments of a call that are looked at: one more than any message has, so that a call
-/// with too many is refused for that.
+/// How many arguments of a call are looked at: one more than any message has, so that a call with
+/// too many is refused for their number.
 pub const MAX_GIVEN: usize = 21;
 
 /// The kind of an argument. A call takes those up to `FD`. `DEAD_OBJECT` and `BOUND` occur only in
@@ -243,7 +243,7 @@ pub fn start_of(bytes: &[u8]) -> *const u8 {
     }
 }
 
-/// Where a text begins; if it is empty, a NUL elsewhere, so never null.
+/// Where a text begins. For an empty text this is a NUL elsewhere, so it is never null.
 #[inline(always)]
 pub fn start_of_text(text: &[u8]) -> *const u8 {
     match text.first() {

@@ -6,7 +6,7 @@ use Rattle.waywire_c.specs.Inspecting.{direction_of}
 use Rattle.waywire_c.specs.declared.held.HeldInspector.{HeldInspector}
 use Rattle.waywire_c.proofs.followed.waywire_c_inspector_ahead.Goals as goal
 
--- the sender has this direction, and the message that is written is its next
+-- the sender has this direction, and the message that is written is the next one in it
 pub returns-in-Some-ahead-clause-told : goal.returns-in-Some-ahead-clause-told
 returns-in-Some-ahead-clause-told c =
     let way : direction_of c.args.sender ≡ Some c.in-Some.direction = sym c.direction_of.ensures ∙ c.in-Some.is in

@@ -7,7 +7,7 @@ use Rattle.waywire_c.specs.Inspecting.{direction_of}
 use Rattle.waywire_c.specs.declared.held.HeldInspector.{HeldInspector}
 use Rattle.waywire_c.proofs.inspector.waywire_c_inspector_pass.Goals as goal
 
--- the sender has this direction, and what passed did so at what the handle holds
+-- the sender has this direction, and the piece passed the inspector of the handle
 pub returns-in-Ok-clause-passed : goal.returns-in-Ok-clause-passed
 returns-in-Ok-clause-passed c = λ done.
     let way : direction_of c.args.sender ≡ Some c.in-Some.direction = sym c.direction_of.ensures ∙ c.in-Some.is in

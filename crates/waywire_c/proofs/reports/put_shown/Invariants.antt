@@ -3,7 +3,7 @@ use Rattle.wl_objects.specs.Parsed.{seen_args}
 use Rattle.waywire_c.specs.Reports.{arg_told, arg_told_by}
 use Rattle.waywire_c.proofs.reports.put_shown.Given as goal
 
--- the arguments so far are written, the others are left, and so are the places after them
+-- the arguments so far are written; the other arguments are left, and the other slots stay
 abbrev pub invariant-places : goal.invariant-places
 invariant-places l =
     (length l.slots ≡ length l.fn.slots)

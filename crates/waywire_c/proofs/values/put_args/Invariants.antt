@@ -4,7 +4,7 @@ use Rattle.waywire_c.specs.Values.{all_given}
 use Rattle.waywire_c.proofs.GivenArguments.{ahead}
 use Rattle.waywire_c.proofs.values.put_args.Given as goal
 
--- what is given so far, before what is left, is all that is given
+-- the arguments so far, followed by the rest, are all arguments
 abbrev pub invariant-places : goal.invariant-places
 invariant-places l =
     (length l.slots ≡ length l.fn.slots)

@@ -1,4 +1,4 @@
--- `get_mut` lends what the handle holds, and the handle follows it.
+-- `get_mut` borrows the handle's target, and the handle then leads to what the borrower left.
 use mathlib.Core.Path.{◌≡◌, refl}
 use Prim.Native.Nat.{ℕ}
 use mathlib.Core.List.{List, [], ◌∷◌}
@@ -82,7 +82,7 @@ module _ {M : Type 1} {𝓤 : Ura M} (𝓛 : Logic 𝓤) (at_mem : Memory → SP
     boxed_with w = record { ptr = h.ptr; alloc = h.alloc; value = w }
 
     module _ (b o : ℕ) (hv : Val) where
-      -- all of the handle but what it holds
+      -- all that the handle owns except its target
       abbrev Rest : Fml
       Rest = fsep (fsep (token E.al h.alloc (bare (τ E)) (block_ptr b o)) (handle E h.alloc hv))
           (cell_at full_share H'.mir (word E hv b o ∷ []) rb ro)

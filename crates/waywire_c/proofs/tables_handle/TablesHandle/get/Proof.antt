@@ -1,4 +1,4 @@
--- `get` lends what the handle holds, which is lent for good, for as long as is asked.
+-- `get` borrows the handle's target for any lifetime, since the handle holds a `&'static` to it.
 use mathlib.Core.Path.{◌≡◌, refl, sym, subst}
 use mathlib.Core.List.{List, [], ◌∷◌, ◌++◌}
 use seplogic.Ra.Ura.{Ura}
