@@ -1,3 +1,4 @@
+mod FileLines
 mod Fronts
 mod Opening
 mod Texts

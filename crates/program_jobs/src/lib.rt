@@ -8,6 +8,7 @@ mod acting;
 mod failure;
 mod folder;
 mod hint;
+pub mod laws;
 mod running;
 mod socket;
 mod tables;
