@@ -84,21 +84,22 @@ pub fn send(end: &mut HeldEnd, call: &Call<'_, '_>, made: &mut CObject, place: &
     if call.args.len() <= FEW {
         return put_call(end, call, &mut [BLANK; FEW], made, place);
     }
-    send_long(end, call, made, place)
+    send_long(end, *call, made, place)
 }
 
-/// As `send`, for a call with any number of arguments.
+/// As `send`, for a call with any number of arguments. It takes a copy of the call, so that a call
+/// with few arguments need not be in memory.
 #[inline(never)]
-fn send_long(end: &mut HeldEnd, call: &Call<'_, '_>, made: &mut CObject, place: &mut usize) -> u32
-    ensures answer { SendTells (core_of end.old) (writes end.old) call.now.target
-        call.now.opcode (given_in call.now.args.now) result (object_from_c made.old)
+fn send_long(end: &mut HeldEnd, call: Call<'_, '_>, made: &mut CObject, place: &mut usize) -> u32
+    ensures answer { SendTells (core_of end.old) (writes end.old) call.entry.target
+        call.entry.opcode (given_in call.entry.args.now) result (object_from_c made.old)
         (object_from_c made.new) place.old place.new }
     ensures state { result ≡ 0
-        → IfSome (given_in call.now.args.now) (λ given. end.new ≡ end_with_core end.old
-        (after_send (core_of end.old) (writes end.old) call.now.target call.now.opcode given)) }
+        → IfSome (given_in call.entry.args.now) (λ given. end.new ≡ end_with_core end.old
+        (after_send (core_of end.old) (writes end.old) call.entry.target call.entry.opcode given)) }
     ensures unchanged { result ≢ 0 → end.new ≡ end.old }
 {
-    put_call(end, call, &mut [BLANK; MAX_GIVEN], made, place)
+    put_call(end, &call, &mut [BLANK; MAX_GIVEN], made, place)
 }
 
 /// As `send`, using these slots for as many arguments as there are slots.
