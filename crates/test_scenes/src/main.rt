@@ -59,7 +59,7 @@ fn read_tables(rt: &HostRuntime, name: &str) -> io::Result<Option<Tables>> {
     match Tables::core(rt.alloc())?.read_more(&text) {
         Ok(tables) => Ok(Some(tables)),
         Err(_) => {
-            say_unread(rt, name, "no text of tables")?;
+            say_unread(rt, name, "not a table text")?;
             Ok(None)
         }
     }
