@@ -11,7 +11,7 @@ use Rattle.wl_object_map.specs.declared.object.Entry.{Entry}
 use Rattle.wl_object_map.specs.declared.object.State.TheVariants.{Live}
 use Rattle.wl_objects.specs.Messages.{NewObject, ended_id, is_error}
 use Rattle.wl_recording.specs.declared.piece.Direction.{Direction}
-use Rattle.wl_check.specs.Merged.{mark, framed, same_direction}
+use Rattle.wl_check.specs.Merged.{span, framed, same_direction}
 use Rattle.wl_check.specs.Changes.{Call, changes, destroyed_id, side_of}
 use Rattle.wl_check.specs.Places.{is_id, is_made, frees, made_entry, new_of, used_by, unless_deleted}
 use Rattle.wl_check.specs.Places.{server_used_by}
@@ -38,7 +38,7 @@ pub record One (limit : ℕ) (tables : List Interface) (d : Direction) (stream :
     (sent : boxes.QueuedMessage)
     (e : List Judged) (Next : List Judged → Type 0) : Type 0 where
   pub call : Call
-  pub is : judged limit tables (knowledge tables e) stream (framed d t (mark p (length sent.bytes))) ≡ Ok call
+  pub is : judged limit tables (knowledge tables e) stream (framed d t (span p (length sent.bytes))) ≡ Ok call
   pub own : (knowledge tables (e ++ Ok call ∷ [])).taken d ≡ (knowledge tables e).taken d + length sent.tokens
   pub other : (x : Direction) → same_direction d x ≡ false
       → (knowledge tables (e ++ Ok call ∷ [])).taken x ≡ (knowledge tables e).taken x

@@ -13,7 +13,7 @@ use Rattle.wl_message.specs.Outgoing.{all_bytes, all_tokens}
 use Rattle.wl_message.proofs.Cuts.{front_message, whole_stays, bad_stays, front_none}
 use Rattle.wl_message.proofs.Fronts.{front_stands}
 use Rattle.wl_recording.specs.declared.piece.Direction.{Direction}
-use Rattle.wl_check.specs.Merged.{mark, Cutting, cutting, cut_at, same_direction, framed}
+use Rattle.wl_check.specs.Merged.{span, Cutting, cutting, cut_at, same_direction, framed}
 use Rattle.wl_check.specs.Session.{Judged, judged_after}
 use Rattle.wl_check.proofs.MessagesOfStream.{step}
 use Rattle.theory_connection.specs.World.{Each}
@@ -77,12 +77,12 @@ module _ {M : Type 0} (sp : M → boxes.QueuedMessage) (limit : ℕ) (tables : L
     pub sound : c.has_bad_size ≡ false
     pub rest : drop c.place (streams d) ≡ part
     pub bytes : all_bytes (map sp fresh) ++ part ≡ x
-    pub own : (knowledge tables (judged_after limit tables streams e (map (framed d t) c.marks))).taken d
+    pub own : (knowledge tables (judged_after limit tables streams e (map (framed d t) c.spans))).taken d
         ≡ (knowledge tables e).taken d + length (all_tokens (map sp fresh))
     pub other : (y : Direction) → same_direction d y ≡ false
-        → (knowledge tables (judged_after limit tables streams e (map (framed d t) c.marks))).taken y
+        → (knowledge tables (judged_after limit tables streams e (map (framed d t) c.spans))).taken y
         ≡ (knowledge tables e).taken y
-    pub next : F (judged_after limit tables streams e (map (framed d t) c.marks)) (seen ++ fresh) still
+    pub next : F (judged_after limit tables streams e (map (framed d t) c.spans)) (seen ++ fresh) still
 
   -- only a part of the next message is there
   stops : (e : List Judged) (seen later : List M) (p : ℕ) (x : List ℕ) → F e seen later → drop p (streams d) ≡ x
@@ -90,7 +90,7 @@ module _ {M : Type 0} (sp : M → boxes.QueuedMessage) (limit : ℕ) (tables : L
       → Walked e seen later x (cutting limit (length (streams d)) (streams d) p)
   unfolding judged_after
   stops e seen later p x f at within more =
-      let here : cutting limit (length (streams d)) (streams d) p ≡ record { marks = []; place = p; has_bad_size = false } =
+      let here : cutting limit (length (streams d)) (streams d) p ≡ record { spans = []; place = p; has_bad_size = false } =
       step limit (length (streams d)) (streams d) p within (omega arith)
       ∙ ap (λ (o : Front). cut_at p o (cutting limit (length (streams d)) (streams d)))
       (ap (front limit) at ∙ more) in
@@ -121,13 +121,13 @@ module _ {M : Type 0} (sp : M → boxes.QueuedMessage) (limit : ℕ) (tables : L
       let found : front limit (drop p (streams d)) ≡ Whole size =
       ap (front limit) (at ∙ is) ∙ front_message limit (sp m).bytes rest whole in
       let here : cutting limit (length (streams d)) (streams d) p
-      ≡ record { marks = mark p size ∷ c.marks; place = c.place; has_bad_size = c.has_bad_size } =
+      ≡ record { spans = span p size ∷ c.spans; place = c.place; has_bad_size = c.has_bad_size } =
       step limit (length (streams d)) (streams d) p within (omega arith)
       ∙ ap (λ (f : Front). cut_at p f (cutting limit (length (streams d)) (streams d))) found in
       let e' = e ++ Ok o.call ∷ [] in
-      let after : judged_after limit tables streams e (map (framed d t) (mark p size ∷ c.marks))
-      ≡ judged_after limit tables streams e' (map (framed d t) c.marks) =
-      ap (λ (j : Judged). judged_after limit tables streams (e ++ j ∷ []) (map (framed d t) c.marks)) o.is in
+      let after : judged_after limit tables streams e (map (framed d t) (span p size ∷ c.spans))
+      ≡ judged_after limit tables streams e' (map (framed d t) c.spans) =
+      ap (λ (j : Judged). judged_after limit tables streams (e ++ j ∷ []) (map (framed d t) c.spans)) o.is in
       subst (Walked e seen (m ∷ later) x) (sym here) (record {
         fresh = m ∷ w.fresh;
         still = w.still;
@@ -141,7 +141,7 @@ module _ {M : Type 0} (sp : M → boxes.QueuedMessage) (limit : ℕ) (tables : L
             ∙ (let a = o.own in omega (arith, a, length-append (sp m).tokens (all_tokens (map sp w.fresh))));
         other = λ y other. ap (λ (j : List Judged). (knowledge tables j).taken y) after ∙ w.other y other
             ∙ o.other y other;
-        next = subst (λ (s : List M). F (judged_after limit tables streams e (map (framed d t) (mark p size ∷ c.marks)))
+        next = subst (λ (s : List M). F (judged_after limit tables streams e (map (framed d t) (span p size ∷ c.spans)))
             s w.still) (append_assoc seen (m ∷ []) w.fresh)
             (subst (λ (j : List Judged). F j ((seen ++ m ∷ []) ++ w.fresh) w.still) (sym after) w.next);
       })

@@ -18,7 +18,7 @@ use Rattle.wl_objects.specs.Reading.{Reader}
 use Rattle.wl_objects.specs.Writing.{spelled as spelled_values, message_len}
 use Rattle.wl_objects.proofs.Wholes.{length-message, length-spelled}
 use Rattle.wl_recording.specs.declared.piece.Direction.{Direction}
-use Rattle.wl_check.specs.Merged.{mark, framed}
+use Rattle.wl_check.specs.Merged.{span, framed}
 use Rattle.wl_check.specs.Changes.{Call, side_of}
 use Rattle.wl_check.specs.Places.{KnownAtPlace as Knows}
 use Rattle.wl_check.specs.Rules.{reader_by, called, judged, judged_message, is_disallowed_bind}
@@ -75,7 +75,7 @@ pub frame_called : (limit : ℕ) (tables : List Interface) (k : Knows) (d : Dire
     → Each (Finds (side_of d) (reader_by tables k d)) m.args
     → k.taken d + length (tokens m.args) ≤ t
     → is_disallowed_bind tables k (side_of d) m.opcode (call_as d m o.entry f.signature).received ≡ false
-    → judged limit tables k stream (framed d t (mark p (length (spelled_meant m).bytes)))
+    → judged limit tables k stream (framed d t (span p (length (spelled_meant m).bytes)))
     ≡ Ok (call_as d m o.entry f.signature)
 frame_called limit tables k d m stream more p t o f none whole e args w good =
     let vs = map wire m.args in
@@ -86,9 +86,9 @@ frame_called limit tables k d m stream more p t o f none whole e args w good =
     let enough : length (tokens m.args) ≤ t - k.taken d = omega (arith, w) in
     let read = received_by_any tables (side_of d) (reader_by tables k d) m header
     (t - k.taken d) o f none q.object q.opcode_is args enough in
-    let whole_one = judged_message tables k (framed d t (mark p n)) header (take (n - 8) (drop (p + 8) stream)) in
+    let whole_one = judged_message tables k (framed d t (span p n)) header (take (n - 8) (drop (p + 8) stream)) in
     ap (λ (b : Bool). cond b whole_one (Err BadSize)) size
-    ∙ ap (judged_message tables k (framed d t (mark p n)) header) (body_is m stream more p e)
+    ∙ ap (judged_message tables k (framed d t (span p n)) header) (body_is m stream more p e)
     ∙ ap (called tables k d header.opcode) read
     ∙ ap (λ (opcode : ℕ). called tables k d opcode (Ok (call_as d m o.entry f.signature).received)) q.opcode_is
     ∙ rw good refl

@@ -13,7 +13,7 @@ use Rattle.wl_recording.specs.Piece.{Piece}
 use Rattle.wl_check.specs.Merged.{Cutting, cut, cutting, framed, same_direction, stream_of, piece_tokens}
 use Rattle.wl_check.specs.Session.{Judged, judged_after}
 use Rattle.wl_check.proofs.LastBytes.{why}
-use Rattle.wl_check.proofs.MessagesOfStream.{new_marks, fed_good, place_within}
+use Rattle.wl_check.proofs.MessagesOfStream.{new_spans, fed_good, place_within}
 use Rattle.wl_check.proofs.PiecesOfCarry.{Brings}
 use Rattle.theory_connection.specs.World.{Each}
 use Rattle.theory_connection.specs.Stands.{InFlight}
@@ -159,19 +159,19 @@ module _ {M : Type 0} (sp : M → boxes.QueuedMessage) (limit : ℕ) (tables : L
       let w = walk sp limit tables d streams t F one later g.rest from.messages e seen place x from.left f at inside
       g.later_is g.bytes g.whole (omega (arith, account)) in
       let c = cutting limit (length (streams d)) (streams d) place in
-      let marks : drop (length (cut limit s).marks) (cut limit (s ++ bytes)).marks ≡ c.marks =
-      new_marks limit s bytes ∙ rw r.sound (ap (λ (l : List ℕ). (cutting limit (length l) l place).marks)
+      let spans : drop (length (cut limit s).spans) (cut limit (s ++ bytes)).spans ≡ c.spans =
+      new_spans limit s bytes ∙ rw r.sound (ap (λ (l : List ℕ). (cutting limit (length l) l place).spans)
       (sym brings.own)) in
-      let judged_is : judgements limit tables qs ≡ judged_after limit tables streams e (map (framed d t) c.marks) =
-      brings.judged ∙ ap (λ ms. judged_after limit tables streams e (map (framed d t) ms)) marks in
+      let judged_is : judgements limit tables qs ≡ judged_after limit tables streams e (map (framed d t) c.spans) =
+      brings.judged ∙ ap (λ ms. judged_after limit tables streams e (map (framed d t) ms)) spans in
       let whole : cut limit (streams d) ≡ record {
-        marks = (cut limit s).marks ++ c.marks;
+        spans = (cut limit s).spans ++ c.spans;
         place = c.place;
         has_bad_size = c.has_bad_size;
       } =
       ap (cut limit) brings.own ∙ fed_good limit s bytes r.sound
       ∙ ap (λ (l : List ℕ). (let y = cutting limit (length l) l place
-      in record { marks = (cut limit s).marks ++ y.marks; place = y.place; has_bad_size = y.has_bad_size })) (sym brings.own) in
+      in record { spans = (cut limit s).spans ++ y.spans; place = y.place; has_bad_size = y.has_bad_size })) (sym brings.own) in
       record {
         fresh = w.fresh;
         still = w.still;

@@ -7,9 +7,9 @@ use Rattle.std.proofs.lemmas.List.{length-drop, get_or_append_left, drop-append-
 use Rattle.wl_message.specs.Cut.{is_size, told_size, front, Front, More, Bad, Whole, cut_within, messages_in_stream}
 use Rattle.wl_message.proofs.Fronts.{Seen, short, long, whole, bad, seen, front_stands, is_size-true}
 use Rattle.wl_message.proofs.Cuts.{front_spoiled}
-use Rattle.wl_check.specs.Merged.{Mark, mark, cutting, cut_at, cut, finish}
+use Rattle.wl_check.specs.Merged.{Span, span, cutting, cut_at, cut, finish}
 use Rattle.wl_check.specs.Text.{part_of, sound, Brings}
-use Rattle.wl_check.proofs.MessagesOfStream.{step, new_marks, next_within, front_past, place_within}
+use Rattle.wl_check.proofs.MessagesOfStream.{step, new_spans, next_within, front_past, place_within}
 
 told_append : (xs ys : List ℕ) → 8 ≤ length xs → told_size (xs ++ ys) ≡ told_size xs
 told_append xs ys h =
@@ -19,18 +19,18 @@ told_append xs ys h =
 
 -- ---- where a message ends
 
-finish_bad : (limit p z : ℕ) → is_size limit z ≡ false → finish limit (mark p z) ≡ p + 8
+finish_bad : (limit p z : ℕ) → is_size limit z ≡ false → finish limit (span p z) ≡ p + 8
 finish_bad limit p z e = rw e refl
 
-finish_good : (limit p z : ℕ) → is_size limit z ≡ true → finish limit (mark p z) ≡ p + z
+finish_good : (limit p z : ℕ) → is_size limit z ≡ true → finish limit (span p z) ≡ p + z
 finish_good limit p z e = rw e refl
 
 pub whole_size : (limit : ℕ) (s : List ℕ) (p z : ℕ) → front limit (drop p s) ≡ Whole z → is_size limit z ≡ true
 whole_size limit s p z e = is_size-true limit z (front_stands limit (drop p s) z e).size
 
 within_step : (limit n b : ℕ) (w : List ℕ) (p : ℕ) (f : Front) → front limit (drop p w) ≡ f → p ≤ length w → b ≤ p
-    → ((z : ℕ) → p + z ≤ length w → Brings limit b (length w) (cutting limit n w (p + z)).marks)
-    → Brings limit b (length w) (cut_at p f (cutting limit n w)).marks
+    → ((z : ℕ) → p + z ≤ length w → Brings limit b (length w) (cutting limit n w (p + z)).spans)
+    → Brings limit b (length w) (cut_at p f (cutting limit n w)).spans
 within_step limit n b w p More e within after ih = tt
 within_step limit n b w p (Bad z) e within after ih =
     let x = front_spoiled limit (drop p w) z e in
@@ -45,7 +45,7 @@ within_step limit n b w p (Whole z) e within after ih =
     ((omega (arith, f, big, after), omega (arith, f, there)), ih z there)
 
 within : (limit n b : ℕ) (w : List ℕ) (p : ℕ) → p ≤ length w → b ≤ p
-    → Brings limit b (length w) (cutting limit n w p).marks
+    → Brings limit b (length w) (cutting limit n w p).spans
 unfolding cutting
 within limit zero b w p there after = tt
 within limit (suc n) b w p there after = within_step limit n b w p (front limit (drop p w)) refl there after
@@ -95,7 +95,7 @@ spoiled_by limit x y f (bad h none) e z w = absurd (cc)
 
 fresh_step : (limit : ℕ) (s t : List ℕ) (p : ℕ) (f : Front) → p ≤ length s → front limit (drop p s) ≡ More
     → drop p (s ++ t) ≡ drop p s ++ t → front limit (drop p (s ++ t)) ≡ f
-    → Brings limit (length s) (length (s ++ t)) (cut_at p f (cutting limit (length (s ++ t)) (s ++ t))).marks
+    → Brings limit (length s) (length (s ++ t)) (cut_at p f (cutting limit (length (s ++ t)) (s ++ t))).spans
 fresh_step limit s t p More there more apart e = tt
 fresh_step limit s t p (Bad z) there more apart e =
     let less = spoiled_by limit (drop p s) t (front limit (drop p s)) (seen limit (drop p s)) more z
@@ -123,7 +123,7 @@ fresh_step limit s t p (Whole z) there more apart e =
 
 brings_step : (limit : ℕ) (s t : List ℕ) (b : Bool) → (cut limit s).has_bad_size ≡ b
     → Brings limit (length s) (length (s ++ t)) (cond b []
-    (cutting limit (length (s ++ t)) (s ++ t) (cut limit s).place).marks)
+    (cutting limit (length (s ++ t)) (s ++ t) (cut limit s).place).spans)
 brings_step limit s t true is = tt
 brings_step limit s t false is =
     let p = (cut limit s).place in
@@ -133,19 +133,19 @@ brings_step limit s t false is =
     (why limit (length s) s 0 (omega arith) (omega arith) is) (drop-append-le p s t there) refl)
 
 pub piece_brings : (limit : ℕ) (s t : List ℕ) → Brings limit (length s) (length (s ++ t))
-    (drop (length (cut limit s).marks) (cut limit (s ++ t)).marks)
-piece_brings limit s t = rw (new_marks limit s t) (brings_step limit s t (cut limit s).has_bad_size refl)
+    (drop (length (cut limit s).spans) (cut limit (s ++ t)).spans)
+piece_brings limit s t = rw (new_spans limit s t) (brings_step limit s t (cut limit s).has_bad_size refl)
 
 -- ---- the messages that the sizes cut off
 
-abbrev parts : (limit : ℕ) → List ℕ → List Mark → List (List ℕ)
+abbrev parts : (limit : ℕ) → List ℕ → List Span → List (List ℕ)
 parts limit s ms = map (part_of s) (sound limit ms)
 
-sound_bad : (limit p z : ℕ) (ms : List Mark) → is_size limit z ≡ false → sound limit (mark p z ∷ ms) ≡ sound limit ms
+sound_bad : (limit p z : ℕ) (ms : List Span) → is_size limit z ≡ false → sound limit (span p z ∷ ms) ≡ sound limit ms
 sound_bad limit p z ms e = rw e refl
 
-sound_good : (limit p z : ℕ) (ms : List Mark) → is_size limit z ≡ true
-    → sound limit (mark p z ∷ ms) ≡ mark p z ∷ sound limit ms
+sound_good : (limit p z : ℕ) (ms : List Span) → is_size limit z ≡ true
+    → sound limit (span p z ∷ ms) ≡ span p z ∷ sound limit ms
 sound_good limit p z ms e = rw e refl
 
 within_more : (limit count : ℕ) (bytes : List ℕ) → front limit bytes ≡ More
@@ -164,23 +164,23 @@ unfolding cut_within
 within_whole limit count z bytes e = rw (e, cut_within) refl
 
 parts_step : (limit n : ℕ) (s : List ℕ) (p : ℕ) (f : Front) → front limit (drop p s) ≡ f
-    → ((z : ℕ) → parts limit s (cutting limit n s (p + z)).marks ≡ (cut_within n limit (drop (p + z) s)).messages)
-    → parts limit s (cut_at p f (cutting limit n s)).marks ≡ (cut_within (suc n) limit (drop p s)).messages
+    → ((z : ℕ) → parts limit s (cutting limit n s (p + z)).spans ≡ (cut_within n limit (drop (p + z) s)).messages)
+    → parts limit s (cut_at p f (cutting limit n s)).spans ≡ (cut_within (suc n) limit (drop p s)).messages
 parts_step limit n s p More e ih = sym (within_more limit n (drop p s) e)
 parts_step limit n s p (Bad z) e ih = ap (map (part_of s))
     (sound_bad limit p z [] (front_spoiled limit (drop p s) z e).none) ∙ sym (within_bad limit n z (drop p s) e)
 parts_step limit n s p (Whole z) e ih =
     let d : drop z (drop p s) ≡ drop (p + z) s = drop-drop z p s in
     let first = take z (drop p s) in
-    ap (map (part_of s)) (sound_good limit p z (cutting limit n s (p + z)).marks (whole_size limit s p z e))
+    ap (map (part_of s)) (sound_good limit p z (cutting limit n s (p + z)).spans (whole_size limit s p z e))
     ∙ ap (λ (l : List (List ℕ)). first ∷ l) (ih z)
     ∙ ap (λ (b : List ℕ). first ∷ (cut_within n limit b).messages) (sym d) ∙ sym (within_whole limit n z (drop p s) e)
 
-parts_are : (limit n : ℕ) (s : List ℕ) (p : ℕ) → parts limit s (cutting limit n s p).marks
+parts_are : (limit n : ℕ) (s : List ℕ) (p : ℕ) → parts limit s (cutting limit n s p).spans
     ≡ (cut_within n limit (drop p s)).messages
 unfolding cutting cut_within
 parts_are limit zero s p = refl
 parts_are limit (suc n) s p = parts_step limit n s p (front limit (drop p s)) refl (λ z. parts_are limit n s (p + z))
 
-pub cut_messages : (limit : ℕ) (s : List ℕ) → parts limit s (cut limit s).marks ≡ messages_in_stream limit s
+pub cut_messages : (limit : ℕ) (s : List ℕ) → parts limit s (cut limit s).spans ≡ messages_in_stream limit s
 cut_messages limit s = parts_are limit (length s) s 0

@@ -9,7 +9,7 @@ use Rattle.wl_message.specs.Cut.{is_size, front, Front, More, Bad, Whole, cut_wi
 use Rattle.wl_message.proofs.Cuts.{front_none}
 use Rattle.wl_recording.specs.Piece.{Piece}
 use Rattle.wl_check.specs.declared.frames.FramedMessage.{FramedMessage}
-use Rattle.wl_check.specs.Merged.{Mark, mark, cutting, cut_at, cut, finish, stream_of, piece_tokens}
+use Rattle.wl_check.specs.Merged.{Span, span, cutting, cut_at, cut, finish, stream_of, piece_tokens}
 use Rattle.wl_check.specs.Merged.{framed, completed, merged_within, merged}
 use Rattle.wl_check.specs.Text.{EndsWith, messages, bad_size, Brings, ComesWith, ComeInOrder}
 use Rattle.wl_check.proofs.MessagesOfStream.{next_within}
@@ -33,7 +33,7 @@ order_more limit ps k from (f ∷ fs) gs l h g =
     (h.0, h.1, omega (arith, less), h.3, order_more limit ps k h.0 fs gs (omega (arith, less)) h.4 g)
 
 -- the messages that a piece completes come with it
-come_with : (limit : ℕ) (ps : List Piece) (k : ℕ) (p : Piece) → slice_get ps k ≡ Some p → (ms : List Mark)
+come_with : (limit : ℕ) (ps : List Piece) (k : ℕ) (p : Piece) → slice_get ps k ≡ Some p → (ms : List Span)
     → Brings limit (length (stream_of p.direction (take k ps)))
     (length (stream_of p.direction (take k ps) ++ p.bytes)) ms
     → AllByRecursion (ComesWith limit ps k) (map (framed p.direction (piece_tokens p.direction (take k ps) + p.tokens))
@@ -93,33 +93,33 @@ rest_whole limit count z bytes e = rw (e, cut_within) refl
 no_bad : (limit : ℕ) (rest : List ℕ) → front limit rest ≡ More → (z : ℕ) → front limit rest ≢ Bad z
 no_bad limit rest e z b = cc (e, b)
 
-end_later : (limit : ℕ) (s rest : List ℕ) (p z : ℕ) (ms : List Mark) → is_size limit z ≡ true → EndsWith limit s rest ms
-    → EndsWith limit s rest (mark p z ∷ ms)
+end_later : (limit : ℕ) (s rest : List ℕ) (p z : ℕ) (ms : List Span) → is_size limit z ≡ true → EndsWith limit s rest ms
+    → EndsWith limit s rest (span p z ∷ ms)
 end_later limit s rest p z ms g (messages a n) = messages (g, a) n
 end_later limit s rest p z ms g (bad_size before place size e a d f) =
-    bad_size (mark p z ∷ before) place size (ap (λ (l : List Mark). mark p z ∷ l) e) (g, a) d f
+    bad_size (span p z ∷ before) place size (ap (λ (l : List Span). span p z ∷ l) e) (g, a) d f
 
 end_step : (limit n : ℕ) (s : List ℕ) (p : ℕ) (f : Front) → front limit (drop p s) ≡ f → p ≤ length s
     → ((z : ℕ) → 8 ≤ z → p + z ≤ length s → EndsWith limit s (cut_within n limit (drop (p + z) s)).rest
-    (cutting limit n s (p + z)).marks)
-    → EndsWith limit s (cut_within (suc n) limit (drop p s)).rest (cut_at p f (cutting limit n s)).marks
+    (cutting limit n s (p + z)).spans)
+    → EndsWith limit s (cut_within (suc n) limit (drop p s)).rest (cut_at p f (cutting limit n s)).spans
 end_step limit n s p More e l ih = subst (λ (r : List ℕ). EndsWith limit s r []) (sym (rest_more limit n (drop p s) e))
     (messages tt (no_bad limit (drop p s) e))
-end_step limit n s p (Bad z) e l ih = subst (λ (r : List ℕ). EndsWith limit s r (mark p z ∷ []))
+end_step limit n s p (Bad z) e l ih = subst (λ (r : List ℕ). EndsWith limit s r (span p z ∷ []))
     (sym (rest_bad limit n z (drop p s) e)) (bad_size [] p z refl tt refl e)
 end_step limit n s p (Whole z) e l ih =
     let w = next_within limit s p z e l in
-    subst (λ (r : List ℕ). EndsWith limit s r (mark p z ∷ (cutting limit n s (p + z)).marks))
+    subst (λ (r : List ℕ). EndsWith limit s r (span p z ∷ (cutting limit n s (p + z)).spans))
     (sym (rest_whole limit n z (drop p s) e ∙ ap (λ (b : List ℕ). (cut_within n limit b).rest) (drop-drop z p s)))
-    (end_later limit s _ p z (cutting limit n s (p + z)).marks (whole_size limit s p z e) (ih z w.0 w.1))
+    (end_later limit s _ p z (cutting limit n s (p + z)).spans (whole_size limit s p z e) (ih z w.0 w.1))
 
 ends : (limit n : ℕ) (s : List ℕ) (p : ℕ) → p ≤ length s → length s ≤ p + n
-    → EndsWith limit s (cut_within n limit (drop p s)).rest (cutting limit n s p).marks
+    → EndsWith limit s (cut_within n limit (drop p s)).rest (cutting limit n s p).spans
 unfolding cutting cut_within
 ends limit zero s p l h = messages tt (no_bad limit (drop p s)
     (ap (front limit) (drop_all p s (omega (arith, h))) ∙ front_none limit))
 ends limit (suc n) s p l h = end_step limit n s p (front limit (drop p s)) refl l
     (λ z big there. ends limit n s (p + z) there (omega (arith, big, h)))
 
-pub ends_with : (limit : ℕ) (s : List ℕ) → EndsWith limit s (rest_of limit s) (cut limit s).marks
+pub ends_with : (limit : ℕ) (s : List ℕ) → EndsWith limit s (rest_of limit s) (cut limit s).spans
 ends_with limit s = ends limit (length s) s 0 (omega arith) (omega arith)

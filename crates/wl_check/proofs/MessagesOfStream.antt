@@ -12,7 +12,7 @@ use Rattle.wl_wire.specs.Word.{header_at}
 use Rattle.wl_wire.proofs.Numbers.{bytewise_from}
 use Rattle.wl_wire.proofs.Headers.{header-size}
 use Rattle.wl_check.specs.Seen.{size_of}
-use Rattle.wl_check.specs.Merged.{Mark, mark, Cutting, cutting, then_cut, cut_at, cut}
+use Rattle.wl_check.specs.Merged.{Span, span, Cutting, cutting, then_cut, cut_at, cut}
 
 -- ---- what is at the front, from the code's tests
 
@@ -71,7 +71,7 @@ fuel_step : (limit n k : ℕ) (s : List ℕ) (p : ℕ) (f : Front) → front lim
 fuel_step limit n k s p More e within ih = refl
 fuel_step limit n k s p (Bad z) e within ih = refl
 fuel_step limit n k s p (Whole z) e within ih = let w = next_within limit s p z e within
-    in ap (λ (c : Cutting). then_cut (mark p z) c) (ih z w.0 w.1)
+    in ap (λ (c : Cutting). then_cut (span p z) c) (ih z w.0 w.1)
 
 pub fuel : (limit n k : ℕ) (s : List ℕ) (p : ℕ) → p ≤ length s → length s ≤ p + n → length s ≤ p + k
     → cutting limit n s p ≡ cutting limit k s p
@@ -91,12 +91,12 @@ step limit j w p within enough = fuel limit j (suc j) w p within (omega arith) (
 -- the first cutting, continued by the second unless it stopped at a bad size
 abbrev pub goes_on : Cutting → (ℕ → Cutting) → Cutting
 goes_on a b = cond a.has_bad_size a (record {
-  marks = a.marks ++ (b a.place).marks;
+  spans = a.spans ++ (b a.place).spans;
   place = (b a.place).place;
   has_bad_size = (b a.place).has_bad_size;
 })
 
-then_goes : (m : Mark) (c : Cutting) (f : ℕ → Cutting) (b : Bool) → c.has_bad_size ≡ b
+then_goes : (m : Span) (c : Cutting) (f : ℕ → Cutting) (b : Bool) → c.has_bad_size ≡ b
     → then_cut m (goes_on c f) ≡ goes_on (then_cut m c) f
 then_goes m c f true is = rw is refl
 then_goes m c f false is = rw is refl
@@ -116,7 +116,7 @@ more_step limit n j s t p (Whole z) e within enough ih =
     let there : front limit (drop p (s ++ t)) ≡ Whole z =
     ap (front limit) (front_more s t p within) ∙ whole_stays limit (drop p s) t z e in
     step limit j (s ++ t) p (omega (arith, length-append s t)) enough
-    ∙ (rw (there, ih z w.0 w.1) (then_goes (mark p z) (cutting limit n s (p + z)) (cutting limit j (s ++ t))
+    ∙ (rw (there, ih z w.0 w.1) (then_goes (span p z) (cutting limit n s (p + z)) (cutting limit j (s ++ t))
     (cutting limit n s (p + z)).has_bad_size refl))
 
 pub more : (limit n j : ℕ) (s t : List ℕ) (p : ℕ) → p ≤ length s → length s ≤ p + n → length (s ++ t) ≤ j
@@ -140,23 +140,23 @@ place_within limit zero s p within = within
 place_within limit (suc n) s p within = place_step limit n s p (front limit (drop p s)) refl within
     (λ z there. place_within limit n s (p + z) there)
 
-pub drop_whole : (xs : List Mark) → drop (length xs) xs ≡ []
+pub drop_whole : (xs : List Span) → drop (length xs) xs ≡ []
 drop_whole [] = refl
 drop_whole (x ∷ xs) = drop_whole xs
 
-pub drop_front : (xs ys : List Mark) → drop (length xs) (xs ++ ys) ≡ ys
+pub drop_front : (xs ys : List Span) → drop (length xs) (xs ++ ys) ≡ ys
 drop_front [] ys = refl
 drop_front (x ∷ xs) ys = drop_front xs ys
 
 -- the messages that a piece completes
 new_step : (a : Cutting) (f : ℕ → Cutting) (b : Bool) → a.has_bad_size ≡ b
-    → drop (length a.marks) (goes_on a f).marks ≡ cond b [] (f a.place).marks
-new_step a f true is = rw is (drop_whole a.marks)
-new_step a f false is = rw is (drop_front a.marks (f a.place).marks)
+    → drop (length a.spans) (goes_on a f).spans ≡ cond b [] (f a.place).spans
+new_step a f true is = rw is (drop_whole a.spans)
+new_step a f false is = rw is (drop_front a.spans (f a.place).spans)
 
-pub new_marks : (limit : ℕ) (s t : List ℕ) → drop (length (cut limit s).marks) (cut limit (s ++ t)).marks
-    ≡ cond (cut limit s).has_bad_size [] (cutting limit (length (s ++ t)) (s ++ t) (cut limit s).place).marks
-new_marks limit s t = rw (more limit (length s) (length (s ++ t)) s t 0 (omega arith) (omega arith) (omega arith))
+pub new_spans : (limit : ℕ) (s t : List ℕ) → drop (length (cut limit s).spans) (cut limit (s ++ t)).spans
+    ≡ cond (cut limit s).has_bad_size [] (cutting limit (length (s ++ t)) (s ++ t) (cut limit s).place).spans
+new_spans limit s t = rw (more limit (length s) (length (s ++ t)) s t 0 (omega arith) (omega arith) (omega arith))
     (new_step (cutting limit (length s) s 0) (cutting limit (length (s ++ t)) (s ++ t))
     (cutting limit (length s) s 0).has_bad_size refl)
 
@@ -167,6 +167,6 @@ fed_bad limit s t bad = more limit (length s) (length (s ++ t)) s t 0 (omega ari
 
 pub fed_good : (limit : ℕ) (s t : List ℕ) → (cut limit s).has_bad_size ≡ false
     → cut limit (s ++ t) ≡ (let x = cutting limit (length (s ++ t)) (s ++ t) (cut limit s).place
-    in record { marks = (cut limit s).marks ++ x.marks; place = x.place; has_bad_size = x.has_bad_size })
+    in record { spans = (cut limit s).spans ++ x.spans; place = x.place; has_bad_size = x.has_bad_size })
 fed_good limit s t fine = more limit (length s) (length (s ++ t)) s t 0 (omega arith) (omega arith) (omega arith)
     ∙ rw fine refl

@@ -19,7 +19,7 @@ piece_of d bytes tokens = record { direction = d; bytes = bytes; tokens = tokens
 -- the messages that more bytes complete
 abbrev pub new_frames : (limit : ℕ) → Direction → List ℕ → List ℕ → ℕ → List FramedMessage
 new_frames limit d stream bytes tokens = map (framed d tokens)
-    (drop (length (cut limit stream).marks) (cut limit (stream ++ bytes)).marks)
+    (drop (length (cut limit stream).spans) (cut limit (stream ++ bytes)).spans)
 
 -- More pieces bring these bytes and this number of tokens in a direction. The messages that they
 -- complete follow the others.
@@ -36,9 +36,9 @@ pub record Brings (limit : ℕ) (tables : List Interface) (d : Direction) (befor
 -- without bytes, no message is completed
 quiet : (limit : ℕ) (d : Direction) (stream : List ℕ) (tokens : ℕ) → new_frames limit d stream [] tokens ≡ []
 quiet limit d stream tokens =
-    ap (λ (s : List ℕ). map (framed d tokens) (drop (length (cut limit stream).marks) (cut limit s).marks))
+    ap (λ (s : List ℕ). map (framed d tokens) (drop (length (cut limit stream).spans) (cut limit s).spans))
     (append-nil stream)
-    ∙ ap (map (framed d tokens)) (drop_whole (cut limit stream).marks)
+    ∙ ap (map (framed d tokens)) (drop_whole (cut limit stream).spans)
 
 after_quiet : (limit : ℕ) (tables : List Interface) (streams : Direction → List ℕ) (e : List Judged) (d : Direction)
     (stream : List ℕ) (tokens : ℕ) → judged_after limit tables streams e (new_frames limit d stream [] tokens) ≡ e

@@ -23,7 +23,7 @@ use Rattle.wl_check.specs.SessionState.{IsAt, is_going, IsEnd, IsTallied, Status
 use Rattle.wl_check.specs.SessionState.{Comes, WentOn, CutFollows, AllJudged}
 use Rattle.wl_check.specs.Session.{ArePassed}
 use Rattle.wl_check.specs.Changes.{Call, changes}
-use Rattle.wl_check.specs.Merged.{Mark, mark, Cutting, cutting, cut_at, bad_at, stopped, then_cut}
+use Rattle.wl_check.specs.Merged.{Span, span, Cutting, cutting, cut_at, bad_at, stopped, then_cut}
 use Rattle.wl_check.specs.Merged.{framed, same_direction}
 use Rattle.wl_check.specs.Places.{IsKnownBehind}
 use Rattle.wl_check.specs.Rules.{judged_front}
@@ -238,10 +238,10 @@ drop_one_more xs ys k x e = sym (drop-drop 1 k xs) ∙ ap (λ (l : List _). drop
 pub record InFront (limit : ℕ) (w rest : List ℕ) (p z : ℕ) : Type 0 where
   pub header : 8 ≤ length rest
   pub whole : is_size limit z ≡ true → z ≤ length rest
-  pub others : List Mark
-  pub marks : (cutting limit (length w) w p).marks ≡ mark p z ∷ others
+  pub others : List Span
+  pub spans : (cutting limit (length w) w p).spans ≡ span p z ∷ others
   pub good : is_size limit z ≡ true → cutting limit (length w) w p
-      ≡ then_cut (mark p z) (cutting limit (length w) w (p + z))
+      ≡ then_cut (span p z) (cutting limit (length w) w (p + z))
 
 in_front_as : (limit : ℕ) (w rest : List ℕ) (p z : ℕ) (x : Front) → front limit (drop p w) ≡ x → p ≤ length w
     → drop p w ≡ rest → Some z ≡ size_of x → InFront limit w rest p z
@@ -258,7 +258,7 @@ in_front_as limit w rest p z (Bad y) e within is some =
       header = (let h = b.header in omega (arith, h, l));
       whole = λ good. absurd (cc (none, good));
       others = [];
-      marks = ap (λ (x : Cutting). x.marks) c ∙ ap (λ (n : ℕ). mark p n ∷ []) (sym same);
+      spans = ap (λ (x : Cutting). x.spans) c ∙ ap (λ (n : ℕ). span p n ∷ []) (sym same);
       good = λ good. absurd (cc (none, good));
     }
 in_front_as limit w rest p z (Whole y) e within is some =
@@ -266,18 +266,18 @@ in_front_as limit w rest p z (Whole y) e within is some =
     let n = next_within limit w p y e within in
     let l = ap (λ (l : List ℕ). length l) is in
     let d = length-drop p w in
-    let c : cutting limit (length w) w p ≡ then_cut (mark p y) (cutting limit (length w) w (p + y)) =
+    let c : cutting limit (length w) w p ≡ then_cut (span p y) (cutting limit (length w) w (p + y)) =
     step limit (length w) w p within (omega arith)
     ∙ ap (λ (f : Front). cut_at p f (cutting limit (length w) w)) e in
-    let c2 : cutting limit (length w) w p ≡ then_cut (mark p z) (cutting limit (length w) w (p + z)) =
-    c ∙ ap (λ (n : ℕ). then_cut (mark p n) (cutting limit (length w) w (p + n))) (sym same) in
+    let c2 : cutting limit (length w) w p ≡ then_cut (span p z) (cutting limit (length w) w (p + z)) =
+    c ∙ ap (λ (n : ℕ). then_cut (span p n) (cutting limit (length w) w (p + n))) (sym same) in
     let a = n.0 in
     let b = n.1 in
     record {
       header = omega (arith, a, b, l, d);
       whole = λ good. omega (arith, a, b, l, d, same);
-      others = (cutting limit (length w) w (p + z)).marks;
-      marks = ap (λ (x : Cutting). x.marks) c2;
+      others = (cutting limit (length w) w (p + z)).spans;
+      spans = ap (λ (x : Cutting). x.spans) c2;
       good = λ good. c2;
     }
 
@@ -299,7 +299,7 @@ pub comes_next : {A : Type 0} (limit : ℕ) (tables : List Interface) (s : Sessi
 comes_next limit tables s c d tokens z start rest h some here =
     let i = in_front limit tables s c d tokens z rest h some in
     let frames : drop c.count s.frames ≡ frame_of d (end_in c d) z tokens ∷ map (framed d tokens) i.others =
-    h.frames ∙ ap (map (framed d tokens)) i.marks in
+    h.frames ∙ ap (map (framed d tokens)) i.spans in
     record {
       limit_is = h.limit_is;
       going = h.going;
@@ -325,8 +325,8 @@ follows_next limit tables s c n d tokens z start rest h some here went judged go
     let next : cutting limit (length w) w (end_in n d) ≡ cutting limit (length w) w (p + z) =
     ap (cutting limit (length w) w) (went.end ∙ ap (λ (m : ℕ). m + z) here) in
     let frames : drop c.count s.frames ≡ frame_of d p z tokens
-    ∷ map (framed d tokens) (cutting limit (length w) w (p + z)).marks =
-    h.frames ∙ ap (λ (x : Cutting). map (framed d tokens) x.marks) is in
+    ∷ map (framed d tokens) (cutting limit (length w) w (p + z)).spans =
+    h.frames ∙ ap (λ (x : Cutting). map (framed d tokens) x.spans) is in
     record {
       limit_is = h.limit_is;
       going = going;
@@ -336,7 +336,7 @@ follows_next limit tables s c n d tokens z start rest h some here went judged go
       small = h.small;
       frames = ap (λ (m : ℕ). drop m s.frames) went.count
           ∙ drop_one_more s.frames _ c.count (frame_of d p z tokens) frames
-          ∙ ap (λ (x : Cutting). map (framed d tokens) x.marks) (sym next);
+          ∙ ap (λ (x : Cutting). map (framed d tokens) x.spans) (sym next);
       place = ap (λ (x : Cutting). x.place) (next) ∙ sym (ap (λ (x : Cutting). x.place) is) ∙ h.place;
       has_bad_size = ap (λ (x : Cutting). x.has_bad_size) (next) ∙ sym (ap (λ (x : Cutting). x.has_bad_size) is) ∙ h.has_bad_size;
     }
@@ -361,7 +361,7 @@ all_judged limit tables s c d tokens rest h none =
     stops_as limit w p (front limit (drop p w)) refl (end_within tables s c.count c.progress d h.judged.at)
     (none ∙ ap (λ (b : List ℕ). size_of (front limit b)) (sym h.rest_is)) in
     let done : length s.frames ≤ c.count = nothing_left s.frames c.count
-    (h.frames ∙ ap (λ (x : Cutting). map (framed d tokens) x.marks) is) in
+    (h.frames ∙ ap (λ (x : Cutting). map (framed d tokens) x.spans) is) in
     let within = h.judged.within in
     record {
       judged = h.judged;

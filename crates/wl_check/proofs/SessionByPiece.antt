@@ -32,7 +32,7 @@ use Rattle.wl_check.specs.Seen.{tally_in}
 use Rattle.wl_check.specs.Session.{Session, Judged, count_in, changes_at, end_after, messages, session_of, IsVerdictOf}
 use Rattle.wl_check.specs.Trace.{judged_line, lines_within}
 use Rattle.wl_check.proofs.SessionByMessage.{end_within, open_passed}
-use Rattle.wl_check.proofs.MessagesOfStream.{fed_good, new_marks}
+use Rattle.wl_check.proofs.MessagesOfStream.{fed_good, new_spans}
 use Rattle.wl_check.proofs.Examined.{answers_all, answers_end, answers_broken, at_first}
 use Rattle.wl_check.proofs.LongerRecording.{merged_with, messages_more, stream_last, tokens_last}
 use Rattle.wl_check.proofs.MergedPiece.{own, same_is}
@@ -192,11 +192,11 @@ follows_piece limit tables ps p c stream len tokens bytes h going len_is small t
     let place_is : cutting limit (length w) w end
     ≡ cutting limit (length (s ++ p.bytes)) (s ++ p.bytes) (cut limit s).place =
     (λ i. cutting limit (length (whole i)) (whole i) (left.place i)) in
-    let marks : drop (length (cut limit s).marks) (cut limit (s ++ p.bytes)).marks
-    ≡ (cutting limit (length w) w end).marks =
-    new_marks limit s p.bytes ∙ ap (λ (b : Bool). cond b []
-    (cutting limit (length (s ++ p.bytes)) (s ++ p.bytes) (cut limit s).place).marks) left.has_bad_size
-    ∙ sym (ap (λ (x : Cutting). x.marks) place_is) in
+    let spans : drop (length (cut limit s).spans) (cut limit (s ++ p.bytes)).spans
+    ≡ (cutting limit (length w) w end).spans =
+    new_spans limit s p.bytes ∙ ap (λ (b : Bool). cond b []
+    (cutting limit (length (s ++ p.bytes)) (s ++ p.bytes) (cut limit s).place).spans) left.has_bad_size
+    ∙ sym (ap (λ (x : Cutting). x.spans) place_is) in
     let count : piece_tokens d ps + p.tokens ≡ tokens =
     ap (λ (n : ℕ). n + p.tokens) (sym h.stream.tokens) ∙ sym tokens_is in
     record {
@@ -209,7 +209,7 @@ follows_piece limit tables ps p c stream len tokens bytes h going len_is small t
       small = omega (arith, l, a, len_old, len_is, small);
       frames = ap (drop c.count) (merged_with limit ps p)
           ∙ drop_front (merged limit ps) (completed limit ps p) c.count (h.all going)
-          ∙ (λ i. map (framed d (count i)) (marks i));
+          ∙ (λ i. map (framed d (count i)) (spans i));
       place = ap (λ (x : Cutting). x.place) place_is ∙ sym (ap (λ (x : Cutting). x.place) all);
       has_bad_size = ap (λ (x : Cutting). x.has_bad_size) place_is ∙ sym (ap (λ (x : Cutting). x.has_bad_size) all);
     }

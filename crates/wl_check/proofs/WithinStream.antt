@@ -11,30 +11,30 @@ use Rattle.wl_recording.specs.Piece.{Piece}
 use Rattle.wl_message.specs.Cut.{is_size, front, Front, More, Bad, Whole}
 use Rattle.wl_message.proofs.Cuts.{front_spoiled}
 use Rattle.wl_check.specs.declared.frames.FramedMessage.{FramedMessage}
-use Rattle.wl_check.specs.Merged.{Mark, cutting, cut_at, cut, same_direction, stream_of, piece_tokens}
+use Rattle.wl_check.specs.Merged.{Span, cutting, cut_at, cut, same_direction, stream_of, piece_tokens}
 use Rattle.wl_check.specs.Merged.{framed, completed_at, merged_within, merged}
 use Rattle.wl_check.specs.Session.{session_of, IsWithin, AreWithin}
 use Rattle.wl_check.proofs.MessagesOfStream.{next_within}
 
-abbrev FitsIn : (limit : ℕ) → ℕ → Mark → Type 0
+abbrev FitsIn : (limit : ℕ) → ℕ → Span → Type 0
 FitsIn limit n m = (m.start + 8 ≤ n) × (is_size limit m.size ≡ true → m.start + m.size ≤ n)
 
-marks_step : (limit n : ℕ) (s : List ℕ) (p : ℕ) (f : Front) → front limit (drop p s) ≡ f → p ≤ length s
-    → ((z : ℕ) → p + z ≤ length s → AllByRecursion (FitsIn limit (length s)) (cutting limit n s (p + z)).marks)
-    → AllByRecursion (FitsIn limit (length s)) (cut_at p f (cutting limit n s)).marks
-marks_step limit n s p More e within ih = tt
-marks_step limit n s p (Bad z) e within ih =
+spans_step : (limit n : ℕ) (s : List ℕ) (p : ℕ) (f : Front) → front limit (drop p s) ≡ f → p ≤ length s
+    → ((z : ℕ) → p + z ≤ length s → AllByRecursion (FitsIn limit (length s)) (cutting limit n s (p + z)).spans)
+    → AllByRecursion (FitsIn limit (length s)) (cut_at p f (cutting limit n s)).spans
+spans_step limit n s p More e within ih = tt
+spans_step limit n s p (Bad z) e within ih =
     let b = front_spoiled limit (drop p s) z e in
     ((omega (arith, b.header, length-drop p s), λ good. absurd (let none = b.none in cc)), tt)
-marks_step limit n s p (Whole z) e within ih = let w = next_within limit s p z e within
+spans_step limit n s p (Whole z) e within ih = let w = next_within limit s p z e within
     in ((omega (arith, w.0, w.1), λ good. w.1), ih z w.1)
 
-marks_within : (limit n : ℕ) (s : List ℕ) (p : ℕ) → p ≤ length s
-    → AllByRecursion (FitsIn limit (length s)) (cutting limit n s p).marks
+spans_within : (limit n : ℕ) (s : List ℕ) (p : ℕ) → p ≤ length s
+    → AllByRecursion (FitsIn limit (length s)) (cutting limit n s p).spans
 unfolding cutting
-marks_within limit zero s p within = tt
-marks_within limit (suc n) s p within = marks_step limit n s p (front limit (drop p s)) refl within
-    (λ z there. marks_within limit n s (p + z) there)
+spans_within limit zero s p within = tt
+spans_within limit (suc n) s p within = spans_step limit n s p (front limit (drop p s)) refl within
+    (λ z there. spans_within limit n s (p + z) there)
 
 all_drop : {X : Type 0} (P : X → Type 0) (n : ℕ) (xs : List X) → AllByRecursion P xs → AllByRecursion P (drop n xs)
 all_drop P zero xs a = a
@@ -78,7 +78,7 @@ stream_le d (x ∷ xs) (suc k) p e same =
 abbrev pub LiesIn : (limit : ℕ) → List Piece → FramedMessage → Type 0
 LiesIn limit ps f = IsWithin limit (length (stream_of f.direction ps)) f
 
-frames_step : (limit : ℕ) (ps : List Piece) (d : Direction) (t n : ℕ) (ms : List Mark) → n ≤ length (stream_of d ps)
+frames_step : (limit : ℕ) (ps : List Piece) (d : Direction) (t n : ℕ) (ms : List Span) → n ≤ length (stream_of d ps)
     → AllByRecursion (FitsIn limit n) ms → AllByRecursion (LiesIn limit ps) (map (framed d t) ms)
 frames_step limit ps d t n [] h a = tt
 frames_step limit ps d t n (m ∷ ms) h a = (
@@ -99,10 +99,10 @@ completed_within limit ps k None e = tt
 completed_within limit ps k (Some p) e =
     let s = stream_of p.direction (take k ps) in
     frames_step limit ps p.direction (piece_tokens p.direction (take k ps) + p.tokens) (length (s ++ p.bytes))
-    (drop (length (cut limit s).marks) (cut limit (s ++ p.bytes)).marks)
+    (drop (length (cut limit s).spans) (cut limit (s ++ p.bytes)).spans)
     (stream_le p.direction ps k p e (same_itself p.direction))
-    (all_drop (FitsIn limit (length (s ++ p.bytes))) (length (cut limit s).marks) (cut limit (s ++ p.bytes)).marks
-    (marks_within limit (length (s ++ p.bytes)) (s ++ p.bytes) 0 (omega arith)))
+    (all_drop (FitsIn limit (length (s ++ p.bytes))) (length (cut limit s).spans) (cut limit (s ++ p.bytes)).spans
+    (spans_within limit (length (s ++ p.bytes)) (s ++ p.bytes) 0 (omega arith)))
 
 pub merged_lies : (limit : ℕ) (ps : List Piece) (k : ℕ) → AllByRecursion (LiesIn limit ps) (merged_within limit ps k)
 unfolding merged_within

@@ -8,35 +8,35 @@ use Rattle.wl_message.specs.Cut.{is_size, front, Front, More, Bad, Whole}
 use Rattle.wl_check.specs.declared.frames.FramedMessage.{FramedMessage}
 
 -- where a message begins in its direction, and the size in its header
-pub record Mark : Type 0 where
+pub record Span : Type 0 where
   pub start : ℕ
   pub size : ℕ
 
-abbrev pub mark : ℕ → ℕ → Mark
-mark start size = record { start = start; size = size }
+abbrev pub span : ℕ → ℕ → Span
+span start size = record { start = start; size = size }
 
 -- the messages of a stream from a place on, the place where the cutting stops, and whether there is
 -- a bad size there
 pub record Cutting : Type 0 where
-  pub marks : List Mark
+  pub spans : List Span
   pub place : ℕ
   pub has_bad_size : Bool
 
 abbrev pub stopped : ℕ → Cutting
-stopped place = record { marks = []; place = place; has_bad_size = false }
+stopped place = record { spans = []; place = place; has_bad_size = false }
 
 abbrev pub bad_at : ℕ → ℕ → Cutting
-bad_at place size = record { marks = mark place size ∷ []; place = place; has_bad_size = true }
+bad_at place size = record { spans = span place size ∷ []; place = place; has_bad_size = true }
 
-abbrev pub then_cut : Mark → Cutting → Cutting
+abbrev pub then_cut : Span → Cutting → Cutting
 then_cut m others =
-    record { marks = m ∷ others.marks; place = others.place; has_bad_size = others.has_bad_size }
+    record { spans = m ∷ others.spans; place = others.place; has_bad_size = others.has_bad_size }
 
 -- what is at a place, followed by the rest
 abbrev pub cut_at : ℕ → Front → (ℕ → Cutting) → Cutting
 cut_at place More others = stopped place
 cut_at place (Bad size) others = bad_at place size
-cut_at place (Whole size) others = then_cut (mark place size) (others (place + size))
+cut_at place (Whole size) others = then_cut (span place size) (others (place + size))
 
 -- at most `count` messages of a stream, from a place on
 unfoldable pub cutting : ℕ → ℕ → List ℕ → ℕ → Cutting
@@ -70,7 +70,7 @@ piece_tokens direction (piece ∷ pieces) =
 
 -- a message in the merged list; its tokens are those that its direction brought with the pieces up
 -- to its own
-abbrev pub framed : Direction → ℕ → Mark → FramedMessage
+abbrev pub framed : Direction → ℕ → Span → FramedMessage
 framed direction tokens m =
     record { direction = direction; start = m.start; size = m.size; tokens = tokens }
 
@@ -79,8 +79,8 @@ framed direction tokens m =
 abbrev pub completed : ℕ → List Piece → Piece → List FramedMessage
 completed limit before piece =
     map (framed piece.direction (piece_tokens piece.direction before + piece.tokens))
-    (drop (length (cut limit (stream_of piece.direction before)).marks)
-    (cut limit (stream_of piece.direction before ++ piece.bytes)).marks)
+    (drop (length (cut limit (stream_of piece.direction before)).spans)
+    (cut limit (stream_of piece.direction before ++ piece.bytes)).spans)
 
 abbrev pub completed_at : ℕ → List Piece → ℕ → Option Piece → List FramedMessage
 completed_at limit pieces k None = []
@@ -98,5 +98,5 @@ abbrev pub merged : ℕ → List Piece → List FramedMessage
 merged limit pieces = merged_within limit pieces (length pieces)
 
 -- where the last byte of a message is, or that of its header if the size is bad
-abbrev pub finish : ℕ → Mark → ℕ
+abbrev pub finish : ℕ → Span → ℕ
 finish limit m = if is_size limit m.size then m.start + m.size else m.start + 8

@@ -135,7 +135,7 @@ pub record CutFollows {A : Type 0} (limit : ℕ) (tables : List Interface) (s : 
   pub judged : IsJudged tables s c
   pub rest_is : drop (end_in c d) (s.streams d) ≡ rest
   pub small : length (s.streams d) < 2 ^ 64
-  pub frames : drop c.count s.frames ≡ map (framed d tokens) (cut_from limit s c d).marks
+  pub frames : drop c.count s.frames ≡ map (framed d tokens) (cut_from limit s c d).spans
   pub place : (cut_from limit s c d).place ≡ (cut limit (s.streams d)).place
   pub has_bad_size : (cut_from limit s c d).has_bad_size ≡ (cut limit (s.streams d)).has_bad_size
 

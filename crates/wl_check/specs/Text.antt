@@ -11,7 +11,7 @@ use Rattle.wl_recording.specs.declared.piece.Direction.{Direction}
 use Rattle.wl_check.specs.declared.frames.FramedMessage.{FramedMessage}
 use Rattle.wl_check.specs.declared.changes.MessageChanges.{MessageChanges}
 use Rattle.wl_recording.specs.Piece.{Piece}
-use Rattle.wl_check.specs.Merged.{Mark, mark, finish, same_direction, stream_of, piece_tokens}
+use Rattle.wl_check.specs.Merged.{Span, span, finish, same_direction, stream_of, piece_tokens}
 use Rattle.wl_check.specs.Places.{makes_id, deletes_id, destroys_id}
 use Rattle.wl_check.specs.Changes.{Call}
 use Rattle.wl_check.specs.Session.{ArePassed, Judged, ends_session}
@@ -50,30 +50,30 @@ pub record WasAdvertised (session : ℕ → MessageChanges) (place name iface ve
     pub version_is : version ≤ global.version
 
 -- the bytes of a message
-abbrev pub part_of : List ℕ → Mark → List ℕ
+abbrev pub part_of : List ℕ → Span → List ℕ
 part_of stream m = take m.size (drop m.start stream)
 
--- the marks without a bad size
-abbrev pub sound : ℕ → List Mark → List Mark
-sound limit marks = filter (λ (m : Mark). is_size limit m.size) marks
+-- the spans without a bad size
+abbrev pub sound : ℕ → List Span → List Span
+sound limit spans = filter (λ (m : Span). is_size limit m.size) spans
 
-abbrev pub AreSound : ℕ → List Mark → Type 0
-AreSound limit marks = AllByRecursion (λ (m : Mark). is_size limit m.size ≡ true) marks
+abbrev pub AreSound : ℕ → List Span → Type 0
+AreSound limit spans = AllByRecursion (λ (m : Span). is_size limit m.size ≡ true) spans
 
--- A stream that leaves this rest has these marks: those of its messages, then a bad size if the
+-- A stream that leaves this rest has these spans: those of its messages, then a bad size if the
 -- rest begins with one.
-pub data EndsWith (limit : ℕ) (stream rest : List ℕ) (marks : List Mark) : Type 0 where
-  messages : AreSound limit marks → ((size : ℕ) → front limit rest ≢ Bad size)
-      → EndsWith limit stream rest marks
-  bad_size : (before : List Mark) (place size : ℕ) → marks ≡ before ++ mark place size ∷ []
+pub data EndsWith (limit : ℕ) (stream rest : List ℕ) (spans : List Span) : Type 0 where
+  messages : AreSound limit spans → ((size : ℕ) → front limit rest ≢ Bad size)
+      → EndsWith limit stream rest spans
+  bad_size : (before : List Span) (place size : ℕ) → spans ≡ before ++ span place size ∷ []
       → AreSound limit before → drop place stream ≡ rest → front limit rest ≡ Bad size
-      → EndsWith limit stream rest marks
+      → EndsWith limit stream rest spans
 
 -- each of these messages ends after the first `before` bytes of its direction, and within the first
 -- `after`
-abbrev pub Brings : ℕ → ℕ → ℕ → List Mark → Type 0
-Brings limit before after marks =
-    AllByRecursion (λ (m : Mark). (before < finish limit m) × (finish limit m ≤ after)) marks
+abbrev pub Brings : ℕ → ℕ → ℕ → List Span → Type 0
+Brings limit before after spans =
+    AllByRecursion (λ (m : Span). (before < finish limit m) × (finish limit m ≤ after)) spans
 
 -- a message of the session with no wl_display.error before it
 pub record IsExamined (messages : List Judged) (k : ℕ) : Type 0 where
@@ -89,11 +89,11 @@ pub record IsPrinted (messages : List Judged) (k : ℕ) : Type 0 where
   pub passed : ArePassed messages k
 
 -- the messages of one direction in a merged list, in order
-abbrev pub marks_in : Direction → List FramedMessage → List Mark
-marks_in direction [] = []
-marks_in direction (frame ∷ frames) =
-    (if same_direction frame.direction direction then mark frame.start frame.size ∷ [] else [])
-    ++ marks_in direction frames
+abbrev pub spans_in : Direction → List FramedMessage → List Span
+spans_in direction [] = []
+spans_in direction (frame ∷ frames) =
+    (if same_direction frame.direction direction then span frame.start frame.size ∷ [] else [])
+    ++ spans_in direction frames
 
 -- A message belongs to the piece of its direction that brings its last byte, and counts the tokens
 -- that its direction brought with the pieces up to that one.
@@ -103,8 +103,8 @@ pub record ComesWith (limit : ℕ) (pieces : List Piece) (k : ℕ) (frame : Fram
     pub there : slice_get pieces k ≡ Some piece
     pub direction : piece.direction ≡ frame.direction
     pub behind : length (stream_of frame.direction (take k pieces))
-        < finish limit (mark frame.start frame.size)
-    pub within : finish limit (mark frame.start frame.size)
+        < finish limit (span frame.start frame.size)
+    pub within : finish limit (span frame.start frame.size)
         ≤ length (stream_of frame.direction (take (suc k) pieces))
     pub tokens : frame.tokens ≡ piece_tokens frame.direction (take (suc k) pieces)
 

@@ -16,7 +16,7 @@ ghost use Rattle.wl_check.specs.Trace.{lasting, trace_of};
 ghost use Rattle.wl_check.specs.declared.verdict.Verdict.{Verdict as Verdicts};
 ghost use Rattle.wl_recording.specs.declared.piece.Direction.{Direction as Way};
 ghost use Rattle.wl_recording.specs.Piece.{Piece};
-ghost use Rattle.wl_check.specs.Text.{marks_in, part_of, sound, Brings, ComeInOrder, EndsWith};
+ghost use Rattle.wl_check.specs.Text.{spans_in, part_of, sound, Brings, ComeInOrder, EndsWith};
 ghost use Rattle.wl_check.specs.Text.{StaysHeld, IsExamined, StaysOpen, IsPrinted, WasAdvertised};
 ghost use Rattle.wl_check.specs.Text.{WasUsed};
 
@@ -26,17 +26,17 @@ use std::alloc::Allocator;
 /// after them and is the last.
 pub fn a_stream_has_its_messages()
     ensures messages { (limit : ℕ) (stream : List ℕ)
-        → map (part_of stream) (sound limit (cut limit stream).marks)
+        → map (part_of stream) (sound limit (cut limit stream).spans)
         ≡ messages_in_stream limit stream }
     ensures bad_size { (limit : ℕ) (stream : List ℕ)
-        → EndsWith limit stream (rest_of limit stream) (cut limit stream).marks }
+        → EndsWith limit stream (rest_of limit stream) (cut limit stream).spans }
 {}
 
 /// The merged list has each message of a direction once, in the order of its stream.
 pub fn each_message_stands_once()
     ensures { (limit : ℕ) (pieces : List Piece) (direction : Way)
-        → marks_in direction (session_of limit pieces).frames
-        ≡ (cut limit (stream_of direction pieces)).marks }
+        → spans_in direction (session_of limit pieces).frames
+        ≡ (cut limit (stream_of direction pieces)).spans }
 {}
 
 /// The messages of both directions are in the order of the pieces that bring their last bytes (for
@@ -52,7 +52,7 @@ pub fn messages_follow_their_pieces()
 pub fn a_piece_brings_last_bytes()
     ensures { (limit : ℕ) (before piece : List ℕ)
         → Brings limit (length before) (length (before ++ piece))
-        (drop (length (cut limit before).marks) (cut limit (before ++ piece)).marks) }
+        (drop (length (cut limit before).spans) (cut limit (before ++ piece)).spans) }
 {}
 
 /// An id names the object that was made with it: in the client's range until its delete_id, in the

@@ -10,7 +10,7 @@ use Rattle.wl_message.specs.declared.amounts.Amounts.{Amounts}
 use Rattle.wl_message.specs.declared.streams.FlushError.TheVariants.{Io, NeedsTokens}
 use Rattle.wl_message.specs.Outgoing.{QueuedMessage, Outgoing, all_bytes, all_tokens, begun, newly_begun}
 use Rattle.wl_message.specs.Outgoing.{MayGo, Goes, goes, waiting_bytes, after_taking}
-use Rattle.wl_message.specs.Marks.{Kept, outgoing, IsKept}
+use Rattle.wl_message.specs.Boundaries.{Kept, outgoing, IsKept}
 use Rattle.wl_message.specs.Streams.{Flushes, FirstHasTokens, NextHasTokens}
 use Rattle.wl_message.proofs.WhatGoes.{begun_none, begun_some, goes_goes}
 use Rattle.wl_message.proofs.PartedQueue.{some_messages}

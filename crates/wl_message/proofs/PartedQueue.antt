@@ -6,59 +6,59 @@ use Rattle.std.specs.List.{AllByRecursion}
 use Rattle.std.proofs.lemmas.List.{length-take, append-nil, take-append-drop, take-append-le}
 use Rattle.std.proofs.lemmas.List.{drop-append-le, drop-drop, drop-take, take_all}
 use Rattle.std.proofs.Math.Seq.{take-add}
-use Rattle.wl_message.specs.declared.marks.Leaving.{Leaving}
-use Rattle.wl_message.specs.declared.marks.Mark.{Mark}
-use Rattle.wl_message.specs.declared.marks.Reach.{Reach}
+use Rattle.wl_message.specs.declared.boundaries.Leaving.{Leaving}
+use Rattle.wl_message.specs.declared.boundaries.Boundary.{Boundary}
+use Rattle.wl_message.specs.declared.boundaries.Reach.{Reach}
 use Rattle.wl_message.specs.Outgoing.{QueuedMessage, queued, Outgoing, all_bytes, all_tokens, begun}
 use Rattle.wl_message.specs.Outgoing.{newly_begun, going_bytes, goes, waiting_bytes, waiting_tokens}
 use Rattle.wl_message.specs.Outgoing.{with_message, with_error, after_taking}
-use Rattle.wl_message.specs.Marks.{reach, parted, lens, token_counts, Kept, outgoing, IsKept, IsLeaving}
-use Rattle.wl_message.proofs.WhatGoes.{begun_front, marks_of, goes_goes, reaches, ReachesRoom}
+use Rattle.wl_message.specs.Boundaries.{reach, parted, lens, token_counts, Kept, outgoing, IsKept, IsLeaving}
+use Rattle.wl_message.proofs.WhatGoes.{begun_front, boundaries_of, goes_goes, reaches, ReachesRoom}
 
--- ---- marks
+-- ---- boundaries
 
-pub lens-append : (ks : List Mark) (k : Mark) → lens (ks ++ k ∷ []) ≡ lens ks + k.len
+pub lens-append : (ks : List Boundary) (k : Boundary) → lens (ks ++ k ∷ []) ≡ lens ks + k.len
 lens-append [] k = omega arith
 lens-append (j ∷ ks) k = omega (arith, lens-append ks k)
 
-pub token_counts-append : (ks : List Mark) (k : Mark) → token_counts (ks ++ k ∷ []) ≡ token_counts ks + k.tokens
+pub token_counts-append : (ks : List Boundary) (k : Boundary) → token_counts (ks ++ k ∷ []) ≡ token_counts ks + k.tokens
 token_counts-append [] k = omega arith
 token_counts-append (j ∷ ks) k = omega (arith, token_counts-append ks k)
 
-pub each-append : (ks : List Mark) (k : Mark) → AllByRecursion (λ (i : Mark). 8 ≤ i.len) ks → 8 ≤ k.len
-    → AllByRecursion (λ (i : Mark). 8 ≤ i.len) (ks ++ k ∷ [])
+pub each-append : (ks : List Boundary) (k : Boundary) → AllByRecursion (λ (i : Boundary). 8 ≤ i.len) ks → 8 ≤ k.len
+    → AllByRecursion (λ (i : Boundary). 8 ≤ i.len) (ks ++ k ∷ [])
 each-append [] k h p = (p, tt)
 each-append (j ∷ ks) k h p = (h.0, each-append ks k h.1 p)
 
-pub each-drop : (n : ℕ) (ks : List Mark) → AllByRecursion (λ (i : Mark). 8 ≤ i.len) ks
-    → AllByRecursion (λ (i : Mark). 8 ≤ i.len) (drop n ks)
+pub each-drop : (n : ℕ) (ks : List Boundary) → AllByRecursion (λ (i : Boundary). 8 ≤ i.len) ks
+    → AllByRecursion (λ (i : Boundary). 8 ≤ i.len) (drop n ks)
 each-drop zero ks h = h
 each-drop (suc n) [] h = tt
 each-drop (suc n) (k ∷ ks) h = each-drop n ks h.1
 
--- there are at most an eighth as many marks as bytes
-pub marks_fit : (ks : List Mark) → AllByRecursion (λ (i : Mark). 8 ≤ i.len) ks → 8 * length ks ≤ lens ks
-marks_fit [] h = omega arith
-marks_fit (k ∷ ks) h = omega (arith, marks_fit ks h.1, h.0)
+-- there are at most an eighth as many boundaries as bytes
+pub boundaries_fit : (ks : List Boundary) → AllByRecursion (λ (i : Boundary). 8 ≤ i.len) ks → 8 * length ks ≤ lens ks
+boundaries_fit [] h = omega arith
+boundaries_fit (k ∷ ks) h = omega (arith, boundaries_fit ks h.1, h.0)
 
-lens-parts : (n : ℕ) (ks : List Mark) → lens (take n ks) + lens (drop n ks) ≡ lens ks
+lens-parts : (n : ℕ) (ks : List Boundary) → lens (take n ks) + lens (drop n ks) ≡ lens ks
 lens-parts zero ks = omega arith
 lens-parts (suc n) [] = omega arith
 lens-parts (suc n) (k ∷ ks) = omega (arith, lens-parts n ks)
 
-counts-parts : (n : ℕ) (ks : List Mark) → token_counts (take n ks) + token_counts (drop n ks) ≡ token_counts ks
+counts-parts : (n : ℕ) (ks : List Boundary) → token_counts (take n ks) + token_counts (drop n ks) ≡ token_counts ks
 counts-parts zero ks = omega arith
 counts-parts (suc n) [] = omega arith
 counts-parts (suc n) (k ∷ ks) = omega (arith, counts-parts n ks)
 
 -- ---- messages
 
--- the marks have these numbers of bytes and tokens in all
-pub record Parts (ks : List Mark) (bs ts : List ℕ) : Type 0 where
+-- the boundaries have these numbers of bytes and tokens in all
+pub record Parts (ks : List Boundary) (bs ts : List ℕ) : Type 0 where
   pub bytes : lens ks ≡ length bs
   pub tokens : token_counts ks ≡ length ts
 
-parts_tail : (k : Mark) (ks : List Mark) (bs ts : List ℕ) → Parts (k ∷ ks) bs ts
+parts_tail : (k : Boundary) (ks : List Boundary) (bs ts : List ℕ) → Parts (k ∷ ks) bs ts
     → Parts ks (drop k.len bs) (drop k.tokens ts)
 parts_tail k ks bs ts h = record {
   bytes = omega (arith, h.bytes, length-drop k.len bs);
@@ -69,27 +69,27 @@ empty : (xs : List ℕ) → 0 ≡ length xs → xs ≡ []
 empty [] h = refl
 empty (x ∷ xs) h = absurd (omega arith)
 
-pub bytes-parted : (ks : List Mark) (bs ts : List ℕ) → Parts ks bs ts → all_bytes (parted ks bs ts) ≡ bs
+pub bytes-parted : (ks : List Boundary) (bs ts : List ℕ) → Parts ks bs ts → all_bytes (parted ks bs ts) ≡ bs
 bytes-parted [] bs ts h = sym (empty bs h.bytes)
 bytes-parted (k ∷ ks) bs ts h =
     ap (λ (x : List ℕ). take k.len bs ++ x) (bytes-parted ks _ _ (parts_tail k ks bs ts h)) ∙ take-append-drop k.len bs
 
-pub tokens-parted : (ks : List Mark) (bs ts : List ℕ) → Parts ks bs ts → all_tokens (parted ks bs ts) ≡ ts
+pub tokens-parted : (ks : List Boundary) (bs ts : List ℕ) → Parts ks bs ts → all_tokens (parted ks bs ts) ≡ ts
 tokens-parted [] bs ts h = sym (empty ts h.tokens)
 tokens-parted (k ∷ ks) bs ts h =
     ap (λ (x : List ℕ). take k.tokens ts ++ x) (tokens-parted ks _ _ (parts_tail k ks bs ts h))
     ∙ take-append-drop k.tokens ts
 
--- the marks are those of the messages
-marks-parted : (ks : List Mark) (bs ts : List ℕ) → Parts ks bs ts → marks_of (parted ks bs ts) ≡ ks
-marks-parted [] bs ts h = refl
-marks-parted (k ∷ ks) bs ts h =
+-- the boundaries are those of the messages
+boundaries-parted : (ks : List Boundary) (bs ts : List ℕ) → Parts ks bs ts → boundaries_of (parted ks bs ts) ≡ ks
+boundaries-parted [] bs ts h = refl
+boundaries-parted (k ∷ ks) bs ts h =
     let p : length (take k.len bs) ≡ k.len = omega (arith, length-take k.len bs, h.bytes) in
     let q : length (take k.tokens ts) ≡ k.tokens = omega (arith, length-take k.tokens ts, h.tokens) in
-    let r = marks-parted ks _ _ (parts_tail k ks bs ts h) in
+    let r = boundaries-parted ks _ _ (parts_tail k ks bs ts h) in
     λ i. record { len = p i; tokens = q i } ∷ r i
 
-some-parted : (ks : List Mark) (bs ts : List ℕ) → Parts ks bs ts → AllByRecursion (λ (i : Mark). 8 ≤ i.len) ks
+some-parted : (ks : List Boundary) (bs ts : List ℕ) → Parts ks bs ts → AllByRecursion (λ (i : Boundary). 8 ≤ i.len) ks
     → AllByRecursion (λ (m : QueuedMessage). 0 < length m.bytes) (parted ks bs ts)
 some-parted [] bs ts h e = tt
 some-parted (k ∷ ks) bs ts h e = (
@@ -101,17 +101,17 @@ some-parted (k ∷ ks) bs ts h e = (
 -- each message of an outbox has bytes
 pub some_messages : (h : Kept) → IsKept h → AllByRecursion (λ (m : QueuedMessage). 0 < length m.bytes)
     (outgoing h).messages
-some_messages h i = some-parted h.marks _ _ (record {
+some_messages h i = some-parted h.boundaries _ _ (record {
   bytes = omega (arith, i.bytes, length-drop h.left h.bytes);
   tokens = i.tokens;
 }) i.each
 
-length-parted : (ks : List Mark) (bs ts : List ℕ) → length (parted ks bs ts) ≡ length ks
+length-parted : (ks : List Boundary) (bs ts : List ℕ) → length (parted ks bs ts) ≡ length ks
 length-parted [] bs ts = refl
 length-parted (k ∷ ks) bs ts = ap suc (length-parted ks _ _)
 
 -- one more message at the end
-pub parted-append : (ks : List Mark) (bs ts m t : List ℕ) → Parts ks bs ts
+pub parted-append : (ks : List Boundary) (bs ts m t : List ℕ) → Parts ks bs ts
     → parted (ks ++ record { len = length m; tokens = length t } ∷ []) (bs ++ m) (ts ++ t)
     ≡ parted ks bs ts ++ queued m t ∷ []
 parted-append [] bs ts m t h =
@@ -131,13 +131,13 @@ parted-append (k ∷ ks) bs ts m t h =
     ) refl
 
 -- the first n messages, and the others
-pub record Split (n : ℕ) (ks : List Mark) (bs ts : List ℕ) : Type 0 where
+pub record Split (n : ℕ) (ks : List Boundary) (bs ts : List ℕ) : Type 0 where
   pub bytes : all_bytes (take n (parted ks bs ts)) ≡ take (lens (take n ks)) bs
   pub tokens : all_tokens (take n (parted ks bs ts)) ≡ take (token_counts (take n ks)) ts
   pub others : drop n (parted ks bs ts) ≡ parted (drop n ks) (drop (lens (take n ks)) bs)
       (drop (token_counts (take n ks)) ts)
 
-split : (n : ℕ) (ks : List Mark) (bs ts : List ℕ) → Parts ks bs ts → Split n ks bs ts
+split : (n : ℕ) (ks : List Boundary) (bs ts : List ℕ) → Parts ks bs ts → Split n ks bs ts
 split zero ks bs ts h = record { bytes = refl; tokens = refl; others = refl }
 split (suc n) [] bs ts h = record { bytes = refl; tokens = refl; others = refl }
 split (suc n) (k ∷ ks) bs ts h =
@@ -152,16 +152,16 @@ split (suc n) (k ∷ ks) bs ts h =
 
 -- ---- an outbox
 
-kept_parts : (h : Kept) → IsKept h → Parts h.marks (drop h.left h.bytes) h.tokens
+kept_parts : (h : Kept) → IsKept h → Parts h.boundaries (drop h.left h.bytes) h.tokens
 kept_parts h i = record { bytes = omega (arith, i.bytes, length-drop h.left h.bytes); tokens = i.tokens }
 
 pub bytes_wait : (h : Kept) → IsKept h → waiting_bytes (outgoing h) ≡ h.bytes
 bytes_wait h i =
-    ap (λ (x : List ℕ). take h.left h.bytes ++ x) (bytes-parted h.marks _ _ (kept_parts h i))
+    ap (λ (x : List ℕ). take h.left h.bytes ++ x) (bytes-parted h.boundaries _ _ (kept_parts h i))
     ∙ take-append-drop h.left h.bytes
 
 pub tokens_wait : (h : Kept) → IsKept h → waiting_tokens (outgoing h) ≡ h.tokens
-tokens_wait h i = tokens-parted h.marks _ _ (kept_parts h i)
+tokens_wait h i = tokens-parted h.boundaries _ _ (kept_parts h i)
 
 pub left_len : (h : Kept) → IsKept h → length (take h.left h.bytes) ≡ h.left
 left_len h i = omega (arith, i.bytes, length-take h.left h.bytes)
@@ -171,18 +171,18 @@ abbrev pub kept_with : Kept → List ℕ → List ℕ → Kept
 kept_with h m t = record h {
   bytes = h.bytes ++ m;
   tokens = h.tokens ++ t;
-  marks = h.marks ++ record { len = length m; tokens = length t } ∷ [];
+  boundaries = h.boundaries ++ record { len = length m; tokens = length t } ∷ [];
 }
 
 same_left : (h : Kept) (m : List ℕ) → IsKept h → take h.left (h.bytes ++ m) ≡ take h.left h.bytes
 same_left h m i = let p : h.left ≤ length h.bytes = omega (arith, i.bytes) in take-append-le h.left h.bytes m p
 
 more_behind : (h : Kept) (m t : List ℕ) → IsKept h
-    → parted (h.marks ++ record { len = length m; tokens = length t } ∷ []) (drop h.left (h.bytes ++ m)) (h.tokens ++ t)
-    ≡ parted h.marks (drop h.left h.bytes) h.tokens ++ queued m t ∷ []
+    → parted (h.boundaries ++ record { len = length m; tokens = length t } ∷ []) (drop h.left (h.bytes ++ m)) (h.tokens ++ t)
+    ≡ parted h.boundaries (drop h.left h.bytes) h.tokens ++ queued m t ∷ []
 more_behind h m t i =
     let p : h.left ≤ length h.bytes = omega (arith, i.bytes) in
-    rw (drop-append-le h.left h.bytes m p) (parted-append h.marks (drop h.left h.bytes) h.tokens m t (kept_parts h i))
+    rw (drop-append-le h.left h.bytes m p) (parted-append h.boundaries (drop h.left h.bytes) h.tokens m t (kept_parts h i))
 
 pub pushed : (h : Kept) (m t : List ℕ) → IsKept h → outgoing (kept_with h m t) ≡ with_message (outgoing h) m t
 pushed h m t i = λ d. record {
@@ -203,18 +203,18 @@ pushed_kept h m t i low room token_room = record {
   bytes = omega (
     arith,
     i.bytes,
-    lens-append h.marks
+    lens-append h.boundaries
         (record { len = length m; tokens = length t }),
     length-append h.bytes m,
   );
   tokens = omega (
     arith,
     i.tokens,
-    token_counts-append h.marks
+    token_counts-append h.boundaries
         (record { len = length m; tokens = length t }),
     length-append h.tokens t,
   );
-  each = each-append h.marks (record { len = length m; tokens = length t }) i.each low;
+  each = each-append h.boundaries (record { len = length m; tokens = length t }) i.each low;
   room = omega (arith, room, length-append h.bytes m);
   token_room = omega (arith, token_room, length-append h.tokens t);
   error_order = i.error_order;
@@ -227,7 +227,7 @@ pushed_kept h m t i low room token_room = record {
 abbrev pub kept_with_error : Kept → List ℕ → Kept
 kept_with_error h m = record h {
   bytes = h.bytes ++ m;
-  marks = h.marks ++ record { len = length m; tokens = 0 } ∷ [];
+  boundaries = h.boundaries ++ record { len = length m; tokens = 0 } ∷ [];
   has_error = true;
   error_from = length h.bytes;
   error_to = length h.bytes + length m;
@@ -237,8 +237,8 @@ pub pushed_error : (h : Kept) (m : List ℕ) → IsKept h → outgoing (kept_wit
 pushed_error h m i =
     let w : length h.bytes ≡ length (waiting_bytes (outgoing h)) =
     ap (λ (l : List ℕ). length l) (sym (bytes_wait h i)) in
-    let e = subst (λ (l : List ℕ). parted (h.marks ++ record { len = length m; tokens = 0 } ∷ [])
-    (drop h.left (h.bytes ++ m)) l ≡ parted h.marks (drop h.left h.bytes) h.tokens ++ queued m [] ∷ [])
+    let e = subst (λ (l : List ℕ). parted (h.boundaries ++ record { len = length m; tokens = 0 } ∷ [])
+    (drop h.left (h.bytes ++ m)) l ≡ parted h.boundaries (drop h.left h.bytes) h.tokens ++ queued m [] ∷ [])
     (append-nil h.tokens) (more_behind h m [] i) in
     λ d. record {
       left = same_left h m i d;
@@ -259,12 +259,12 @@ error_kept h m i first low high =
       bytes = omega (
         arith,
         i.bytes,
-        lens-append h.marks
+        lens-append h.boundaries
             (record { len = length m; tokens = 0 }),
         length-append h.bytes m,
       );
-      tokens = omega (arith, i.tokens, token_counts-append h.marks (record { len = length m; tokens = 0 }));
-      each = each-append h.marks (record { len = length m; tokens = 0 }) i.each low;
+      tokens = omega (arith, i.tokens, token_counts-append h.boundaries (record { len = length m; tokens = 0 }));
+      each = each-append h.boundaries (record { len = length m; tokens = 0 }) i.each low;
       room = omega (arith, i.room, z, i.error_order, length-append h.bytes m);
       token_room = i.token_room;
       error_order = omega arith;
@@ -276,7 +276,7 @@ error_kept h m i first low high =
 -- ---- what goes
 
 pub reaches_kept : (h : Kept) (b t first : ℕ) (r : Reach) → IsKept h → first ≡ min b h.left
-    → r ≡ reach (b - first) t 0 h.marks
+    → r ≡ reach (b - first) t 0 h.boundaries
     → ReachesRoom (outgoing h) b t (record {
       bytes = r.bytes;
       tokens = r.tokens;
@@ -286,12 +286,12 @@ pub reaches_kept : (h : Kept) (b t first : ℕ) (r : Reach) → IsKept h → fir
 reaches_kept h b t first r i f e =
     let p = kept_parts h i in
     let l = left_len h i in
-    let m = marks-parted h.marks _ _ p in
+    let m = boundaries-parted h.boundaries _ _ p in
     let f' : first ≡ min b (length (take h.left h.bytes)) = f ∙ ap (min b) (sym l) in
     let e' : r ≡ reach (b - min b (length (take h.left h.bytes))) t 0
-    (marks_of (parted h.marks (drop h.left h.bytes) h.tokens)) =
+    (boundaries_of (parted h.boundaries (drop h.left h.bytes) h.tokens)) =
     e ∙ (λ d. reach (b - f' d) t 0 (sym m d)) in
-    let g = reaches (outgoing h) b t r (some-parted h.marks _ _ p i.each) e' in
+    let g = reaches (outgoing h) b t r (some-parted h.boundaries _ _ p i.each) e' in
     subst (λ (n : ℕ). ReachesRoom (outgoing h) b t (record {
       bytes = r.bytes;
       tokens = r.tokens;
@@ -314,7 +314,7 @@ pub record GoesOut (o : Outgoing) (b t : ℕ) (l : Leaving) : Type 0 where
   pub leaving : IsLeaving o l
 
 pub goes_out : (h : Kept) (b t first : ℕ) (r : Reach) → IsKept h → first ≡ min b h.left
-    → r ≡ reach (b - first) t 0 h.marks → GoesOut (outgoing h) b t (leaving h b t first r)
+    → r ≡ reach (b - first) t 0 h.boundaries → GoesOut (outgoing h) b t (leaving h b t first r)
 unfolding goes
 goes_out h b t first r i f e =
     let o = outgoing h in
@@ -337,7 +337,7 @@ abbrev pub kept_after : Kept → ℕ → ℕ → ℕ → ℕ → Kept
 kept_after h n k begun left = record h {
   bytes = drop n h.bytes;
   tokens = drop k h.tokens;
-  marks = drop begun h.marks;
+  boundaries = drop begun h.boundaries;
   left = left;
   error_from = h.error_from - n;
   error_to = h.error_to - n;
@@ -347,7 +347,7 @@ kept_after h n k begun left = record h {
 pub record Leaves (h : Kept) (l : Leaving) : Type 0 where
   pub bytes : l.taken.bytes ≤ length h.bytes
   pub tokens : l.taken.tokens ≤ length h.tokens
-  pub marks : l.begun ≤ length h.marks
+  pub boundaries : l.begun ≤ length h.boundaries
   pub after : outgoing (kept_after h l.taken.bytes l.taken.tokens l.begun l.left)
       ≡ after_taking (outgoing h) l.taken.bytes
   pub kept : IsKept (kept_after h l.taken.bytes l.taken.tokens l.begun l.left)
@@ -360,10 +360,10 @@ leaves h r i g =
     let j : ℕ = r.begun in
     let n : ℕ = r.taken.bytes in
     let k : ℕ = r.taken.tokens in
-    let ms = parted h.marks (drop l h.bytes) h.tokens in
-    let s = split j h.marks (drop l h.bytes) h.tokens p in
-    let size : ℕ = lens (take j h.marks) in
-    let count : ℕ = token_counts (take j h.marks) in
+    let ms = parted h.boundaries (drop l h.bytes) h.tokens in
+    let s = split j h.boundaries (drop l h.bytes) h.tokens p in
+    let size : ℕ = lens (take j h.boundaries) in
+    let count : ℕ = token_counts (take j h.boundaries) in
     let begun_is : newly_begun o n ≡ take j ms =
     begun_front (n - length o.left) ms ∙ ap (λ (q : ℕ). take q ms) (sym g.begun) in
     let begun_len : length (newly_begun o n) ≡ j = sym g.begun in
@@ -371,8 +371,8 @@ leaves h r i g =
     ap (λ (m : List QueuedMessage). all_bytes m) begun_is ∙ s.bytes in
     let tokens_are : all_tokens (newly_begun o n) ≡ take count h.tokens =
     ap (λ (m : List QueuedMessage). all_tokens m) begun_is ∙ s.tokens in
-    let size_within : size + lens (drop j h.marks) ≡ lens h.marks = lens-parts j h.marks in
-    let count_within : count + token_counts (drop j h.marks) ≡ token_counts h.marks = counts-parts j h.marks in
+    let size_within : size + lens (drop j h.boundaries) ≡ lens h.boundaries = lens-parts j h.boundaries in
+    let count_within : count + token_counts (drop j h.boundaries) ≡ token_counts h.boundaries = counts-parts j h.boundaries in
     let bytes_len : length (all_bytes (newly_begun o n)) ≡ size =
     ap (λ (q : List ℕ). length q) bytes_are ∙ omega (arith, length-take size (drop l h.bytes), p.bytes, size_within) in
     let tokens_len : length (all_tokens (newly_begun o n)) ≡ count =
@@ -391,21 +391,21 @@ leaves h r i g =
     ∙ ap (λ (q : ℕ). drop n (take q h.bytes)) ends ∙ drop-take n r.left h.bytes in
     let behind : drop r.left (drop n h.bytes) ≡ drop size (drop l h.bytes) =
     drop-drop r.left n h.bytes ∙ ap (λ (q : ℕ). drop q h.bytes) (sym ends) ∙ sym (drop-drop size l h.bytes) in
-    let others : parted (drop j h.marks) (drop r.left (drop n h.bytes)) (drop k h.tokens)
+    let others : parted (drop j h.boundaries) (drop r.left (drop n h.bytes)) (drop k h.tokens)
     ≡ drop (length (newly_begun o n)) ms =
-    (λ d. parted (drop j h.marks) (behind d) (drop (k_is d) h.tokens)) ∙ sym s.others
+    (λ d. parted (drop j h.boundaries) (behind d) (drop (k_is d) h.tokens)) ∙ sym s.others
     ∙ ap (λ (q : ℕ). drop q ms) (sym begun_len) in
     let n_there : n ≤ length h.bytes = omega (arith, ends, i.bytes, size_within) in
     record {
       bytes = n_there;
       tokens = omega (arith, k_is, i.tokens, count_within);
-      marks = omega (
+      boundaries = omega (
         arith,
         begun_len,
         ap (λ (q : List QueuedMessage). length q) begun_is,
         length-take j ms,
         length-parted
-            h.marks (drop l h.bytes) h.tokens,
+            h.boundaries (drop l h.bytes) h.tokens,
       );
       after = λ d. record {
         left = sym front d;
@@ -420,7 +420,7 @@ leaves h r i g =
       kept = record {
         bytes = omega (arith, ends, i.bytes, size_within, length-drop n h.bytes);
         tokens = omega (arith, k_is, i.tokens, count_within, length-drop k h.tokens);
-        each = each-drop j h.marks i.each;
+        each = each-drop j h.boundaries i.each;
         room = omega (arith, i.room, i.error_order, n_there, length-drop n h.bytes);
         token_room = omega (arith, i.token_room, length-drop k h.tokens);
         error_order = omega (arith, i.error_order);
@@ -432,12 +432,12 @@ leaves h r i g =
 
 -- ---- an outbox in which nothing waits
 
-no_marks : (ks : List Mark) → length ks ≡ 0 → ks ≡ []
-no_marks [] h = refl
-no_marks (k ∷ ks) h = absurd (omega arith)
+no_boundaries : (ks : List Boundary) → length ks ≡ 0 → ks ≡ []
+no_boundaries [] h = refl
+no_boundaries (k ∷ ks) h = absurd (omega arith)
 
-kept_none : (h : Kept) → IsKept h → length h.bytes ≡ 0 → h.marks ≡ []
-kept_none h i z = no_marks h.marks (omega (arith, marks_fit h.marks i.each, i.bytes))
+kept_none : (h : Kept) → IsKept h → length h.bytes ≡ 0 → h.boundaries ≡ []
+kept_none h i z = no_boundaries h.boundaries (omega (arith, boundaries_fit h.boundaries i.each, i.bytes))
 
 nothing : (xs : List ℕ) → length xs ≡ 0 → xs ≡ []
 nothing [] h = refl
@@ -448,14 +448,14 @@ pub nothing_waits : (h : Kept) → IsKept h → length h.bytes ≡ 0
 nothing_waits h i z = (
   bytes_wait h i ∙ nothing h.bytes z,
   tokens_wait h i
-      ∙ nothing h.tokens (omega (arith, i.tokens, ap (λ (k : List Mark). token_counts k) (kept_none h i z))),
+      ∙ nothing h.tokens (omega (arith, i.tokens, ap (λ (k : List Boundary). token_counts k) (kept_none h i z))),
 )
 
 pub nothing_left : (h : Kept) → IsKept h → length h.bytes ≡ 0 → ((outgoing h).left ≡ []) × ((outgoing h).messages ≡ [])
 nothing_left h i z = (
   nothing (take h.left h.bytes) (omega (arith, length-take h.left h.bytes)),
   ap
-      (λ (k : List Mark). parted k (drop h.left h.bytes) h.tokens) (kept_none h i z),
+      (λ (k : List Boundary). parted k (drop h.left h.bytes) h.tokens) (kept_none h i z),
 )
 
 pub no_bytes : (h : Kept) → IsKept h → waiting_bytes (outgoing h) ≡ [] → length h.bytes ≡ 0

@@ -4,12 +4,12 @@ use Rattle.std.proofs.Common.{◌||◌, eqb, ltb, ◌⊎◌, inl, inr, List, [],
 use Rattle.std.proofs.Common.{refl, sym, ap, subst, ◌∙◌, arith, length-append}
 use Rattle.std.specs.List.{AllByRecursion}
 use Rattle.std.proofs.lemmas.Bool.Decides.{nat_tests}
-use Rattle.wl_message.specs.declared.marks.Mark.{Mark}
-use Rattle.wl_message.specs.declared.marks.Reach.{Reach}
+use Rattle.wl_message.specs.declared.boundaries.Boundary.{Boundary}
+use Rattle.wl_message.specs.declared.boundaries.Reach.{Reach}
 use Rattle.wl_message.specs.declared.amounts.Amounts.{Amounts}
 use Rattle.wl_message.specs.Outgoing.{QueuedMessage, Outgoing, all_bytes, all_tokens, begun, going}
 use Rattle.wl_message.specs.Outgoing.{newly_begun, going_bytes, Goes, goes}
-use Rattle.wl_message.specs.Marks.{reach}
+use Rattle.wl_message.specs.Boundaries.{reach}
 
 -- ---- the messages begun
 
@@ -150,9 +150,9 @@ pub record Agrees (ms : List QueuedMessage) (b t n g : ℕ) (r : Reach) : Type 0
   pub count : r.begun ≡ n + length (begun g ms)
   pub left : r.left + g ≡ length (all_bytes (begun g ms))
 
-abbrev pub marks_of : List QueuedMessage → List Mark
-marks_of [] = []
-marks_of (m ∷ ms) = record { len = length m.bytes; tokens = length m.tokens } ∷ marks_of ms
+abbrev pub boundaries_of : List QueuedMessage → List Boundary
+boundaries_of [] = []
+boundaries_of (m ∷ ms) = record { len = length m.bytes; tokens = length m.tokens } ∷ boundaries_of ms
 
 abbrev pub stop : ℕ → ℕ → ℕ → Reach
 stop b t n = record { bytes = b; tokens = t; begun = n; left = 0 }
@@ -220,7 +220,7 @@ agrees_at m ms b t n g r false false false p q s h a =
     }
 
 pub agrees : (ms : List QueuedMessage) (b t n : ℕ) → AllByRecursion (λ m. 0 < length m.bytes) ms
-    → Agrees ms b t n (going b t ms) (reach b t n (marks_of ms))
+    → Agrees ms b t n (going b t ms) (reach b t n (boundaries_of ms))
 agrees [] b t n h = agrees_none [] b t n
 agrees (m ∷ ms) b t n h =
     agrees_at m ms b t n _ _ _ _ _ refl refl refl h.0 (agrees ms (b - length m.bytes) (t - length m.tokens) (n + 1) h.1)
@@ -234,7 +234,7 @@ pub record ReachesRoom (o : Outgoing) (b t : ℕ) (r : Reach) : Type 0 where
 
 -- the same, with the rest of a message that is begun
 pub reaches : (o : Outgoing) (b t : ℕ) (r : Reach) → AllByRecursion (λ m. 0 < length m.bytes) o.messages
-    → r ≡ reach (b - min b (length o.left)) t 0 (marks_of o.messages)
+    → r ≡ reach (b - min b (length o.left)) t 0 (boundaries_of o.messages)
     → ReachesRoom o b t (record {
       bytes = r.bytes;
       tokens = r.tokens;
@@ -246,7 +246,7 @@ reaches o b t r h e =
     let g : ℕ = going (b - l) t o.messages in
     let same : b - min b l ≡ b - l = omega arith in
     let a = subst (λ (q : Reach). Agrees o.messages (b - l) t 0 g q)
-    (sym (e ∙ ap (λ (k : ℕ). reach k t 0 (marks_of o.messages)) same)) (agrees o.messages (b - l) t 0 h) in
+    (sym (e ∙ ap (λ (k : ℕ). reach k t 0 (boundaries_of o.messages)) same)) (agrees o.messages (b - l) t 0 h) in
     let n : newly_begun o (going_bytes o b t) ≡ begun g o.messages =
     ap (λ (k : ℕ). begun k o.messages) (after_left o b t) in
     record {

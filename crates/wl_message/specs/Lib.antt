@@ -2,7 +2,7 @@ pub mod Bounds
 pub mod Cut
 pub mod Limits
 pub mod Outgoing
-pub mod Marks
+pub mod Boundaries
 pub mod Arrived
 pub mod InStep
 pub mod Streams

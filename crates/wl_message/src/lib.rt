@@ -7,11 +7,11 @@
 #![tactic(auto)]
 
 mod amounts;
+mod boundaries;
 mod header;
 mod inbox;
 mod laws;
 mod limit;
-mod marks;
 mod outbox;
 mod queue;
 mod script;

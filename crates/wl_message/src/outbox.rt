@@ -7,12 +7,12 @@ ghost use Rattle.wl_message.specs.Cut.{IsMessage};
 ghost use Rattle.wl_message.specs.Outgoing.{no_messages, waiting_bytes, waiting_tokens};
 ghost use Rattle.wl_message.specs.Outgoing.{ordinary_len, room_of, token_room_of, with_message};
 ghost use Rattle.wl_message.specs.Outgoing.{with_error, MayGo, Goes, goes, Peeks, after_taking};
-ghost use Rattle.wl_message.specs.Marks.{IsLeaving};
+ghost use Rattle.wl_message.specs.Boundaries.{IsLeaving};
 ghost use Rattle.wl_message.specs.Streams.{NextHasTokens};
 
 use crate::amounts::{Full, Peek, Taken};
+use crate::boundaries::{Boundaries, Boundary, Leaving};
 use crate::limit::Limit;
-use crate::marks::{Leaving, Mark, Marks};
 use crate::queue::{append, append_encoded, copy_into, first_in_parts, first_part, remove_first};
 use circular_buffer::HeapCircularBuffer;
 use std::alloc::{AllocError, Allocator, Global};
@@ -31,7 +31,7 @@ pub struct Outbox<A: Allocator = Global> {
     bytes: HeapCircularBuffer<u8, A>,
     tokens: HeapCircularBuffer<u32, A>,
     // The messages that are not begun.
-    marks: Marks<A>,
+    boundaries: Boundaries<A>,
     // How many bytes are left of the message that was begun last.
     left: usize,
     // How many bytes of ordinary messages may wait.
@@ -50,12 +50,12 @@ impl<A: Allocator> Model for Outbox<A> {
 
     ghost Value = { Outgoing };
 
-    ghost use Rattle.wl_message.specs.Marks.{Kept, outgoing, IsKept};
+    ghost use Rattle.wl_message.specs.Boundaries.{Kept, outgoing, IsKept};
 
     ghost view = { λ o. outgoing (record {
       bytes = o.bytes.items;
       tokens = o.tokens.items;
-      marks = o.marks.items;
+      boundaries = o.boundaries.items;
       left = o.left;
       capacity = o.capacity;
       token_capacity = o.tokens.capacity;
@@ -69,7 +69,7 @@ impl<A: Allocator> Model for Outbox<A> {
       kept : IsKept (record {
         bytes = o.bytes.items;
         tokens = o.tokens.items;
-        marks = o.marks.items;
+        boundaries = o.boundaries.items;
         left = o.left;
         capacity = o.capacity;
         token_capacity = o.tokens.capacity;
@@ -81,7 +81,7 @@ impl<A: Allocator> Model for Outbox<A> {
       small : o.capacity ≤ max_queue_bytes;
       few_tokens : o.tokens.capacity ≤ max_queue_tokens;
       reserved : o.bytes.capacity ≡ o.capacity + max_error_len;
-      marks_reserved : o.bytes.capacity < 8 * (o.marks.capacity + 1);
+      boundaries_reserved : o.bytes.capacity < 8 * (o.boundaries.capacity + 1);
     } };
 }
 
@@ -96,7 +96,7 @@ impl<A: Allocator + Clone + Drop> Outbox<A> {
         let len = bytes + MAX_ERROR_LEN;
         Ok(Outbox {
             bytes: HeapCircularBuffer::with_capacity(alloc.clone()?, len)?,
-            marks: Marks::with_capacity(alloc.clone()?, len / HEADER_LEN)?,
+            boundaries: Boundaries::with_capacity(alloc.clone()?, len / HEADER_LEN)?,
             tokens: HeapCircularBuffer::with_capacity(alloc, tokens)?,
             left: 0,
             capacity: bytes,
@@ -168,11 +168,11 @@ impl<A: Allocator> Outbox<A> {
         requires tokens { length tokens.now ≤ token_room_of self.old }
         ensures { self.new ≡ with_message self.old message.now tokens.now }
     {
-        let mark = Mark {
+        let boundary = Boundary {
             len: message.len(),
             tokens: tokens.len(),
         };
-        self.marks.push(mark);
+        self.boundaries.push(boundary);
         append(&mut self.bytes, message);
         append(&mut self.tokens, tokens);
     }
@@ -188,11 +188,11 @@ impl<A: Allocator> Outbox<A> {
         ensures outbox { self.new ≡ with_message self.old (E.message message.now) tokens.now }
         ensures store { length store.new ≡ length store.old }
     {
-        let mark = Mark {
+        let boundary = Boundary {
             len: message.encoded_len(),
             tokens: tokens.len(),
         };
-        self.marks.push(mark);
+        self.boundaries.push(boundary);
         append_encoded(&mut self.bytes, message, store);
         append(&mut self.tokens, tokens);
     }
@@ -208,11 +208,11 @@ impl<A: Allocator> Outbox<A> {
         self.has_error = true;
         self.error_from = self.bytes.len();
         self.error_to = self.error_from + message.len();
-        let mark = Mark {
+        let boundary = Boundary {
             len: message.len(),
             tokens: 0,
         };
-        self.marks.push(mark);
+        self.boundaries.push(boundary);
         append(&mut self.bytes, message);
     }
 
@@ -230,7 +230,7 @@ impl<A: Allocator> Outbox<A> {
         self.has_error = true;
         self.error_from = self.bytes.len();
         self.error_to = self.error_from + len;
-        self.marks.push(Mark { len, tokens: 0 });
+        self.boundaries.push(Boundary { len, tokens: 0 });
         append_encoded(&mut self.bytes, message, store);
     }
 
@@ -241,7 +241,7 @@ impl<A: Allocator> Outbox<A> {
         ensures leaving { IsLeaving self.now result }
     {
         let first = bytes.min(self.left);
-        let reach = self.marks.reach_into(bytes - first, tokens);
+        let reach = self.boundaries.reach_into(bytes - first, tokens);
         Leaving {
             taken: Taken {
                 bytes: bytes - reach.bytes,
@@ -261,7 +261,7 @@ impl<A: Allocator> Outbox<A> {
         let Leaving { taken, begun, left } = leaving;
         remove_first(&mut self.bytes, taken.bytes);
         remove_first(&mut self.tokens, taken.tokens);
-        self.marks.remove_first(begun);
+        self.boundaries.remove_first(begun);
         self.left = left;
         self.error_from = self.error_from.saturating_sub(taken.bytes);
         self.error_to = self.error_to.saturating_sub(taken.bytes);

@@ -1,4 +1,4 @@
-//! Queues of bytes, tokens and marks: rings of the crate `circular_buffer`.
+//! Queues of bytes, tokens and boundaries: rings of the crate `circular_buffer`.
 ghost use Rattle.std.specs.Prelude.{◌≡◌, ◌≤◌, ◌<◌, ◌+◌, ◌-◌, ◌++◌, length, take, drop, min};
 ghost use Rattle.std.specs.Prelude.{vec_len, vec_capacity};
 ghost use Rattle.circular_buffer.specs.Buffer.{buffer};
@@ -148,7 +148,9 @@ pub(crate) fn move_first<T: Copy + Drop, A: Allocator>(
     }
 }
 
-/// Moves the first n items into a store, replacing its contents.
+/// Moves the first n items into a store, replacing its contents. Most messages have no token, and
+/// then only the store is cleared.
+#[inline(always)]
 pub(crate) fn move_to_store<T: Copy + Drop, A: Allocator>(
     ring: &mut HeapCircularBuffer<T, A>,
     to: &mut Vec<T, A>,
@@ -164,6 +166,21 @@ pub(crate) fn move_to_store<T: Copy + Drop, A: Allocator>(
         to.clear();
         return;
     }
+    move_front(ring, to, n);
+}
+
+/// Moves the first n items into a store, as `move_to_store` does.
+fn move_front<T: Copy + Drop, A: Allocator>(
+    ring: &mut HeapCircularBuffer<T, A>,
+    to: &mut Vec<T, A>,
+    n: usize,
+)
+    requires waiting { n ≤ length ring.old.items }
+    requires room { ring.old.capacity ≤ vec_capacity to.old }
+    ensures ring { ring.new ≡ buffer (drop n ring.old.items) ring.old.capacity }
+    ensures items { to.new.items ≡ take n ring.old.items }
+    ensures capacity { vec_capacity to.old ≤ vec_capacity to.new }
+{
     let left = ring.len() - n;
     copy_front(ring, to, n);
     ring.truncate_front(left);

@@ -11,7 +11,7 @@ ghost use Rattle.wl_sigs.specs.Tables.{Interface, interface_at, max_messages, me
 ghost use Rattle.wl_sigs.specs.Side.{Side};
 ghost use Rattle.wl_sigs.specs.Side.TheVariants.{Request, Event};
 
-use crate::interface::Entry;
+use crate::interface::StoredInterface;
 use crate::signature::Signature;
 use std::alloc::{AllocError, Allocator};
 use wl_rules::{
@@ -24,20 +24,20 @@ use wl_text::{WrittenInterface, WrittenMessage};
 /// name, and which an event may end.
 #[derive(Drop)]
 pub(crate) struct Known<'k, 'n, A: Allocator> {
-    pub(crate) interfaces: &'n [Entry<A>],
+    pub(crate) interfaces: &'n [StoredInterface<A>],
     pub(crate) places: &'k Places<'n, A>,
     pub(crate) ended: &'k [bool],
 }
 
 // Whether a request has an object of the interface at this index.
-fn is_argument<A: Allocator>(interfaces: &[Entry<A>], place: usize) -> bool
+fn is_argument<A: Allocator>(interfaces: &[StoredInterface<A>], place: usize) -> bool
     ensures { result ≡ has_argument (is_object_of place) interfaces.now Request }
 {
     interfaces.iter().any(|entry| entry.takes_object_of(place))
 }
 
 // Whether an event has a new object of the server of the interface at this index.
-fn is_server_object<A: Allocator>(interfaces: &[Entry<A>], place: usize) -> bool
+fn is_server_object<A: Allocator>(interfaces: &[StoredInterface<A>], place: usize) -> bool
     ensures { result ≡ has_argument (is_server_object_of place) interfaces.now Event }
 {
     interfaces
@@ -47,9 +47,9 @@ fn is_server_object<A: Allocator>(interfaces: &[Entry<A>], place: usize) -> bool
 
 // The lowest rule that an added message breaks because of what the tables already have.
 fn clash_rule<'n, A: Allocator>(
-    interfaces: &[Entry<A>],
+    interfaces: &[StoredInterface<A>],
     place: usize,
-    entry: &Entry<A>,
+    entry: &StoredInterface<A>,
     side: Side,
     message: &WrittenMessage<'n, A>,
 ) -> Option<u8>
@@ -109,7 +109,7 @@ fn messages_of<'w, 'n, A: Allocator>(
 // What the rules of an added message need to know about its interface.
 #[tactic(auto, using(crate::proofs::Grown::empty_behind))]
 fn owner_with<'n, A: Allocator>(
-    entry: &Entry<A>,
+    entry: &StoredInterface<A>,
     more: &WrittenInterface<'n, A>,
     side: Side,
 ) -> Owner
@@ -128,7 +128,7 @@ fn added_side_broken<'k, 'n, A: Allocator + Clone + Drop>(
     alloc: &A,
     known: &Known<'k, 'n, A>,
     here: usize,
-    entry: &'n Entry<A>,
+    entry: &'n StoredInterface<A>,
     more: &WrittenInterface<'n, A>,
     side: Side,
 ) -> Result<Option<BrokenLine>, AllocError>
@@ -164,7 +164,7 @@ fn added_here<'k, 'n, A: Allocator + Clone + Drop>(
     alloc: &A,
     known: &Known<'k, 'n, A>,
     here: usize,
-    entry: &'n Entry<A>,
+    entry: &'n StoredInterface<A>,
     more: Option<&WrittenInterface<'n, A>>,
 ) -> Result<Option<BrokenLine>, AllocError>
     requires { (side : Side) → length (messages_of side entry.now) ≤ max_messages }

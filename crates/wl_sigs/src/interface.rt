@@ -24,7 +24,7 @@ use wl_text::{WrittenInterface, WrittenMessage};
 
 /// One interface of the tables.
 #[derive(Drop)]
-pub(crate) struct Entry<A: Allocator = Global> {
+pub(crate) struct StoredInterface<A: Allocator = Global> {
     name: Name<A>,
     /// `name_hash` of the name.
     hash: u64,
@@ -33,7 +33,7 @@ pub(crate) struct Entry<A: Allocator = Global> {
     events: Vec<Signature<A>, A>,
 }
 
-impl<A: Allocator> Model for Entry<A> {
+impl<A: Allocator> Model for StoredInterface<A> {
     ghost use Rattle.wl_sigs.specs.Tables.{Interface};
 
     ghost Value = { Interface };
@@ -53,9 +53,9 @@ impl<A: Allocator> Model for Entry<A> {
 }
 
 // Without the hash, which the name gives.
-impl<A: Allocator + Debug> Debug for Entry<A> {
+impl<A: Allocator + Debug> Debug for StoredInterface<A> {
     fn fmt<W: fmt::Write>(&self, f: &mut Formatter<W>) -> fmt::Result {
-        f.debug_struct("Entry")
+        f.debug_struct("StoredInterface")
             .field("name", &self.name)
             .field("version", &self.version)
             .field("requests", &self.requests)
@@ -64,7 +64,7 @@ impl<A: Allocator + Debug> Debug for Entry<A> {
     }
 }
 
-impl<A: Allocator> Entry<A> {
+impl<A: Allocator> StoredInterface<A> {
     pub(crate) fn name(&self) -> &[u8]
         ensures { result.now ≡ self.now.name }
     {
@@ -178,11 +178,11 @@ impl<A: Allocator> Entry<A> {
     }
 }
 
-impl<A: Allocator + Clone + Drop> Entry<A> {
+impl<A: Allocator + Clone + Drop> StoredInterface<A> {
     pub(crate) fn of(alloc: &A, interface: &CoreInterface) -> Result<Self, AllocError>
         ensures { IfOk result (λ i. i ≡ interface_written interface.now) }
     {
-        Ok(Entry {
+        Ok(StoredInterface {
             name: Name::from_slice(alloc, interface.name)?,
             hash: name_hash(interface.name),
             version: interface.version,
@@ -195,7 +195,7 @@ impl<A: Allocator + Clone + Drop> Entry<A> {
     pub(crate) fn copy(&self, alloc: &A) -> Result<Self, AllocError>
         ensures { IfOk result (λ i. i ≡ self.now) }
     {
-        Ok(Entry {
+        Ok(StoredInterface {
             name: Name::from_slice(alloc, self.name())?,
             hash: self.hash,
             version: self.version,
@@ -219,7 +219,7 @@ impl<A: Allocator + Clone + Drop> Entry<A> {
         let Some(more) = more else {
             return self.copy(alloc);
         };
-        Ok(Entry {
+        Ok(StoredInterface {
             name: Name::from_slice(alloc, self.name())?,
             hash: self.hash,
             version: more.version,
@@ -264,7 +264,7 @@ impl<A: Allocator + Clone + Drop> Entry<A> {
         requires { PlacesFit (place_in places.now) past }
         ensures { IfOk result (λ i. i ≡ interface_placed (place_in places.now) past interface.now) }
     {
-        Ok(Entry {
+        Ok(StoredInterface {
             name: Name::from_slice(alloc, interface.name)?,
             hash: name_hash(interface.name),
             version: interface.version,

@@ -20,7 +20,7 @@ ghost use Rattle.wl_text.specs.declared.fault.TableFault.TheVariants.{Memory};
 
 use crate::added::{Known, added_broken};
 use crate::core_interfaces::{CORE, CoreInterface};
-use crate::interface::Entry;
+use crate::interface::StoredInterface;
 use crate::signature::Signature;
 use std::alloc::{AllocError, Allocator, Global};
 use std::marker::Model;
@@ -40,7 +40,7 @@ use wl_wire::Iface;
 /// destroys its argument.
 #[derive(Debug, Drop)]
 pub struct Tables<A: Allocator = Global> {
-    interfaces: Vec<Entry<A>, A>,
+    interfaces: Vec<StoredInterface<A>, A>,
 }
 
 impl<A: Allocator> Model for Tables<A> {
@@ -150,7 +150,7 @@ impl<A: Allocator> Tables<A> {
             .any(|entry| entry.has_server_objects())
     }
 
-    fn entry(&self, iface: Iface) -> Option<&Entry<A>>
+    fn entry(&self, iface: Iface) -> Option<&StoredInterface<A>>
         ensures answer { option_copied result ≡ interface_at self.now iface.0 }
         ensures valid { Valid self.now }
     {
@@ -308,7 +308,7 @@ impl<A: Allocator + Clone + Drop> Tables<A> {
             interfaces.push(entry.grown(alloc, places, past, added.get(place))?)?;
         }
         for interface in declared {
-            interfaces.push(Entry::placed(alloc, places, past, interface)?)?;
+            interfaces.push(StoredInterface::placed(alloc, places, past, interface)?)?;
         }
         Ok(Tables { interfaces })
     }
@@ -357,7 +357,7 @@ impl<A: Allocator + Clone + Drop> Tables<A> {
     {
         let mut entries = Vec::with_capacity(alloc.clone()?, interfaces.len())?;
         'interfaces: for interface in interfaces {
-            entries.push(Entry::of(&alloc, interface)?)?;
+            entries.push(StoredInterface::of(&alloc, interface)?)?;
         }
         Ok(Tables {
             interfaces: entries,
@@ -367,7 +367,7 @@ impl<A: Allocator + Clone + Drop> Tables<A> {
 
 // The index of the first interface with this name. No table has a name longer than `MAX_NAME_LEN`,
 // so a longer name is not hashed.
-fn place_in<A: Allocator>(entries: &[Entry<A>], name: &[u8]) -> Option<usize>
+fn place_in<A: Allocator>(entries: &[StoredInterface<A>], name: &[u8]) -> Option<usize>
     ensures place { result ≡ position (λ i. bytes_eq i.name name.now) entries.now }
     ensures within { IfSome result (λ place. place < length entries.now) }
 {

@@ -2,14 +2,14 @@ use Rattle.std.proofs.Common.{◌-◌, sym, subst, arith}
 use Rattle.std.proofs.lemmas.List.{length-drop}
 use Rattle.wl_message.specs.declared.amounts.Amounts.{Amounts}
 use Rattle.wl_message.specs.Outgoing.{Goes}
-use Rattle.wl_message.proofs.PartedQueue.{reaches_kept, goes_out, leaves, marks_fit}
+use Rattle.wl_message.proofs.PartedQueue.{reaches_kept, goes_out, leaves, boundaries_fit}
 use Rattle.wl_message.proofs.WhatGoes.{goes_goes}
 use Rattle.wl_message.proofs.outbox.Outbox.leaving.Goals as goal
 
 pub reach_into-reach-requires : goal.reach_into-reach-requires
 reach_into-reach-requires g c =
     let i = c.self.invariant.kept in
-    omega (arith, marks_fit c.self.inside.marks.items i.each, i.bytes, i.room, i.error_len, c.self.invariant.small)
+    omega (arith, boundaries_fit c.self.inside.boundaries.items i.each, i.bytes, i.room, i.error_len, c.self.invariant.small)
 
 pub overflow_sub-result : goal.overflow_sub-result
 overflow_sub-result g c =

@@ -1,6 +1,6 @@
 use Rattle.std.proofs.Common.{◌-◌, ◌≤◌, length, ap, ◌∙◌, arith}
 use Rattle.wl_message.specs.Outgoing.{with_message}
-use Rattle.wl_message.proofs.PartedQueue.{bytes_wait, tokens_wait, pushed, pushed_kept, marks_fit}
+use Rattle.wl_message.proofs.PartedQueue.{bytes_wait, tokens_wait, pushed, pushed_kept, boundaries_fit}
 use Rattle.wl_message.proofs.outbox.Outbox.push_encoded.Goals as goal
 
 pub push-requires-clause-room : goal.push-requires-clause-room
@@ -13,13 +13,13 @@ push-requires-clause-room g c =
     omega (
       arith,
       r,
-      marks_fit o.marks.items i.each,
+      boundaries_fit o.boundaries.items i.each,
       i.bytes,
       i.error_there,
       i.error_order,
       i.error_len,
       c.self.invariant.reserved,
-      c.self.invariant.marks_reserved,
+      c.self.invariant.boundaries_reserved,
       c.requires.whole.size.header,
     )
 
@@ -58,7 +58,7 @@ invariant_of-self g c =
       small = v.small;
       few_tokens = rw (c.append.ensures) v.few_tokens;
       reserved = rw (c.append_encoded.ensures.ring) v.reserved;
-      marks_reserved = rw (c.append_encoded.ensures.ring, c.push.ensures) v.marks_reserved;
+      boundaries_reserved = rw (c.append_encoded.ensures.ring, c.push.ensures) v.boundaries_reserved;
     }
 
 pub returns-clause-outbox : goal.returns-clause-outbox

@@ -1,6 +1,6 @@
 use Rattle.std.proofs.Common.{◌≡◌, false, ap, ◌∙◌, arith}
 use Rattle.wl_message.specs.Outgoing.{with_error}
-use Rattle.wl_message.proofs.PartedQueue.{pushed_error, error_kept, marks_fit}
+use Rattle.wl_message.proofs.PartedQueue.{pushed_error, error_kept, boundaries_fit}
 use Rattle.wl_message.proofs.outbox.Outbox.push_encoded_error.Goals as goal
 
 pub push-requires-clause-room : goal.push-requires-clause-room
@@ -12,11 +12,11 @@ push-requires-clause-room g c =
     omega (
       arith,
       z,
-      marks_fit o.marks.items i.each,
+      boundaries_fit o.boundaries.items i.each,
       i.bytes,
       i.room,
       c.self.invariant.reserved,
-      c.self.invariant.marks_reserved,
+      c.self.invariant.boundaries_reserved,
     )
 
 pub append_encoded-requires-clause-room : goal.append_encoded-requires-clause-room
@@ -37,7 +37,7 @@ invariant_of-self g c =
       small = i.small;
       few_tokens = i.few_tokens;
       reserved = rw (c.append_encoded.ensures.ring) i.reserved;
-      marks_reserved = rw (c.append_encoded.ensures.ring, c.push.ensures) i.marks_reserved;
+      boundaries_reserved = rw (c.append_encoded.ensures.ring, c.push.ensures) i.boundaries_reserved;
     }
 
 pub returns-clause-outbox : goal.returns-clause-outbox

@@ -13,7 +13,7 @@ remove_first-requires-2 g c =
 
 pub remove_first-requires-3 : goal.remove_first-requires-3
 remove_first-requires-3 g c =
-    (leaves _ c.args.leaving c.self.invariant.kept (rw (← c.self.view_is) at c.requires)).marks
+    (leaves _ c.args.leaving c.self.invariant.kept (rw (← c.self.view_is) at c.requires)).boundaries
 
 pub invariant_of-self : goal.invariant_of-self
 invariant_of-self g c =
@@ -29,7 +29,7 @@ invariant_of-self g c =
       small = c.self.invariant.small;
       few_tokens = rw (c.remove_first-2.ensures) c.self.invariant.few_tokens;
       reserved = rw (c.remove_first.ensures) c.self.invariant.reserved;
-      marks_reserved = rw (c.remove_first.ensures, c.remove_first-3.ensures) c.self.invariant.marks_reserved;
+      boundaries_reserved = rw (c.remove_first.ensures, c.remove_first-3.ensures) c.self.invariant.boundaries_reserved;
     }
 
 pub returns-clause-rest : goal.returns-clause-rest

@@ -1,9 +1,9 @@
-//! Marks that separate bytes and tokens into messages.
+//! Boundaries that separate bytes and tokens into messages.
 ghost use Rattle.std.specs.Prelude.{◌≡◌, ◌≤◌, ◌<◌, ◌%◌, ◌^◌, [], ◌∷◌, ◌++◌, length, drop, map};
 ghost use Rattle.std.specs.Prelude.{IfOk};
 ghost use Rattle.circular_buffer.specs.Buffer.{buffer};
 ghost use Rattle.wl_message.specs.Bounds.{max_queue_tokens};
-ghost use Rattle.wl_message.specs.Marks.{mark_in_word, reach};
+ghost use Rattle.wl_message.specs.Boundaries.{boundary_in_word, reach};
 
 use crate::amounts::Taken;
 use crate::queue::remove_first;
@@ -11,12 +11,12 @@ use circular_buffer::HeapCircularBuffer;
 use std::alloc::{AllocError, Allocator};
 use std::marker::Model;
 
-/// A mark is one word: `len / 4 * TOKENS_END + tokens`.
+/// A boundary is one word: `len / 4 * TOKENS_END + tokens`.
 const TOKENS_END: u32 = 131_072;
 
 /// How many bytes and tokens a message has.
 #[derive(Clone, Copy, Debug)]
-pub(crate) struct Mark {
+pub(crate) struct Boundary {
     pub len: usize,
     pub tokens: usize,
 }
@@ -43,58 +43,58 @@ pub(crate) struct Leaving {
     pub left: usize,
 }
 
-/// The mark in a word.
-fn mark_in_word(word: u32) -> Mark
-    ensures { result ≡ mark_in_word word }
+/// The boundary in a word.
+fn boundary_in_word(word: u32) -> Boundary
+    ensures { result ≡ boundary_in_word word }
 {
-    Mark {
+    Boundary {
         len: 4 * (word / TOKENS_END) as usize,
         tokens: (word % TOKENS_END) as usize,
     }
 }
 
-/// Marks in a ring, four bytes each.
+/// Boundaries in a ring, four bytes each.
 #[derive(Drop)]
-pub(crate) struct Marks<A: Allocator> {
+pub(crate) struct Boundaries<A: Allocator> {
     words: HeapCircularBuffer<u32, A>,
 }
 
-impl<A: Allocator> Model for Marks<A> {
+impl<A: Allocator> Model for Boundaries<A> {
     ghost use Rattle.std.specs.Prelude.{map};
     ghost use Rattle.circular_buffer.specs.Buffer.{Buffer, buffer};
-    ghost use Rattle.wl_message.specs.declared.marks.Mark.{Mark};
-    ghost use Rattle.wl_message.specs.Marks.{mark_in_word};
+    ghost use Rattle.wl_message.specs.declared.boundaries.Boundary.{Boundary};
+    ghost use Rattle.wl_message.specs.Boundaries.{boundary_in_word};
 
-    ghost Value = { Buffer Mark };
+    ghost Value = { Buffer Boundary };
 
-    ghost view = { λ m. buffer (map mark_in_word m.words.items) m.words.capacity };
+    ghost view = { λ m. buffer (map boundary_in_word m.words.items) m.words.capacity };
 }
 
-impl<A: Allocator + Drop> Marks<A> {
-    /// No marks, with room for `capacity` of them.
-    pub fn with_capacity(alloc: A, capacity: usize) -> Result<Marks<A>, AllocError>
-        ensures { IfOk result (λ marks. marks ≡ buffer [] capacity) }
+impl<A: Allocator + Drop> Boundaries<A> {
+    /// No boundaries, with room for `capacity` of them.
+    pub fn with_capacity(alloc: A, capacity: usize) -> Result<Boundaries<A>, AllocError>
+        ensures { IfOk result (λ boundaries. boundaries ≡ buffer [] capacity) }
     {
-        Ok(Marks {
+        Ok(Boundaries {
             words: HeapCircularBuffer::with_capacity(alloc, capacity)?,
         })
     }
 }
 
-impl<A: Allocator> Marks<A> {
-    /// Appends the mark of a message, for which there is room.
-    pub fn push(&mut self, mark: Mark)
+impl<A: Allocator> Boundaries<A> {
+    /// Appends the boundary of a message, for which there is room.
+    pub fn push(&mut self, boundary: Boundary)
         requires room { length self.old.items < self.old.capacity }
-        requires len { mark.len < 65536 }
-        requires words { mark.len % 4 ≡ 0 }
-        requires tokens { mark.tokens ≤ max_queue_tokens }
-        ensures { self.new ≡ buffer (self.old.items ++ mark ∷ []) self.old.capacity }
+        requires len { boundary.len < 65536 }
+        requires words { boundary.len % 4 ≡ 0 }
+        requires tokens { boundary.tokens ≤ max_queue_tokens }
+        ensures { self.new ≡ buffer (self.old.items ++ boundary ∷ []) self.old.capacity }
     {
-        let word = (mark.len / 4) as u32 * TOKENS_END + mark.tokens as u32;
+        let word = (boundary.len / 4) as u32 * TOKENS_END + boundary.tokens as u32;
         let _ = self.words.try_push_back(word);
     }
 
-    /// Removes the first n marks.
+    /// Removes the first n boundaries.
     pub fn remove_first(&mut self, n: usize)
         requires { n ≤ length self.old.items }
         ensures { self.new ≡ buffer (drop n self.old.items) self.old.capacity }
@@ -115,7 +115,7 @@ impl<A: Allocator> Marks<A> {
             left: 0,
         };
         'messages: for word in self.words.iter() {
-            let Mark { len, tokens } = mark_in_word(*word);
+            let Boundary { len, tokens } = boundary_in_word(*word);
             if reach.bytes == 0 {
                 return reach;
             }

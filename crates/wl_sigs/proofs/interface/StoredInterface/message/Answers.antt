@@ -2,7 +2,7 @@ use Rattle.std.proofs.Common.{List, sym, ap, ◌∙◌, slice_get}
 use Rattle.wl_sigs.specs.Side.{Side}
 use Rattle.wl_sigs.specs.Tables.{MessageSignature, Interface, message_of}
 use Rattle.wl_sigs.proofs.Got.{got}
-use Rattle.wl_sigs.proofs.interface.Entry.message.Goals as goal
+use Rattle.wl_sigs.proofs.interface.StoredInterface.message.Goals as goal
 
 pub returns-in-Event : goal.returns-in-Event
 returns-in-Event g c =

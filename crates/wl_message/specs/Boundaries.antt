@@ -1,31 +1,31 @@
--- How an outbox stores its messages: their bytes and tokens joined, and marks that separate them.
+-- How an outbox stores its messages: their bytes and tokens joined, and boundaries that separate them.
 use Rattle.std.specs.Prelude.{◌≡◌, ℕ, ◌+◌, ◌-◌, ◌*◌, ◌/◌, ◌%◌, ◌≤◌, Bool, false, nat_lt, ◌==◌}
 use Rattle.std.specs.Prelude.{if◌then◌else◌, List, [], ◌∷◌, ◌++◌, length, take, drop}
 use Rattle.std.specs.List.{AllByRecursion}
 use Rattle.wl_message.specs.declared.limit.Limit.{Limit}
-use Rattle.wl_message.specs.declared.marks.Leaving.{Leaving}
-use Rattle.wl_message.specs.declared.marks.Mark.{Mark}
-use Rattle.wl_message.specs.declared.marks.Reach.{Reach}
+use Rattle.wl_message.specs.declared.boundaries.Leaving.{Leaving}
+use Rattle.wl_message.specs.declared.boundaries.Boundary.{Boundary}
+use Rattle.wl_message.specs.declared.boundaries.Reach.{Reach}
 use Rattle.wl_message.specs.Bounds.{max_error_len}
 use Rattle.wl_message.specs.Outgoing.{QueuedMessage, queued, Outgoing, all_bytes, all_tokens}
 use Rattle.wl_message.specs.Outgoing.{newly_begun, waiting_bytes}
 
--- the mark in a word, which is `len / 4 * 131072 + tokens`
-abbrev pub mark_in_word : ℕ → Mark
-mark_in_word word = record { len = 4 * (word / 131072); tokens = word % 131072 }
+-- the boundary in a word, which is `len / 4 * 131072 + tokens`
+abbrev pub boundary_in_word : ℕ → Boundary
+boundary_in_word word = record { len = 4 * (word / 131072); tokens = word % 131072 }
 
--- bytes and tokens, separated into messages by the marks
-abbrev pub parted : List Mark → List ℕ → List ℕ → List QueuedMessage
+-- bytes and tokens, separated into messages by the boundaries
+abbrev pub parted : List Boundary → List ℕ → List ℕ → List QueuedMessage
 parted [] bytes tokens = []
 parted (k ∷ ks) bytes tokens =
     queued (take k.len bytes) (take k.tokens tokens)
     ∷ parted ks (drop k.len bytes) (drop k.tokens tokens)
 
-abbrev pub lens : List Mark → ℕ
+abbrev pub lens : List Boundary → ℕ
 lens [] = 0
 lens (k ∷ ks) = k.len + lens ks
 
-abbrev pub token_counts : List Mark → ℕ
+abbrev pub token_counts : List Boundary → ℕ
 token_counts [] = 0
 token_counts (k ∷ ks) = k.tokens + token_counts ks
 
@@ -33,7 +33,7 @@ token_counts (k ∷ ks) = k.tokens + token_counts ks
 pub record Kept : Type 0 where
   pub bytes : List ℕ
   pub tokens : List ℕ
-  pub marks : List Mark
+  pub boundaries : List Boundary
   pub left : ℕ
   pub capacity : ℕ
   pub token_capacity : ℕ
@@ -45,7 +45,7 @@ pub record Kept : Type 0 where
 abbrev pub outgoing : Kept → Outgoing
 outgoing h = record {
   left = take h.left h.bytes;
-  messages = parted h.marks (drop h.left h.bytes) h.tokens;
+  messages = parted h.boundaries (drop h.left h.bytes) h.tokens;
   capacity = h.capacity;
   token_capacity = h.token_capacity;
   limit = h.limit;
@@ -54,12 +54,12 @@ outgoing h = record {
   error_to = h.error_to;
 }
 
--- the marks cover all bytes and tokens, the error event is among the bytes, and all other bytes are
+-- the boundaries cover all bytes and tokens, the error event is among the bytes, and all other bytes are
 -- within the capacity
 pub record IsKept (h : Kept) : Type 0 where
-  pub bytes : h.left + lens h.marks ≡ length h.bytes
-  pub tokens : token_counts h.marks ≡ length h.tokens
-  pub each : AllByRecursion (λ k. 8 ≤ k.len) h.marks
+  pub bytes : h.left + lens h.boundaries ≡ length h.bytes
+  pub tokens : token_counts h.boundaries ≡ length h.tokens
+  pub each : AllByRecursion (λ k. 8 ≤ k.len) h.boundaries
   pub room : length h.bytes + h.error_from ≤ h.capacity + h.error_to
   pub token_room : length h.tokens ≤ h.token_capacity
   pub error_order : h.error_from ≤ h.error_to
@@ -69,7 +69,7 @@ pub record IsKept (h : Kept) : Type 0 where
 
 -- How far messages reach into a room for b bytes and t tokens, after n others that began: the room
 -- left, how many messages began, and how many bytes are left of the last one begun.
-abbrev pub reach : ℕ → ℕ → ℕ → List Mark → Reach
+abbrev pub reach : ℕ → ℕ → ℕ → List Boundary → Reach
 reach b t n [] = record { bytes = b; tokens = t; begun = n; left = 0 }
 reach b t n (k ∷ ks) =
     if b == 0 then record { bytes = b; tokens = t; begun = n; left = 0 } else
