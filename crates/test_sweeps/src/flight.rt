@@ -1,6 +1,6 @@
 //! The messages that one end has written and the other has not read.
 
-use crate::meant::{Meant, maker_of};
+use crate::meant::Meant;
 use crate::spelled::named;
 use std::alloc::Global;
 use std::collections::VecDeque;
@@ -93,7 +93,7 @@ impl Flight {
         match self.messages.front() {
             Some(message) if self.is_whole() => message
                 .ended
-                .is_some_and(|object| maker_of(object.id) == Maker::Client),
+                .is_some_and(|object| Maker::of(object.id) == Maker::Client),
             _ => false,
         }
     }

@@ -124,7 +124,7 @@ impl MeantEnd {
 
     /// A live object or zombie; `None` if this end has no object of this id and birth.
     pub fn known(&self, object: Object) -> Option<Meant> {
-        let row = self.range(maker_of(object.id)).at(object.id)?;
+        let row = self.range(Maker::of(object.id)).at(object.id)?;
         if row.object == object {
             Some(row)
         } else {
@@ -159,14 +159,5 @@ impl MeantEnd {
         let range = self.range_mut(object.id);
         range.set(object.id, None);
         Ok(range.freed.push(object.id)?)
-    }
-}
-
-/// Who makes the objects of an id.
-pub fn maker_of(id: u32) -> Maker {
-    if id < FIRST_SERVER_ID {
-        Maker::Client
-    } else {
-        Maker::Server
     }
 }

@@ -2,7 +2,7 @@
 //! It is worked out from the moves alone; no end is asked.
 
 use crate::flight::{Effect, Flight, Message};
-use crate::meant::{Meant, MeantEnd, maker_of};
+use crate::meant::{Meant, MeantEnd};
 use crate::spelled::{put_tokens, put_told};
 use crate::tally::Tally;
 use std::alloc::{AllocError, Global};
@@ -162,7 +162,7 @@ impl<'a> Model<'a> {
     pub fn free_at_server(&mut self, object: Object) -> Result<(), AllocError> {
         self.server.free(object)?;
         self.registries.retain(|told| told.registry != object);
-        if maker_of(object.id) == Maker::Server {
+        if Maker::of(object.id) == Maker::Server {
             return Ok(());
         }
         let mut message = Message::new(self.alloc, object, Iface(0), 1);

@@ -123,21 +123,21 @@ fn judge_message<A: Allocator>(
     if is_disallowed_bind(tables, known, side, header.opcode, &message, &changes) {
         return Ok(Err(Fault::BadBind));
     }
-    write(sink, side, &lookup, &message, taken)?;
+    write(sink, &lookup, &message, taken)?;
     Ok(Ok(changes))
 }
 
 /// Appends the wanted output for a message, before the message changes what is known.
 fn write<A: Allocator>(
     sink: &mut Sink<A>,
-    side: Side,
     lookup: &ReaderLookup<'_, A>,
     message: &Received<'_, '_>,
     taken: u128,
 ) -> Result<(), AllocError>
     requires { taken < 2 ^ 127 }
     ensures text { OnOk result (sink.new.text.items ≡ sink.old.text.items
-        ++ wanted sink.old.output (line lookup.now.tables.now side
+        ++ wanted sink.old.output (line lookup.now.tables.now
+        (side_of lookup.now.direction)
         (reader_by lookup.now.tables.now (known_in lookup.now.known.now)
         lookup.now.direction).object
         (received_of message.now) taken)) }
@@ -147,7 +147,7 @@ fn write<A: Allocator>(
         Output::Nothing => Ok(()),
         Output::Lines => {
             sink.text.reserve(LINE_ROOM)?;
-            write_line(&mut sink.text, lookup.tables, side, lookup, message, taken)
+            write_line(&mut sink.text, lookup, message, taken)
         }
     }
 }

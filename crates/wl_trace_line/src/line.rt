@@ -10,7 +10,7 @@ use crate::sink::Sink;
 use crate::text::{name_of, write_head};
 use std::alloc::{AllocError, Allocator};
 use wl_objects::{Lookup, Received, Values};
-use wl_sigs::{Side, Tables};
+use wl_sigs::Tables;
 use wl_wire::{Iface, Kind, ValueRef};
 
 /// Appends the line of a message that was read, and its line feed, before the message changes what
@@ -20,16 +20,16 @@ use wl_wire::{Iface, Kind, ValueRef};
 /// is printed as `taken + 1`. Without memory, a part of the line may have been appended.
 pub fn write_line<A: Allocator, L: Lookup>(
     out: &mut Vec<u8, A>,
-    tables: &Tables,
-    side: Side,
     lookup: &L,
     message: &Received<'_, '_>,
     taken: u128,
 ) -> Result<(), AllocError>
     requires { taken < 2 ^ 127 }
     ensures { OnOk result (out.new.items ≡ out.old.items
-        ++ line tables.now side (L.reader lookup.now).object (received_of message.now) taken) }
+        ++ line (L.tables lookup.now) (L.side lookup.now) (L.reader lookup.now).object
+        (received_of message.now) taken) }
 {
+    let (tables, side) = (lookup.tables(), lookup.side());
     let signature = message.signature;
     let interface = name_of(tables, message.entry.iface);
     write_head(out, side, interface, message.target.id, signature.name())?;
