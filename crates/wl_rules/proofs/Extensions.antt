@@ -49,7 +49,7 @@ not_lt a b le = fails (nat_lt a b) (λ t. let lt = ltb-true a b t in omega (arit
     fails true never = absurd (never refl)
     fails false never = refl
 
--- the place of the first that passes
+-- the place of the first element that passes
 position_cons : {X : Type 0} (test : X → Bool) (x : X) (xs : List X)
     → position test (x ∷ xs) ≡ cond (test x) (Some 0) (option_map suc (position test xs))
 position_cons test x xs = by_test (test x) (position_or_len test xs) (length xs)
@@ -73,7 +73,7 @@ position_cons test x xs = by_test (test x) (position_or_len test xs) (length xs)
         rw lt refl
     by_test false n len = let on : 1 + n ≡ suc n = omega arith in rw on (shift n len (nat_lt n len) refl)
 
--- the first of a name is extended, if there is one
+-- the first interface of a name is extended, if there is one
 pub extend_none : (more : WrittenInterface) (xs : List WrittenInterface)
     → position (λ i. bytes_eq i.name more.name) xs ≡ None → extend_first more xs ≡ xs
 extend_none more [] none = refl

@@ -24,7 +24,7 @@ pub earlier_nothing : (a : Option Broken) → earlier a None ≡ a
 earlier_nothing None = refl
 earlier_nothing (Some a) = refl
 
--- which of three is the first does not hang on the order of the tests
+-- the first of three broken lines does not depend on how they are grouped
 pub earlier_assoc : (a b d : Option Broken) → earlier (earlier a b) d ≡ earlier a (earlier b d)
 earlier_assoc None b d = refl
 earlier_assoc (Some a) None d = refl
@@ -55,7 +55,7 @@ interfaces_broken-push place ended n (x ∷ is) i =
     rw (rest, next) (sym (earlier_assoc (interface_broken place ended n x) (interfaces_broken place ended (n + 1) is)
     (interface_broken place ended (n + suc (length is)) i)))
 
--- where none is broken, none of the messages breaks a rule
+-- if no broken line is found, none of the messages breaks a rule
 pub each_message_keeps : (rule : ℕ → WrittenMessage → Option ℕ) (n : ℕ) (ms : List WrittenMessage)
     → messages_broken rule n ms ≡ None
     → (k : ℕ) (m : WrittenMessage) → slice_get ms k ≡ Some m → rule (n + k) m ≡ None
@@ -108,7 +108,7 @@ interfaces_broken-next place ended n is k i within same =
     let pushed = interfaces_broken-push place ended n (take k is) i in
     rw (take_more is k i within, ← same) (rw len at pushed)
 
--- what the tests of a message from V6 on find
+-- the rule that the tests of a message from V6 on find
 module _ (place : List ℕ → Option ℕ) (ended : List Bool) (i : WrittenInterface) (side : Side) (m : WrittenMessage) where
   pub later_six : names_objects side m ≡ false → later_rule place ended i side m ≡ Some 6
   later_six objects = rw objects refl

@@ -28,7 +28,7 @@ use Rattle.wl_rules.specs.Broken.{is_first}
 use Rattle.wl_rules.specs.NameHash.{name_hash}
 use Rattle.wl_rules.specs.Places.{place_in}
 
--- the place of a name once one more stands behind the others
+-- the place of a name after one more name is appended
 abbrev pub with_name : Option ℕ → Bool → ℕ → Option ℕ
 with_name (Some place) same next = Some place
 with_name None same next = cond same (Some next) None
@@ -47,7 +47,7 @@ first_place-push names name q =
     (after_one (position_or_len p names) (length names) (bytes_eq name q)
     (prefix_len-le-length (λ other. not (p other)) names))
 
--- places of names, once one more name that had none has the next place
+-- the places of names after a name that had none gets the next place
 pub inserted : (places : List ℕ → Option ℕ) (name q : List ℕ) (next : ℕ) → is_some (places name) ≡ false
     → cond (bytes_eq name q) (Some next) (places q) ≡ with_name (places q) (bytes_eq name q) next
 inserted places name q next none = by_test (bytes_eq name q) refl
@@ -66,7 +66,7 @@ inserted places name q next none = by_test (bytes_eq name q) refl
         had_none (places q) (subst (λ n. is_some (places n) ≡ false) same none)
     by_test false is = stays (places q)
 
--- the same where the name had a place, which is written back
+-- the same for a name that had a place: that place is written back
 pub written_back : (places : List ℕ → Option ℕ) (name q : List ℕ) (next earlier : ℕ) → places name ≡ Some earlier
     → cond (bytes_eq name q) (Some earlier) (cond (bytes_eq name q) (Some next) (places q))
     ≡ with_name (places q) (bytes_eq name q) next
@@ -84,7 +84,7 @@ written_back places name q next earlier had = by_test (bytes_eq name q) refl
         sym (ap (λ o. with_name o true next) has)
     by_test false is = stays (places q)
 
--- a name compares as equal to another's key where the two are the same
+-- a name compares as equal to the key of another if and only if the two names are the same
 same_keys : (hash : List ℕ → ℕ) (a b : List ℕ)
     → is_eq (ordering_then (nat_cmp (hash a) (hash b)) (slice_cmp nat_cmp a b)) ≡ bytes_eq a b
 same_keys hash a b =
@@ -99,7 +99,7 @@ same_keys hash a b =
     second false true both = both refl
     second false false both = refl
 
--- the places of names, once one name has another
+-- the places of names after the place of one name is changed
 pub place_in-updates : (m n : BTreeMap (ℕ × Bor (List ℕ)) ℕ) (hash : ℕ) (name : Bor (List ℕ)) (w : Option ℕ)
     → hash ≡ name_hash name.now
     → Updates (λ x y. ordering_then (nat_cmp x.0 y.0) (slice_cmp nat_cmp x.1.now y.1.now)) m n (hash, name) w
@@ -134,7 +134,7 @@ places-next names k name old new within is before after q =
     ∙ sym (first_place-push (take k names) name q)
     ∙ sym (ap (λ (l : List (List ℕ)). first_place l q) more)
 
--- where a name has a first place, no earlier place has it
+-- no place before the first place of a name has that name
 stops_here : (passes : Bool) (n : ℕ) → passes ≡ true → cond (not passes) (1 + n) 0 ≤ 0
 stops_here true n e = omega arith
 stops_here false n e = cc e
@@ -169,7 +169,7 @@ pub first_place-within : (names : List (List ℕ)) (name : List ℕ) (p : ℕ) �
 first_place-within names name p first = found_within (position_or_len (λ other. bytes_eq other name) names)
     (length names) p first
 
--- a name that is there has a first place, where it stands
+-- a name in the list has a first place, and the list has the name there
 pub first_place-of : (names : List (List ℕ)) (name : List ℕ) (q : ℕ) → slice_get names q ≡ Some name
     → (p : ℕ) × (first_place names name ≡ Some p) × (slice_get names p ≡ Some name)
 first_place-of (first ∷ more) name q at =
@@ -186,7 +186,7 @@ first_place-of (first ∷ more) name q at =
     (position_or_len same names, found, slice_get-get_or names (position_or_len same names) first p.0 ∙ ap Some is)
 first_place-of [] name q at = cc at
 
--- where a name stands, it stands for the first time if it does not stand before
+-- a place that has the name is its first place if and only if no place before it has the name
 first_at : {X : Type 0} (f : X → List ℕ) (xs : List X) (name : List ℕ) (k : ℕ)
     → option_map f (slice_get xs k) ≡ Some name
     → (position_or_len (λ other. bytes_eq other name) (map f xs) == k)

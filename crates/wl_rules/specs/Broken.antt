@@ -52,7 +52,7 @@ makes_unnamed k = makes_object k && not (is_some k.iface)
 abbrev pub takes_any : WrittenKind → Bool
 takes_any k = is_object k.kind && not (is_some k.iface)
 
--- whether the interface at an index has a destroying event, given the list of those that have one
+-- whether the interface at an index has a destroying event; the list has a flag for each interface
 abbrev pub is_ended : List Bool → Option ℕ → Bool
 is_ended ended None = false
 is_ended ended (Some place) = option_map_or (λ b. b) (slice_get ended place) false
@@ -68,13 +68,13 @@ names_missing place k =
     takes_interface k.kind
     && option_map_or (λ name. not (is_some (place name))) k.iface (needs_interface k.kind)
 
--- whether the server may not make objects of the interface at an index, given the list of those
--- that have a destroying event
+-- whether the server must not make objects of the interface at an index; the list says which
+-- interfaces have a destroying event
 abbrev pub is_forbidden : List Bool → Option ℕ → Bool
 is_forbidden ended None = false
 is_forbidden ended (Some place) = is_fixed_place place || is_ended ended (Some place)
 
--- a new object of the server of such an interface
+-- a new object of the server, of an interface whose objects it must not make
 abbrev pub makes_forbidden : (List ℕ → Option ℕ) → List Bool → WrittenKind → Bool
 makes_forbidden place ended k =
     is_made_by_server k.kind
@@ -89,12 +89,12 @@ interface_rule place here i =
     else (if not (nat_le 1 i.version) then Some 8
     else None))
 
--- the most new objects of the client that a message has
+-- how many new objects of the client a message may have
 abbrev pub most_new : Side → ℕ
 most_new Request = 1
 most_new Event = 0
 
--- the most new objects of the server
+-- how many new objects of the server a message may have
 abbrev pub most_by_server : Side → ℕ
 most_by_server Request = 0
 most_by_server Event = 1
@@ -122,8 +122,8 @@ later_rule place ended i side m =
     && list_all (λ k. not (makes_forbidden place ended k)) m.kinds) then Some 11
     else None))))
 
--- the lowest rule that a message of the interface breaks; `first` gives the opcodes of the first
--- messages with their names
+-- the lowest rule that a message of the interface breaks; `first` gives, for a name, the opcode of
+-- the first message that has it
 abbrev pub message_rule : (List ℕ → Option ℕ) → List Bool → WrittenInterface → Side
     → (List ℕ → Option ℕ) → ℕ → WrittenMessage → Option ℕ
 message_rule place ended i side first opcode m =
@@ -184,8 +184,8 @@ abbrev pub ended_of : List Interface → List WrittenInterface → List Bool
 ended_of tables written =
     map has_destroying_event tables ++ map (λ i. list_any (λ m. m.destroys) i.events) written
 
--- the first line of a text that breaks a rule, when the text is appended to these tables, and the
--- lowest rule there
+-- the first line of a text that breaks a rule when the text is appended to these tables, and the
+-- lowest rule that this line breaks
 abbrev pub first_broken : List Interface → List WrittenInterface → Option Broken
 first_broken tables written =
     interfaces_broken (first_place (all_names tables written)) (ended_of tables written)

@@ -9,12 +9,12 @@ use Rattle.wl_text.specs.Text.{WrittenInterface}
 use Rattle.wl_rules.specs.Broken.{Broken, earlier}
 use Rattle.wl_rules.specs.Extending.{added_side_broken}
 
--- this interface has what the rules of a message require to know
+-- what is kept about this interface for the rules of its messages
 abbrev pub IsOwner : Owner → WrittenInterface → Type 0
 IsOwner owner i = (i.version ≡ owner.version) × (is_empty i.requests ≡ not owner.has_requests)
 
--- the first broken line of what is added to the interface at an index, if anything may be added to
--- it
+-- the first broken line among the messages added to the interface at an index; none if nothing is
+-- added to it
 abbrev pub added_here : List Interface → (List ℕ → Option ℕ) → List Bool → ℕ → Interface
     → Option WrittenInterface → Option Broken
 added_here tables place ended here i None = None

@@ -6,7 +6,7 @@ use Rattle.wl_rules.specs.Tables.{Interface}
 use Rattle.wl_text.specs.Text.{WrittenInterface}
 use Rattle.wl_rules.specs.Joined.{all_names, first_place, message_placed, joined}
 
--- what a text that does not mention an interface of the tables says about it: no message
+-- what a text adds to an interface of the tables that it does not mention: no message
 abbrev pub unsaid : Interface → WrittenInterface
 unsaid i = record {
   line = 0;
@@ -40,8 +40,8 @@ extend_first more (i ∷ rest) =
 abbrev pub first_named : List ℕ → List WrittenInterface → Option WrittenInterface
 first_named name written = find (λ i. bytes_eq i.name name) written
 
--- what lines of a text say: what they add to each interface of the tables, in order of the tables,
--- and the interfaces that they declare
+-- what lines of a text say: what they add to each interface of the tables, in the order of the
+-- tables, and the interfaces that they declare
 pub record Gathered : Type 0 where
   pub added : List WrittenInterface
   pub declared : List WrittenInterface
@@ -76,7 +76,7 @@ interface_grown place past i more = record {
   events = i.events ++ map (message_placed place past) more.events;
 }
 
--- the same if nothing may be added to it
+-- the same if something is added to it, and the interface as it is otherwise
 abbrev pub grown_by : (List ℕ → Option ℕ) → ℕ → Interface → Option WrittenInterface → Interface
 grown_by place past i None = i
 grown_by place past i (Some more) = interface_grown place past i more
@@ -89,8 +89,8 @@ all_grown place past (i ∷ rest) [] = i ∷ rest
 all_grown place past (i ∷ rest) (more ∷ added) =
     interface_grown place past i more ∷ all_grown place past rest added
 
--- the tables with what is added to their interfaces; a name means the first interface of the tables
--- and the text that has it
+-- the tables with what is added to their interfaces; a name means the first interface that has it,
+-- in the tables and then in the text
 abbrev pub grown : List Interface → Gathered → List Interface
 grown tables g =
     let names = all_names tables g.declared in

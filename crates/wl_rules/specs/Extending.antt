@@ -26,18 +26,19 @@ abbrev pub version_rule : ℕ → Option WrittenInterface → Option ℕ
 version_rule version None = Some 9
 version_rule version (Some i) = if nat_lt version i.version then Some 8 else None
 
--- the lowest rule that an extension's line breaks, after lines that say this
+-- the lowest rule that the line of an extension breaks, given what the lines before it say
 abbrev pub extend_rule : Gathered → WrittenInterface → Option ℕ
 extend_rule g next =
     if is_fixed_name next.name then Some 2
     else version_rule next.version (first_named next.name (g.added ++ g.declared))
 
--- this line, if it is an extension's and breaks a rule
+-- this line, if it is an extension and breaks a rule
 abbrev pub extension_broken : Gathered → WrittenInterface → Option Broken
 extension_broken g next =
     if next.extends then broken_at next.line (extend_rule g next) else None
 
--- the first of these lines that is an extension's and breaks a rule, after lines that say this
+-- the first of these lines that is an extension and breaks a rule, given what the lines before them
+-- say
 abbrev pub extensions_broken : Gathered → List WrittenInterface → Option Broken
 extensions_broken g [] = None
 extensions_broken g (next ∷ more) =
@@ -58,9 +59,9 @@ abbrev pub has_argument : (Kind → Bool) → List Interface → Side → Bool
 has_argument test tables side =
     list_any (λ i. list_any (λ m. list_any test m.kinds) (messages_of side i)) tables
 
--- The lowest rule that an added message breaks because of what the tables already have: a request,
--- if an event of its interface destroys its target; an event that destroys its target, if a request
--- has an argument of its interface, or an event a new object of it.
+-- The lowest rule that an added message breaks because of what the tables already have. A request
+-- breaks one if an event of its interface destroys its target. An event that destroys its target
+-- breaks one if a request has an argument of its interface, or an event has a new object of it.
 abbrev pub clash_rule : List Interface → ℕ → Interface → Side → WrittenMessage → Option ℕ
 clash_rule tables place i Request m = if has_destroying_event i then Some 7 else None
 clash_rule tables place i Event m =
@@ -78,7 +79,7 @@ lesser (Some rule) (Some other) = if nat_lt other rule then Some other else Some
 abbrev pub by_name : MessageSignature → WrittenMessage
 by_name m = record { line = 0; name = m.name; since = m.since; kinds = []; destroys = false }
 
--- what is added to an interface, after the names of the messages that it has
+-- what is added to an interface, with the messages that the interface already has before it
 abbrev pub behind_names : Interface → WrittenInterface → WrittenInterface
 behind_names i more = record more {
   requests = map by_name i.requests ++ more.requests;
@@ -111,15 +112,15 @@ added_broken tables place ended here (i ∷ rest) (more ∷ added) =
     (added_side_broken tables place ended here i more Event))
     (added_broken tables place ended (here + 1) rest added)
 
--- the first line that breaks a rule if lines say this, apart from the lines of extensions
+-- the first line that breaks a rule, among all lines but those of extensions
 abbrev pub messages_or_declared_broken : List Interface → Gathered → Option Broken
 messages_or_declared_broken tables g =
     let all = grown tables g in
     earlier (added_broken tables (first_place (all_names all g.declared))
     (ended_of all g.declared) 0 tables g.added) (first_broken all g.declared)
 
--- the first line of a text that breaks a rule, when the text is appended to these tables, and the
--- lowest rule there
+-- the first line of a text that breaks a rule when the text is appended to these tables, and the
+-- lowest rule that this line breaks
 abbrev pub first_line_broken : List Interface → List WrittenInterface → Option Broken
 first_line_broken tables written =
     earlier (extensions_broken (gathered tables []) written)

@@ -107,8 +107,8 @@ pub data MessageBreaks (all : List Interface) (i : Interface) (side : Side) (opc
       → Contains m.kinds (kinds.NewByServer iface) → interface_at all iface.0 ≡ Some j
       → IsFixedPlace iface.0 → MessageBreaks all i side opcode m rule
 
--- The line breaks the rule: it declares an interface or a message that does, among the tables with
--- the text's interfaces appended.
+-- The line declares an interface or a message that breaks the rule in the tables with the text's
+-- interfaces appended.
 pub data BreaksRule (tables : List Interface) (written : List WrittenInterface) (line rule : ℕ)
     : Type 0 where
   by_interface : (place : ℕ) (i : Interface) → DeclaresInterface tables written line place i

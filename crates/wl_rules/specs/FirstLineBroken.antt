@@ -21,7 +21,7 @@ pub data IsFixedName (name : List ℕ) : Type 0 where
   names_callback : name ≡ codes "wl_callback" → IsFixedName name
   names_fixes : name ≡ codes "wl_fixes" → IsFixedName name
 
--- The line is an extension's; in the text it follows lines that say this.
+-- The line is that of an extension. The lines before it say `g`.
 pub record DeclaresExtension (tables : List Interface) (written : List WrittenInterface)
     (line : ℕ) (g : Gathered) (own : WrittenInterface) : Type 0 where
   pub before : List WrittenInterface
@@ -31,7 +31,7 @@ pub record DeclaresExtension (tables : List Interface) (written : List WrittenIn
   pub below : g ≡ gathered tables before
   pub line_is : line ≡ own.line
 
--- The extension breaks the rule on its own, after lines that say this.
+-- The extension breaks the rule on its own, after lines that say `g`.
 pub data ExtensionBreaks (g : Gathered) (own : WrittenInterface) (rule : ℕ) : Type 0 where
   -- V2: it extends one of the four fixed interfaces
   extends_fixed : rule ≡ 2 → IsFixedName own.name → ExtensionBreaks g own rule
@@ -44,7 +44,7 @@ pub data ExtensionBreaks (g : Gathered) (own : WrittenInterface) (rule : ℕ) : 
       → ExtensionBreaks g own rule
 
 -- The line adds the message with this opcode on one side to the interface at this index of the
--- tables; the tables have that interface as `old`, and the result as `i`.
+-- tables. The interface is `old` in the tables and `i` in the extended tables.
 pub record AddsMessage (tables : List Interface) (written : List WrittenInterface)
     (line place : ℕ) (old i : Interface) (side : Side) (opcode : ℕ) (m : MessageSignature)
     : Type 0 where
@@ -66,13 +66,13 @@ pub data Clashes (tables : List Interface) (place : ℕ) (old : Interface) (side
   -- V7: an event of the interface destroys its target, and this is a request
   request_of_ended : rule ≡ 7 → side ≡ Request → has_destroying_event old ≡ true
       → Clashes tables place old side m rule
-  -- V7: it is an event that destroys its target, and an argument of a request is such an object
+  -- V7: it is an event that destroys its target, and a request has an argument of its interface
   ends_argument : (p opcode : ℕ) (request : MessageSignature) (null : Bool) (iface : Iface)
       → rule ≡ 7 → side ≡ Event → destroys_target m.destroys ≡ true
       → signature_at tables p Request opcode ≡ Some request
       → Contains request.kinds (kinds.Obj null (Some iface)) → iface.0 ≡ place
       → Clashes tables place old side m rule
-  -- V11: it is an event that destroys its target, and another event makes such an object
+  -- V11: it is an event that destroys its target, and an event makes an object of its interface
   ends_server_object : (p opcode : ℕ) (event : MessageSignature) (iface : Iface) → rule ≡ 11
       → side ≡ Event → destroys_target m.destroys ≡ true
       → signature_at tables p Event opcode ≡ Some event

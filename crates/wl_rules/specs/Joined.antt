@@ -24,7 +24,7 @@ abbrev pub iface_named : (List ℕ → Option ℕ) → ℕ → List ℕ → Ifac
 iface_named place past name = record { 0 = unwrap_or (place name) past }
 
 -- The kind with its interface, if it has one. A text names the interface of each new object of the
--- server; without a name it would be the one past all.
+-- server; if it named none, the interface would have the index one past all.
 abbrev pub with_iface : ℕ → BareKind → Option Iface → Kind
 with_iface past bare.Int iface = kinds.Int
 with_iface past bare.Uint iface = kinds.Uint

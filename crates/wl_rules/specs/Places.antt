@@ -30,7 +30,7 @@ AreFirst places names =
     (place : List ℕ → Option ℕ) → places ≡ Some place → (name : List ℕ)
     → place name ≡ first_place names name
 
--- Each name's index fits in 16 bits, and so does the index past all, which a name without an index
--- gets.
+-- Each name's index fits in 16 bits. A name without an index gets the one past all, which also
+-- fits.
 abbrev pub PlacesFit : (List ℕ → Option ℕ) → ℕ → Type 0
 PlacesFit place past = (past < 65536) × ((name : List ℕ) → unwrap_or (place name) past < 65536)

@@ -14,7 +14,7 @@ use Rattle.wl_rules.specs.Tables.{named_interface, destroys_argument, server_obj
 use Rattle.wl_rules.specs.Tables.{has_server_object}
 use Rattle.wl_rules.specs.Tables.{max_name_len, max_interfaces, max_messages, max_args}
 
--- each element passes, given its index, if the first has index n
+-- each element passes the test with its index; the first has index n
 abbrev pub all_from : {X : Type 0} → (ℕ → X → Bool) → ℕ → List X → Bool
 all_from test n [] = true
 all_from test n (x ∷ xs) = test n x && all_from test (n + 1) xs
@@ -139,12 +139,12 @@ abbrev pub is_fixed_place : ℕ → Bool
 is_fixed_place place =
     nat_eq place 0 || (nat_eq place 1 || (nat_eq place 2 || nat_eq place 18))
 
--- whether the server may not make objects of the interface at an index
+-- whether the server must not make objects of the interface at an index
 abbrev pub is_unmakeable : ℕ → Option Interface → Bool
 is_unmakeable place None = false
 is_unmakeable place (Some i) = is_fixed_place place || has_destroying_event i
 
--- whether an argument is a new object of the server of such an interface
+-- whether an argument is a new object of the server, of an interface whose objects it must not make
 abbrev pub is_wrongly_made : List Interface → Kind → Bool
 is_wrongly_made tables (kinds.NewByServer iface) =
     is_unmakeable iface.0 (interface_at tables iface.0)

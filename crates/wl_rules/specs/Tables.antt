@@ -63,20 +63,21 @@ abbrev pub place_of : List Interface → List ℕ → Option Iface
 place_of tables name =
     option_map (λ place. record { 0 = place }) (position (λ i. bytes_eq i.name name) tables)
 
--- the interface of each of the arguments that is a new object of the client, in order; none if the
--- signature gives none
+-- the interfaces of the arguments that are new objects of the client, in order; none for each to
+-- which the signature gives none
 abbrev pub new_objects : List Kind → List (Option Iface)
 new_objects [] = []
 new_objects (kinds.New iface ∷ more) = iface ∷ new_objects more
 new_objects (_ ∷ more) = new_objects more
 
--- the interface of each of the arguments that is a new object of the server, in order
+-- the interfaces of the arguments that are new objects of the server, in order
 abbrev pub server_objects : List Kind → List Iface
 server_objects [] = []
 server_objects (kinds.NewByServer iface ∷ more) = iface ∷ server_objects more
 server_objects (_ ∷ more) = server_objects more
 
--- the interface of each new object of either, in order; none if the signature gives none
+-- the interfaces of all arguments that are new objects, in order; none for each to which the
+-- signature gives none
 abbrev pub made_objects : List Kind → List (Option Iface)
 made_objects [] = []
 made_objects (kinds.New iface ∷ more) = iface ∷ made_objects more
@@ -149,7 +150,7 @@ abbrev pub is_descriptor_kind : Kind → Bool
 is_descriptor_kind kinds.Fd = true
 is_descriptor_kind _ = false
 
--- how many tokens a message of these kinds takes
+-- how many tokens a message takes with arguments of these kinds
 abbrev pub descriptors : List Kind → ℕ
 descriptors ks = count_by is_descriptor_kind ks
 

@@ -32,8 +32,8 @@ pub record IsTableName (name : List ℕ) : Type 0 where
   pub few : length name ≤ max_name_len
   pub bytes : All IsNameByte name
 
--- V1: interfaces and messages have names; the names of interfaces are distinct, and so are those of
--- messages within one interface and side
+-- V1: interfaces and messages have names; no two interfaces have the same name, and no two messages
+-- on one side of an interface
 pub record NamesAreDistinct (tables : List Interface) : Type 0 where
   pub interfaces_named : EachInterface tables (λ i. IsTableName i.name)
   pub interfaces_distinct : (p q : ℕ) (i j : Interface)
@@ -44,8 +44,8 @@ pub record NamesAreDistinct (tables : List Interface) : Type 0 where
       → signature_at tables place side o ≡ Some m → signature_at tables place side p ≡ Some n
       → m.name ≡ n.name → o ≡ p
 
--- V2: wl_display, wl_registry and wl_callback come first, and wl_fixes has index 18, each exactly
--- as fixed; so whatever refers to one of them by its index refers to it
+-- V2: wl_display, wl_registry and wl_callback come first, and wl_fixes has index 18, each as it is
+-- fixed; so these indices always mean these interfaces
 pub record HasFixedFour (tables : List Interface) : Type 0 where
   pub display : interface_at tables 0 ≡ Some wl_display
   pub registry : interface_at tables 1 ≡ Some wl_registry
@@ -83,7 +83,7 @@ NoAnyInRequests tables =
     EachMessage tables Request (λ m. All (λ k. (null : Bool) → k ≢ kinds.Obj null None) m.kinds)
 
 -- V7: an interface with a destroying event has no requests, and no request has an object argument
--- of it. Otherwise an honest request in flight could meet an object that an event has closed.
+-- of it. Otherwise an honest request in flight could reach an object that an event has destroyed.
 pub record DestroyingEventsAreRaceFree (tables : List Interface) : Type 0 where
   pub no_requests : EachInterface tables (λ i. has_destroying_event i ≡ true → i.requests ≡ [])
   pub no_arguments : EachMessage tables Request (λ m.
@@ -91,7 +91,8 @@ pub record DestroyingEventsAreRaceFree (tables : List Interface) : Type 0 where
       → k ≡ kinds.Obj null (Some iface) → interface_at tables iface.0 ≡ Some i
       → has_destroying_event i ≡ false) m.kinds)
 
--- V8: each version is at least 1, and each message came with a version of its interface from 1 on
+-- V8: the version of each interface is at least 1, and the since number of each message is from 1
+-- to the version of its interface
 pub record SincesAreInRange (tables : List Interface) : Type 0 where
   pub versions : EachInterface tables (λ i. 1 ≤ i.version)
   pub from_one : (side : Side) → EachMessage tables side (λ m. 1 ≤ m.since)
@@ -118,8 +119,8 @@ abbrev pub IsFixedPlace : ℕ → Type 0
 IsFixedPlace place =
     (place ≡ display.0) ⊎ (place ≡ registry.0) ⊎ (place ≡ callback.0) ⊎ (place ≡ fixes.0)
 
--- V11: only events have new objects of the server, each at most one; its interface has no
--- destroying event, and is none of the four
+-- V11: only events have new objects of the server, at most one each; the interface of that object
+-- has no destroying event, and is none of the four
 pub record ServerMakesRightly (tables : List Interface) : Type 0 where
   pub requests : EachMessage tables Request (λ m. server_objects m.kinds ≡ [])
   pub events : EachMessage tables Event (λ m. length (server_objects m.kinds) ≤ 1)
@@ -128,7 +129,7 @@ pub record ServerMakesRightly (tables : List Interface) : Type 0 where
       → k ≡ kinds.NewByServer iface → interface_at tables iface.0 ≡ Some i
       → (has_destroying_event i ≡ false) × ¬ IsFixedPlace iface.0) m.kinds)
 
--- Valid tables. A proof cites one of the rules.
+-- Valid tables: they keep all rules.
 pub record Valid (tables : List Interface) : Type 0 where
   pub names_distinct : NamesAreDistinct tables
   pub fixed_four : HasFixedFour tables

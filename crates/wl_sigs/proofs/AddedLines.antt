@@ -23,7 +23,7 @@ use Rattle.wl_sigs.proofs.LeastRule.{IsLeastRule, least_tested, least_lesser, In
 use Rattle.wl_sigs.proofs.LeastRule.{messages_by}
 use Rattle.wl_sigs.proofs.Clashes.{clash_least}
 
--- an added message breaks a rule, as a text has its interface
+-- an added message breaks a rule; its interface is in the form of a text
 abbrev pub AddedBreaks : List Interface → Gathered → ℕ → Interface → WrittenInterface → Side → ℕ → WrittenMessage → ℕ
     → Type 0
 AddedBreaks tables g here old more side o m rule =
@@ -75,7 +75,7 @@ side_least tables g here old more side =
     here old more side) (length (messages_of side old)) (written_of side more)
     (λ k m at. added_message tables g here old more side k m at)
 
--- the messages that are added to interfaces, the first of which stands at this place
+-- the messages added to interfaces, of which the first has the place `here`
 pub record InAdded (tables : List Interface) (g : Gathered) (here : ℕ) (rest : List Interface)
     (added : List WrittenInterface) (line rule : ℕ) : Type 0 where
   pub index : ℕ

@@ -1,4 +1,4 @@
--- What the loops over texts that extend do at each step.
+-- What each step of the loops over a text with extensions does.
 use Rattle.std.proofs.Common.{◌≡◌, ℕ, suc, ◌+◌, ◌<◌, ◌≤◌, true, false, List, [], ◌∷◌, ◌++◌, length}
 use Rattle.std.proofs.Common.{get_or, take, map, refl, sym, ap, ◌∙◌, Some, None, Option, Bool}
 use Rattle.std.proofs.Common.{slice_get, add-zero, ◌||◌, arith}
@@ -88,7 +88,7 @@ grown-next place past xs k x added within is =
     ∙ grown_push place past (take k xs) x added
     ∙ ap (λ (j : ℕ). all_grown place past (take k xs) added ++ grown_by place past x (slice_get added j) ∷ []) len
 
--- which of these an event may end
+-- which of these interfaces have an event that may end their objects
 any_append : {X : Type 0} (test : X → Bool) (xs ys : List X)
     → list_any test (xs ++ ys) ≡ list_any test xs || list_any test ys
 any_append test [] ys = refl
@@ -129,7 +129,7 @@ ended-next tables written added k x within is =
     ∙ map-append has_destroying_event before (grown_by place past x (slice_get added k) ∷ [])
     ∙ ap (λ (b : Bool). map has_destroying_event before ++ b ∷ []) (ended_with tables written x (slice_get added k))
 
--- what reading finds behind these tables, by places that are looked up
+-- the broken line that reading finds, with places that are looked up
 pub others_by : (tables : List Interface) (g : Gathered) (entries : List Interface) (added declared : List WrittenInterface)
     (place : List ℕ → Option ℕ) (ended : List Bool) (from : ℕ) → entries ≡ tables → added ≡ g.added
     → declared ≡ g.declared → place ≡ first_place (all_names tables g.declared)

@@ -4,7 +4,7 @@ use Rattle.std.specs.Bool.{Decides}
 use Rattle.std.proofs.lemmas.Bool.Decides.{Decides-like, Decides-and}
 use Rattle.wl_sigs.specs.Rules.{all_from}
 
--- P holds of each element and its place, where the first stands at n
+-- P holds for each element and its place; the first element is at place n
 abbrev HoldsFrom : {X : Type 0} → (ℕ → X → Type 0) → ℕ → List X → Type 0
 HoldsFrom {X} P n xs = (p k : ℕ) (x : X) → p ≡ n + k → slice_get xs k ≡ Some x → P p x
 

@@ -1,4 +1,4 @@
--- Which rules an added message breaks by what the tables have already.
+-- Which rules an added message breaks because of what the tables already have.
 use Rattle.std.proofs.Common.{◌≡◌, ℕ, ◌⊎◌, inl, inr, true, false, cond, List, refl, sym, ap, ◌∙◌}
 use Rattle.std.proofs.Common.{subst, Some, None, Bool, slice_get, ◌&&◌, arith}
 use Rattle.std.specs.List.{Contains, list_any}
@@ -22,7 +22,7 @@ use Rattle.wl_sigs.proofs.ValidKeeps.{any_true}
 use Rattle.wl_sigs.proofs.LineRules.{contains}
 use Rattle.wl_sigs.proofs.LeastRule.{IsLeastRule}
 
--- an argument of a message of the tables passes
+-- an argument of a message of the tables passes the test
 record Named (test : Kind → Bool) (tables : List Interface) (side : Side) : Type 0 where
   place : ℕ
   opcode : ℕ
@@ -92,7 +92,7 @@ of_both : (a b : Bool) → a ≡ true → b ≡ true → a && b ≡ true
 of_both true b e e' = e'
 of_both false b e e' = cc e
 
--- the rules that a message breaks by what the tables have already
+-- the rules that an added message breaks because of what the tables already have
 
 request_clash : (tables : List Interface) (place : ℕ) (old : Interface) (m : WrittenMessage) (s : MessageSignature)
     → (t : Bool) → has_destroying_event old ≡ t

@@ -1,4 +1,4 @@
--- The core tables are valid: the tests compute.
+-- The core tables are valid: the tests of the rules compute to true.
 use Rattle.std.proofs.Common.{refl}
 use Rattle.wl_sigs.specs.Core.{core_tables}
 use Rattle.wl_sigs.specs.Valid.{Valid}

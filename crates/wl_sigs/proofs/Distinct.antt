@@ -1,4 +1,4 @@
--- A test of a list of names tells whether they are distinct.
+-- A test that decides whether the names in a list are distinct.
 use Rattle.std.proofs.Common.{◌≡◌, ℕ, zero, suc, List, [], ◌∷◌, refl, sym, ◌∙◌, ap, map, slice_get}
 use Rattle.std.proofs.Common.{not, bytes_eq, Option, Some, None, option_map}
 use Rattle.std.specs.List.{list_all}
@@ -9,7 +9,7 @@ use Rattle.std.proofs.lemmas.Slice.Eq.{bytes_eq-Decides}
 use Rattle.wl_sigs.specs.Rules.{are_distinct}
 use Rattle.wl_sigs.proofs.TestsDecide.{Decides-each}
 
--- equal names stand at one place
+-- equal names are at the same place
 abbrev Distinct : List (List ℕ) → Type 0
 Distinct names = (p q : ℕ) (name : List ℕ) → slice_get names p ≡ Some name → slice_get names q ≡ Some name → p ≡ q
 
@@ -48,7 +48,7 @@ mapped_some : {X Y : Type 0} (f : X → Y) (o : Option X) (y : Y) → option_map
 mapped_some f None y h = cc
 mapped_some f (Some x) y h = (x, refl, cc)
 
--- no two elements of one name
+-- no two elements have the same name
 abbrev pub DistinctBy : {X : Type 0} → (X → List ℕ) → List X → Type 0
 DistinctBy {X} name_of xs = (p q : ℕ) (x y : X) → slice_get xs p ≡ Some x → slice_get xs q ≡ Some y
     → name_of x ≡ name_of y → p ≡ q

@@ -1,4 +1,4 @@
--- Tables and a text make valid tables exactly where no line of the text breaks a rule.
+-- Tables extended by a text are valid if and only if no line of the text breaks a rule.
 use Rattle.std.proofs.Common.{◌≡◌, ℕ, ◌<◌, ◌≤◌, inl, inr, true, false, List, length, refl, sym, ap}
 use Rattle.std.proofs.Common.{◌∙◌, subst, Some, None, Option, Bool, slice_get, ◌+◌, arith}
 use Rattle.std.specs.Prelude.{◌↔◌}
@@ -37,7 +37,7 @@ use Rattle.wl_sigs.proofs.GrownStays.{stays, message_stays}
 use Rattle.wl_sigs.proofs.GrownValid.{NoLineBreaks, of_contained, grown_keeps}
 use Rattle.wl_sigs.proofs.FirstLineWords.{line_least}
 
--- what was found breaks no rule of valid tables
+-- if no broken line is found, no line breaks a rule
 none_breaks : (tables : List Interface) (written : List WrittenInterface) → first_line_broken tables written ≡ None
     → NoLineBreaks tables written
 none_breaks tables written none line rule breaks = (line_least tables written).none none line rule breaks
@@ -123,7 +123,7 @@ message_keeps all valid place i side o m at of no_bind rule breaks = by_rule bre
         let right = (made iface j there found).0 in let no : true ≡ false = sym ends ∙ right in cc no
     by_rule (server_object_of_fixed iface j is there found fixed) = (made iface j there found).1 fixed
 
--- what is added to valid tables is no wl_registry.bind
+-- no message that is added to valid tables is wl_registry.bind
 not_bind : (tables : List Interface) (written : List WrittenInterface) → Valid tables → (line place : ℕ)
     (old i : Interface) (side : Side) (o : ℕ) (m : MessageSignature)
     → AddsMessage tables written line place old i side o m → IsBind place side o → ⊥
@@ -135,7 +135,7 @@ not_bind tables written valid line place old i side o m d bind =
     let first = bind.bind in
     omega (arith, opcode, one, first)
 
--- in valid tables nothing that was added clashes
+-- if the extended tables are valid, no added message clashes with the tables before
 none_clashes : (tables : List Interface) (written : List WrittenInterface) → Valid (extended tables written)
     → (line place : ℕ) (old i : Interface) (side : Side) (o : ℕ) (m : MessageSignature)
     → AddsMessage tables written line place old i side o m → (rule : ℕ) → Clashes tables place old side m rule → ⊥

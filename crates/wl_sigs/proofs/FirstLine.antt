@@ -1,4 +1,4 @@
--- The broken line that is found is the first, and its rule the least that it breaks.
+-- The broken line that is found is the first one, and its rule is the lowest that it breaks.
 use Rattle.std.proofs.Common.{◌≡◌, ℕ, zero, suc, ◌+◌, ◌≤◌, ◌⊎◌, inl, inr, true, false, cond, List}
 use Rattle.std.proofs.Common.{[], ◌∷◌, length, map, refl, sym, ap, ◌∙◌, subst, Some, None, Option}
 use Rattle.std.proofs.Common.{Bool, slice_get, not, nat_le, nat_lt, ◌<◌, ◌==◌, ◌&&◌, ◌||◌, arith}
@@ -50,7 +50,7 @@ message_tests place ended i side first opcode m =
     && list_all (λ k. not (makes_forbidden place ended k)) m.kinds)
     ∷ []
 
--- what a text declares at a line, with the tests of it
+-- what a text declares at a line, with the tests for it
 pub data Declares (tables : List Interface) (written : List WrittenInterface) (line : ℕ)
     (tests : List Tested) : Type 0 where
   an_interface : (k : ℕ) (i : WrittenInterface)
@@ -63,7 +63,7 @@ pub data Declares (tables : List Interface) (written : List WrittenInterface) (l
       (first_place (map (λ n. n.name) (written_of side i))) o m
       → Declares tables written line tests
 
--- the rule is among these and is not kept
+-- one of the tests is for this rule and fails
 pub record Breaks (tests : List Tested) (rule : ℕ) : Type 0 where
   pub place : ℕ
   pub at : slice_get tests place ≡ Some (tested rule false)
@@ -73,7 +73,7 @@ abbrev pub failing : List Tested → Option ℕ
 failing [] = None
 failing (t ∷ more) = cond (not t.kept) (Some t.rule) (failing more)
 
--- each rule is at least n, and at least those before it
+-- the rules ascend, and the first is at least n
 abbrev pub Ascends : ℕ → List Tested → Type 0
 Ascends n [] = Unit {0}
 Ascends n (t ∷ more) = (n ≤ t.rule) × Ascends t.rule more
@@ -85,7 +85,7 @@ ascending n (x ∷ more) up zero t at = let same : x ≡ t = cc at in subst (λ 
 ascending n (x ∷ more) up (suc k) t at = let rest = ascending x.rule more up.1 k t at in let here = up.0
     in omega (arith, rest, here)
 
--- a rule that fails first among tests in order is the least that fails
+-- the rule of a test that fails, and no test of a lower rule fails
 pub record FailsFirst (tests : List Tested) (rule : ℕ) : Type 0 where
   pub breaks : Breaks tests rule
   pub least : (other : ℕ) → Breaks tests other → rule ≤ other
@@ -123,7 +123,7 @@ fails_first n (t ∷ more) up rule fails = by_test t.kept refl fails (λ e. fail
           least = λ other b. behind_kept t more rule kept answer.least other b.place b.at;
         }
 
--- where a rule is broken, some rule fails first
+-- if a test fails, there is a first test that fails
 pub some_fails : (tests : List Tested) (rule k : ℕ) → slice_get tests k ≡ Some (tested rule false)
     → (first : ℕ) × (failing tests ≡ Some first)
 some_fails [] rule k at = cc at
@@ -138,11 +138,12 @@ some_fails (t ∷ more) rule (suc k) at = by_test t.kept (some_fails more rule k
     by_test false rest = (t.rule, refl)
     by_test true rest = rest
 
--- a line is not before this one, nor at it with a lesser rule
+-- the line comes later than the answer, or is the same line with the same or a higher rule
 abbrev pub NotBefore : Broken → ℕ → ℕ → Type 0
 NotBefore answer line rule = (answer.line < line) ⊎ ((answer.line ≡ line) × (answer.rule ≤ rule))
 
--- the broken line is one of these, and none of these is before it
+-- the answer is the first line, with its lowest rule, that satisfies P; without an answer, no line
+-- satisfies P
 pub record IsLeast (P : ℕ → ℕ → Type 0) (o : Option Broken) : Type 0 where
   pub found : (answer : Broken) → o ≡ Some answer → P answer.line answer.rule
   pub below : (answer : Broken) → o ≡ Some answer → (line rule : ℕ) → P line rule → NotBefore answer line rule
@@ -395,7 +396,7 @@ interfaces_least place ended n (i ∷ is) =
           breaks = subst (λ (k : ℕ). InInterface place ended k x line rule) on breaks;
         })
 
--- what was found declares something of which this rule is the least that it breaks
+-- the line declares something, and this is the lowest rule that it breaks
 record Names (tables : List Interface) (written : List WrittenInterface) (line rule : ℕ) : Type 0 where
   tests : List Tested
   declares : Declares tables written line tests
@@ -459,7 +460,7 @@ names_of tables written line rule index i at breaks = elim breaks [
               (rw on at m.breaks);
         }
 
--- the first of the tests that fails, of those that a line declares
+-- what the line declares breaks a rule, and the first rule that fails for it is at most this one
 pub record Among (tables : List Interface) (written : List WrittenInterface) (line rule : ℕ) : Type 0 where
   pub first : ℕ
   pub within : InInterfaces (first_place (all_names tables written)) (ended_of tables written) (length tables) written
@@ -472,7 +473,7 @@ first_fails tests up rule breaks =
     let some = some_fails tests rule breaks.place breaks.at in
     (some.0, some.1, (fails_first 0 tests up some.0 some.1).least rule breaks)
 
--- whatever breaks a rule is among those of which the first was found
+-- each line that breaks a rule is among the lines of which the first is found
 among : (tables : List Interface) (written : List WrittenInterface) (line rule : ℕ) (tests : List Tested)
     → Declares tables written line tests → Breaks tests rule → Among tables written line rule
 among tables written line rule tests (an_interface k i at line_is tests_are) breaks =
@@ -516,7 +517,7 @@ pub later_not_before : (answer : Broken) (line first rule : ℕ) → NotBefore a
 later_not_before answer line first rule (inl lt) le = inl lt
 later_not_before answer line first rule (inr same) le = inr (same.0, let le' = same.1 in omega (arith, le, le'))
 
--- what breaks a rule by tests
+-- the line breaks the rule, judged by the tests
 pub record ByTests (tables : List Interface) (written : List WrittenInterface) (line rule : ℕ) : Type 0 where
   pub tests : List Tested
   pub declares : Declares tables written line tests

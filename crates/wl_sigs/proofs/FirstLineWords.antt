@@ -24,7 +24,7 @@ use Rattle.wl_sigs.proofs.LikeInterface.{like_interface}
 use Rattle.wl_sigs.proofs.AddedLines.{AddedBreaks, InAdded, added_least}
 use Rattle.wl_sigs.proofs.ExtensionLines.{InExtensions, extensions_least}
 
--- an added message as the tables have it
+-- an added message in the form that it has in the tables
 abbrev placed_of : List Interface → Gathered → WrittenMessage → MessageSignature
 placed_of tables g = let names = all_names tables g.declared in message_placed (first_place names) (length names)
 
@@ -227,7 +227,7 @@ line_least tables written =
     (of_either _ _ _ _ (extensions_least (gathered tables []) written)
     (of_either _ _ _ _ (added_least tables g 0 tables g.added) (declared_least (grown tables g) g.declared)))
 
--- the first line and the least rule there
+-- the first line that breaks a rule, and the lowest rule that it breaks
 pub first_line : (tables : List Interface) (written : List WrittenInterface) (witness : Broken)
     → (first_line_broken tables written ≡ Some witness) ↔ IsFirstBrokenLine tables written witness
 first_line tables written witness = (to, λ first. back first (first_line_broken tables written) refl)

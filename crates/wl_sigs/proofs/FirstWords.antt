@@ -1,5 +1,5 @@
--- The broken line of a text's own interfaces that is found is the first that breaks a rule, in the
--- words of the rules, and its rule the least there.
+-- Among a text's own interfaces, the broken line that is found is the first that breaks a rule, in
+-- the words of the rules, and its rule is the lowest that it breaks.
 use Rattle.std.proofs.Common.{◌≡◌, ℕ, ◌+◌, List, length, map, refl, sym, ap, ◌∙◌, subst, Some}
 use Rattle.std.specs.Prelude.{option_map}
 use Rattle.wl_sigs.specs.Tables.{MessageSignature, Interface, interface_at, message_of}

@@ -1,4 +1,4 @@
--- What lines of a text make of what was said before.
+-- How lines of a text change what the lines before them say.
 use Rattle.std.proofs.Common.{◌≡◌, ℕ, zero, suc, ◌≤◌, ◌⊎◌, inl, inr, true, false, cond, List, []}
 use Rattle.std.proofs.Common.{◌∷◌, ◌++◌, length, map, refl, sym, ap, ◌∙◌, Some, None}
 use Rattle.std.proofs.Common.{Bool, slice_get, nat_lt, bytes_eq, append-nil, append_assoc, arith}
@@ -97,7 +97,7 @@ pub length_gathered : (tables : List Interface) (written : List WrittenInterface
     → length (gathered tables written).added ≡ length tables
 length_gathered tables written = length_from (gathered tables []) written ∙ length-map tables unsaid
 
--- what is said of an interface of the tables, and what is later
+-- what a text says about an interface, before and after further lines
 pub record Later (before after : WrittenInterface) : Type 0 where
   pub name : after.name ≡ before.name
   pub version : before.version ≤ after.version
@@ -115,14 +115,14 @@ later_from g (next ∷ written) p w at = elim (added_kept g next p w at) [
       (witness.0, witness.1, record { name = witness.2.name; version = omega (arith, up, on) })
 ]
 
--- what a text says of an interface of the tables
+-- what a text says about an interface of the tables
 pub said_of : (tables : List Interface) (written : List WrittenInterface) (p : ℕ) (i : Interface)
     → slice_get tables p ≡ Some i
     → (more : WrittenInterface) × (slice_get (gathered tables written).added p ≡ Some more) × Later (unsaid i) more
 said_of tables written p i at = later_from (gathered tables []) written p (unsaid i)
     (slice_get-map unsaid tables p ∙ ap (option_map unsaid) at)
 
--- no extension is of one of the four
+-- an extension that breaks no rule is not for one of the four fixed interfaces
 not_fixed : (g : Gathered) (next : WrittenInterface) → next.extends ≡ true
     → cond next.extends (broken_at next.line (extend_rule g next)) None ≡ None → is_fixed_name next.name ≡ false
 not_fixed g next extends none = by_extends next.extends extends none

@@ -1,4 +1,4 @@
--- What `get` of a slice gives.
+-- What `get` on a slice returns.
 use Rattle.std.proofs.Common.{◌≡◌, ℕ, List, length, ltb, sym, get_or, slice_get, Option, Some, None, refl}
 use Rattle.std.specs.Prelude.{is_some, option_copied, IfSome}
 use Rattle.std.proofs.lemmas.Bool.{ltb-true, ltb-false}

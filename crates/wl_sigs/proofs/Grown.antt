@@ -1,4 +1,4 @@
--- What stands where in the tables with what a text adds to them.
+-- What is at each place of tables to which a text adds messages.
 use Rattle.std.proofs.Common.{◌≡◌, ℕ, zero, suc, List, [], ◌∷◌, ◌++◌, length}
 use Rattle.std.proofs.Common.{map, refl, sym, ap, ◌∙◌, Some, Option, slice_get, arith}
 use Rattle.std.specs.Prelude.{◌&&◌}
@@ -94,7 +94,7 @@ pub written_behind : (i : Interface) (more : WrittenInterface) (side : Side)
 written_behind i more Request = refl
 written_behind i more Event = refl
 
--- names of messages, with what a text adds behind those that are there
+-- the names of an interface's messages, followed by the names of those that a text adds
 names_by_name : (ms : List MessageSignature)
     → map (λ n. n.name) (map by_name ms) ≡ map (λ n. n.name) ms
 names_by_name [] = refl
@@ -125,7 +125,8 @@ names_of_messages place past i more side =
     ∙ ap (λ (names : List (List ℕ)). map (λ n. n.name) (messages_of side i) ++ names)
     (placed_message_names place past (written_of side more))
 
--- the two forms of an interface to which something is added: as a text has it, and as the tables do
+-- an interface to which messages are added has the same names in both forms: that of a text and
+-- that of the tables
 pub same_names : (place : List ℕ → Option ℕ) (past : ℕ) (tables : List Interface) (written : List WrittenInterface)
     (i : Interface) (more : WrittenInterface) (side : Side)
     → map (λ n. n.name) (messages_of side (placing tables written (behind_names i more)))

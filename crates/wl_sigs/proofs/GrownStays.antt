@@ -1,4 +1,4 @@
--- What a text leaves as it is of the tables that it extends.
+-- What a text leaves unchanged in the tables that it extends.
 use Rattle.std.proofs.Common.{◌≡◌, ℕ, ◌≤◌, List, length}
 use Rattle.std.proofs.Common.{map, refl, Some}
 use Rattle.wl_sigs.specs.Side.{Side}
@@ -14,7 +14,7 @@ use Rattle.wl_sigs.proofs.Grown.{grown_messages}
 use Rattle.wl_sigs.proofs.Gathering.{said_of}
 use Rattle.wl_sigs.proofs.FirstLineWords.{stands_at}
 
--- an interface of the tables in the extended ones
+-- an interface of the tables, as it is in the extended tables
 pub record Stays (tables : List Interface) (written : List WrittenInterface) (place : ℕ) (i : Interface) : Type 0 where
   pub interface : Interface
   pub at : interface_at (extended tables written) place ≡ Some interface

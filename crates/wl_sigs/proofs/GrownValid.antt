@@ -1,4 +1,4 @@
--- Tables to which a text adds messages keep the rules, where no line of it breaks one.
+-- Tables to which a text adds messages keep the rules if no line of the text breaks one.
 use Rattle.std.proofs.Common.{◌≡◌, ◌≢◌, ℕ, zero, suc, ◌+◌, ◌-◌, ◌<◌, ◌≤◌, ◌⊎◌, inl, inr, true, false}
 use Rattle.std.proofs.Common.{List, [], ◌∷◌, ◌++◌, length, map, refl, sym, ap, ◌∙◌, subst, Some, None}
 use Rattle.std.proofs.Common.{Bool, slice_get, arith}
@@ -60,7 +60,7 @@ record AddedAt (tables : List Interface) (written : List WrittenInterface) (plac
   line : ℕ
   adds : AddsMessage tables written line place old i side opcode m
 
--- an interface of the tables with what is added to it
+-- the names of the tables and of the interfaces that the text declares
 abbrev names_with : List Interface → List WrittenInterface → List (List ℕ)
 names_with tables written = all_names tables (gathered tables written).declared
 
@@ -74,7 +74,7 @@ grows tables written p j at =
     from_grown (first_place (names_with tables written)) (length (names_with tables written)) tables
     (gathered tables written).added (length_gathered tables written) p j at
 
--- a message of these is one of the tables, or is added
+-- a message of the grown tables is one of the tables before, or is added
 either_grown : (tables : List Interface) (written : List WrittenInterface) (p : ℕ) (side : Side) (o : ℕ)
     (m : MessageSignature) → signature_at (grown tables (gathered tables written)) p side o ≡ Some m
     → (signature_at tables p side o ≡ Some m) ⊎ AddedAt tables written p side o m
@@ -112,7 +112,7 @@ either_grown tables written p side o m h =
           })
     ]
 
--- an added message is one of its interface
+-- an added message is added to its interface by its line
 adds_at : (tables : List Interface) (written : List WrittenInterface) (p : ℕ) (old : Interface) (more : WrittenInterface)
     (side : Side) (k : ℕ) (own : WrittenMessage) → interface_at tables p ≡ Some old
     → slice_get (gathered tables written).added p ≡ Some more → slice_get (written_of side more) k ≡ Some own
@@ -133,7 +133,8 @@ adds_at tables written p old more side k own at said of = record {
   listed = listed_at tables (gathered tables written) old more side k own of;
 }
 
--- what holds of the messages of the tables and of the added ones
+-- what holds for the messages of the tables and for the added ones holds for all of the grown
+-- tables
 each_grown : (P : MessageSignature → Type 0) (tables : List Interface) (written : List WrittenInterface) (side : Side)
     → EachMessage tables side P
     → ((p o : ℕ) (m : MessageSignature) → AddedAt tables written p side o m → P m)
@@ -296,7 +297,7 @@ few_kept tables written none old = record {
 pub of_contained : (P : Kind → Type 0) (ks : List Kind) (k : Kind) → All P ks → Contains ks k → P k
 of_contained P ks k all witness = subst P witness.2 (all witness.0 k witness.1)
 
--- no argument is as it must not be
+-- P holds for all arguments if it holds for each that the list contains
 no_kind : (P : Kind → Type 0) (ks : List Kind) → ((k : Kind) → Contains ks k → P k) → All P ks
 no_kind P ks each = all_from_each P ks (λ k x at. each x (contains ks k x at))
 
@@ -321,7 +322,7 @@ any_kept tables written none old =
     never tables written none p Request o m a 6
     (object_of_any null refl refl (subst (λ (x : Kind). Contains m.kinds x) is there))))
 
--- the interface at a place of the tables, in the whole
+-- the interface at a place of the tables, as it is in the extended tables
 whole_at : (tables : List Interface) (written : List WrittenInterface) (p : ℕ) (j : Interface) → p < length tables
     → interface_at (extended tables written) p ≡ Some j → GrowsAt tables written p j
 whole_at tables written p j lt at =
@@ -333,7 +334,7 @@ whole_at tables written p j lt at =
           g.added in omega (arith, lt, is, len))
     ]
 
--- an event of an interface that destroys its target is one of the tables, or is added
+-- if an interface has a destroying event, it had one before, or one is added
 ends_by : (tables : List Interface) (written : List WrittenInterface) (p : ℕ) (j : Interface)
     → (witness : GrowsAt tables written p j) → has_destroying_event j ≡ true
     → (has_destroying_event witness.old ≡ true)

@@ -1,4 +1,4 @@
--- What stands where in joined tables.
+-- What is at each place of joined tables.
 use Rattle.std.proofs.Common.{◌≡◌, ℕ, zero, suc, ◌+◌, ◌⊎◌, inl, inr, List, [], ◌∷◌, ◌++◌, length}
 use Rattle.std.proofs.Common.{map, refl, sym, ap, ◌∙◌, subst, Some, None, Option, slice_get, arith}
 use Rattle.std.specs.Prelude.{option_map}
@@ -13,7 +13,7 @@ use Rattle.wl_sigs.specs.Valid.{EachInterface, EachMessage}
 use Rattle.wl_sigs.specs.FirstBroken.{written_of}
 use Rattle.wl_sigs.proofs.Lookups.{found, signature_from}
 
--- a place in the back of a list
+-- a place in the second of two lists that are joined
 abbrev pub Behind : {X : Type 0} → List X → List X → ℕ → X → Type 0
 Behind xs ys k x = (j : ℕ) × (k ≡ length xs + j) × (slice_get ys j ≡ Some x)
 
@@ -40,7 +40,7 @@ pub mapped_at : {X Y : Type 0} (f : X → Y) (xs : List X) (k : ℕ) (y : Y) →
     → (x : X) × (slice_get xs k ≡ Some x) × (f x ≡ y)
 mapped_at f xs k y at = mapped_some f (slice_get xs k) y (sym (slice_get-map f xs k) ∙ at)
 
--- what the names of a text's interfaces stand for
+-- an interface of a text as it is in the tables, with its names looked up
 abbrev pub placing : List Interface → List WrittenInterface → WrittenInterface → Interface
 placing tables written = let names = all_names tables written in interface_placed (first_place names) (length names)
 
@@ -48,7 +48,7 @@ abbrev pub placing_message : List Interface → List WrittenInterface → Writte
 placing_message tables written = let names = all_names tables written
     in message_placed (first_place names) (length names)
 
--- an interface of joined tables that the text brought
+-- an interface of the joined tables that comes from the text
 pub record Brought (tables : List Interface) (written : List WrittenInterface) (place : ℕ)
     (i : Interface) : Type 0 where
   pub index : ℕ
@@ -67,7 +67,7 @@ either_interface tables written place i at = elim (in_either tables (map (placin
       inr (record { index = back.0; from = w.0; at = w.1; place_is = back.1; is = w.2 })
 ]
 
--- what holds of the interfaces of both holds of those of the joined
+-- what holds for the interfaces of the tables and of the text holds for those of the joined tables
 pub each_interface : (P : Interface → Type 0) (tables : List Interface) (written : List WrittenInterface)
     → EachInterface tables P
     → ((k : ℕ) (w : WrittenInterface) → slice_get written k ≡ Some w → P (placing tables written w))
@@ -82,7 +82,7 @@ pub placed_messages : (tables : List Interface) (written : List WrittenInterface
 placed_messages tables written Request w = refl
 placed_messages tables written Event w = refl
 
--- a message of joined tables that the text brought
+-- a message of the joined tables that comes from the text
 pub record BroughtMessage (tables : List Interface) (written : List WrittenInterface) (place : ℕ) (side : Side)
     (opcode : ℕ) (m : MessageSignature) : Type 0 where
   pub index : ℕ
@@ -118,7 +118,7 @@ either_message tables written place side opcode m h =
           })
     ]
 
--- what holds of the messages of both holds of those of the joined
+-- what holds for the messages of the tables and of the text holds for those of the joined tables
 pub each_message : (P : MessageSignature → Type 0) (tables : List Interface) (written : List WrittenInterface)
     (side : Side)
     → EachMessage tables side P

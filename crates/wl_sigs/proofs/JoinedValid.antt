@@ -1,4 +1,4 @@
--- Tables joined with those of a text are valid where no line of it breaks a rule.
+-- Tables joined with those of a text are valid if no line of the text breaks a rule.
 use Rattle.std.proofs.Common.{◌≡◌, ◌≢◌, ℕ, suc, ◌+◌, ◌-◌, ◌<◌, ◌≤◌, ◌⊎◌, inl, inr, true, false}
 use Rattle.std.proofs.Common.{List, [], ◌∷◌, ◌++◌, length, map, refl, sym, ap, ◌∙◌, subst, Some}
 use Rattle.std.proofs.Common.{None, Option, Bool, slice_get, get_or, take, append_assoc, arith}
@@ -51,7 +51,7 @@ none_broken tables written none k w at =
     kept _ _ _ w (each_interface_keeps (first_place (all_names tables written)) (ended_of tables written)
     (length tables) written none k w at)
 
--- what one message keeps
+-- the rules that one message keeps
 keeps_at : (tables : List Interface) (written : List WrittenInterface) → NoneBroken tables written
     → (side : Side) (k : ℕ) (w : WrittenInterface) (o : ℕ) (m : WrittenMessage)
     → slice_get written k ≡ Some w → slice_get (written_of side w) o ≡ Some m
@@ -200,7 +200,7 @@ small_joined tables written none old = record {
           in omega (arith, lt, within)
     ]
 
--- an argument names no interface that is not there
+-- if an argument names an interface, the tables have it
 abbrev pub IsThereIn : List Interface → Kind → Type 0
 IsThereIn all k = (iface : Iface) → named_interface k ≡ Some iface → iface.0 < length all
 
@@ -220,7 +220,7 @@ interfaces_joined tables written none old side =
     (λ x t iface e. let lt = there (first_place names) (length names)
     (first_place-within names) x.kind x.iface t iface e in omega (arith, lt, lens)) m.kinds keeps.none_missing)
 
--- a name that stands first at a place is found there
+-- a name is found at its first place
 found_first : (place : List ℕ → Option ℕ) (name : List ℕ) (here : ℕ) → is_first place name here ≡ true
     → place name ≡ Some here
 found_first place name here first = from_option (place name) first
@@ -443,8 +443,8 @@ server_joined tables written none old_requests old_events old_made = record {
     past = slice_get_past (joined tables written) (length names)
         (omega (arith, length_joined tables written, length_names tables written))
 
--- tables that keep the rules in front of those of a text: where a rule names interfaces, they are
--- those of both
+-- the tables before a text keep the rules; where a rule looks up an interface by its name, the
+-- interface may be one of the text
 pub record KeepsInFront (tables : List Interface) (written : List WrittenInterface) : Type 0 where
   pub names_distinct : NamesAreDistinct tables
   pub fixed_four : HasFixedFour tables
@@ -482,7 +482,7 @@ joined_valid tables written valid none =
           valid.made_rightly;
     }
 
--- the places of joined tables fit a number of 16 bits
+-- the places of the joined tables fit in 16 bits
 pub places_fit : (tables : List Interface) (written : List WrittenInterface)
     → length tables + length written ≤ 1024 → (place : List ℕ → Option ℕ)
     → ((name : List ℕ) → place name ≡ first_place (all_names tables written) name)
@@ -497,13 +497,13 @@ places_fit tables written few place are =
         let within = first_place-within (all_names tables written) name p is in
         omega (arith, few, within, length_names tables written)
 
--- the joined tables by places that are looked up
+-- the joined tables, made with places that are looked up
 pub joined_by : (tables : List Interface) (written : List WrittenInterface) (place : List ℕ → Option ℕ)
     → ((name : List ℕ) → place name ≡ first_place (all_names tables written) name)
     → tables ++ map (interface_placed place (length tables + length written)) written ≡ joined tables written
 joined_by tables written place are = rw (fun_ext are, ← length_names tables written) refl
 
--- the step of a loop that places interfaces behind others
+-- the step of a loop that appends interfaces
 pub placed_more : (f : WrittenInterface → Interface) (tables : List Interface) (written : List WrittenInterface) (k : ℕ)
     (w : WrittenInterface) → k < length written → w ≡ get_or written k w
     → (tables ++ map f (take k written)) ++ f w ∷ [] ≡ tables ++ map f (take (k + 1) written)

@@ -1,4 +1,4 @@
--- What a line keeps that breaks no rule.
+-- The rules that a line keeps if the tests find none that it breaks.
 use Rattle.std.proofs.Common.{◌≡◌, ℕ, ◌+◌, true, false, List, map, refl, Some, None, Option, Bool}
 use Rattle.std.proofs.Common.{nat_le, nat_lt, length, slice_get, not, cond, ◌&&◌, arith}
 use Rattle.std.specs.List.{list_all, count_by}
@@ -19,7 +19,7 @@ both true true e = (refl, refl)
 both true false e = cc e
 both false b e = cc e
 
--- a test that comes before others passes
+-- a test passes if neither it nor any test after it finds a broken rule
 unless : (t : Bool) (r : ℕ) (rest : Option ℕ) → cond (not t) (Some r) rest ≡ None → (t ≡ true) × (rest ≡ None)
 unless true r rest e = (refl, e)
 unless false r rest e = cc e
@@ -94,7 +94,7 @@ message_kept place ended i side first opcode m none =
       none_forbidden = by_server.1;
     }
 
--- an interface of which no line breaks a rule
+-- an interface none of whose lines breaks a rule
 pub record Keeps (place : List ℕ → Option ℕ) (ended : List Bool) (here : ℕ) (i : WrittenInterface) : Type 0 where
   pub interface : InterfaceKeeps place here i
   pub messages : (side : Side) (o : ℕ) (m : WrittenMessage) → slice_get (written_of side i) o ≡ Some m

@@ -1,4 +1,4 @@
--- What the kinds of a text must have been, where what they became keeps the rules.
+-- What must be true of the kinds in a text if the kinds that they become keep the rules.
 use Rattle.std.proofs.Common.{◌≡◌, ◌≢◌, ℕ, ◌<◌, true, false, List, [], ◌∷◌, map, refl, sym, ◌∙◌}
 use Rattle.std.proofs.Common.{Some, None, Option, Bool, slice_get, not, ◌&&◌, arith}
 use Rattle.std.specs.Prelude.{option_map, unwrap_or, is_some}
@@ -19,7 +19,8 @@ use Rattle.wl_sigs.proofs.PlacedKinds.{NotEndedIn}
 abbrev as_iface : ℕ → Iface
 as_iface place = record { 0 = place }
 
--- a test passes at each written kind, where what each becomes shows it
+-- a test passes for each written kind, given that it passes wherever P holds for what the kind
+-- becomes
 pub all_tested : (test : WrittenKind → Bool) (f : WrittenKind → Kind) (P : Kind → Type 0)
     → ((k : WrittenKind) → P (f k) → test k ≡ true) → (ks : List WrittenKind)
     → All P (map f ks) → list_all test ks ≡ true
@@ -82,7 +83,8 @@ was_there place past bare.NewByServer (Some name) below =
 was_there place past bare.Array iface below = refl
 was_there place past bare.Fd iface below = refl
 
--- V7: in tables where `ended` says which interfaces have a destroying event, and has no more places than they
+-- V7: `ended` says which interfaces of the tables have a destroying event, and is no longer than
+-- the tables
 pub was_not_ended : (tables : List Interface) (place : List ℕ → Option ℕ) (past : ℕ) (ended : List Bool)
     → ((p : ℕ) (b : Bool) → slice_get ended p ≡ Some b
     → (i : Interface) × (interface_at tables p ≡ Some i) × (has_destroying_event i ≡ b))

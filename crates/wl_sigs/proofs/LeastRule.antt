@@ -1,4 +1,4 @@
--- The least rule that something breaks, and the first line of messages that break rules.
+-- The lowest rule that something breaks, and the first line of messages that break rules.
 use Rattle.std.proofs.Common.{◌≡◌, ℕ, ◌+◌, ◌≤◌, ◌⊎◌, inl, inr, true, false, cond, List, refl, sym}
 use Rattle.std.proofs.Common.{◌∙◌, Some, None, Option, Bool, slice_get, nat_lt, arith}
 use Rattle.std.proofs.lemmas.Bool.{ltb-true, ltb-false}
@@ -9,7 +9,7 @@ use Rattle.wl_sigs.proofs.FirstLine.{Tested, failing, Ascends, fails_first, some
 use Rattle.wl_sigs.proofs.FirstLine.{IsLeast, InMessages, messages_least, later_not_before}
 use Rattle.wl_sigs.proofs.TestedRules.{Says}
 
--- the rule is broken, and none that is less
+-- the rule is broken, and no lower one is
 pub record IsLeastRule (P : ℕ → Type 0) (o : Option ℕ) : Type 0 where
   pub found : (rule : ℕ) → o ≡ Some rule → P rule
   pub least : (rule : ℕ) → o ≡ Some rule → (other : ℕ) → P other → rule ≤ other
@@ -23,13 +23,13 @@ like_rule P Q to from o answer = record {
   none = λ e rule q. answer.none e rule (from rule q);
 }
 
--- some rule is found where one is broken
+-- a rule is found if one is broken
 pub some_rule : (P : ℕ → Type 0) (o : Option ℕ) → IsLeastRule P o → (rule : ℕ) → P rule
     → (first : ℕ) × (o ≡ Some first) × (first ≤ rule)
 some_rule P None answer rule broken = absurd (answer.none refl rule broken)
 some_rule P (Some first) answer rule broken = (first, refl, answer.least first refl rule broken)
 
--- by tests in the order of their rules
+-- tests in the order of their rules find the lowest rule that is broken
 pub least_tested : (P : ℕ → Type 0) (tests : List Tested) → Ascends 0 tests → Says P tests
     → IsLeastRule P (failing tests)
 least_tested P tests up says = record {
@@ -42,7 +42,7 @@ least_tested P tests up says = record {
       cc no;
 }
 
--- of two
+-- the lower of two rules is the lowest of all that are broken
 pub least_lesser : (P Q : ℕ → Type 0) (a b : Option ℕ) → IsLeastRule P a → IsLeastRule Q b
     → IsLeastRule (λ rule. P rule ⊎ Q rule) (lesser a b)
 least_lesser P Q None b p q = record {

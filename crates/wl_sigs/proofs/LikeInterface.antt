@@ -1,4 +1,4 @@
--- Which rules a message breaks does not hang on more of its interface than the names of its
+-- Which rules a message breaks depends on only three facts about its interface: the names of its
 -- messages, how many requests it has, and its version.
 use Rattle.std.proofs.Common.{◌≡◌, ℕ, List, length, map, ap, ◌∙◌, arith}
 use Rattle.std.specs.Prelude.{option_map}

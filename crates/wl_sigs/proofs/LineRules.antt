@@ -60,7 +60,7 @@ pub right_fails : (a b : Bool) → b ≡ false → a && b ≡ false
 right_fails true b e = e
 right_fails false b e = refl
 
--- a written kind for which a test passes, and what it becomes
+-- a written kind that passes the test, and the kind that it becomes
 pub record SomeKind (test : WrittenKind → Bool) (f : WrittenKind → Kind) (ks : List WrittenKind) : Type 0 where
   pub kind : WrittenKind
   pub passes : test kind ≡ true
@@ -76,7 +76,7 @@ some_kind test f ks fails =
       there = contains (map f ks) witness.0 (f witness.1) (slice_get-map f ks witness.0 ∙ ap (option_map f) witness.2);
     }
 
--- a test of all kinds fails where one of what they become is not as it would be
+-- a test of all kinds fails if one of the kinds that they become does not satisfy P
 pub kinds_fail : (test : WrittenKind → Bool) (f : WrittenKind → Kind) (P : Kind → Type 0)
     → ((k : WrittenKind) → not (test k) ≡ true → P (f k)) → (ks : List WrittenKind) (kind : Kind)
     → Contains (map f ks) kind → ¬ P kind → list_all (λ k. not (test k)) ks ≡ false
@@ -160,7 +160,7 @@ ended_named tables place past ended ends bare.NewByServer iface t = cc t
 ended_named tables place past ended ends bare.Array iface t = cc t
 ended_named tables place past ended ends bare.Fd iface t = cc t
 
--- V9: the interface that stands past all
+-- V9: an interface that does not exist has an index past all
 missing_past : (past : ℕ) (o : Option ℕ) → not (is_some o) ≡ true → past ≤ unwrap_or o past
 missing_past past None t = omega arith
 missing_past past (Some p) t = cc t

@@ -1,4 +1,4 @@
--- What a look-up that answers says of the tables.
+-- What a look-up that finds something says about the tables.
 use Rattle.std.proofs.Common.{◌≡◌, ℕ, ◌<◌, List, [], ◌∷◌, length, Bool, true, false, refl, ◌∙◌, ap}
 use Rattle.std.proofs.Common.{zero, suc, ◌+◌, cond, not, arith, get_or, slice_get, Option, Some}
 use Rattle.std.proofs.Common.{None, bytes_eq}
@@ -36,7 +36,7 @@ pub signature_from : (tables : List Interface) (place : ℕ) (side : Side) (opco
     → signature_at tables place side opcode ≡ Some m
 signature_from tables place side opcode i m at of = ap (option_and_then (message_of side opcode)) at ∙ of
 
--- the interface of a name
+-- the interface with a name
 pub record IsNamed (tables : List Interface) (name : List ℕ) (place : ℕ) : Type 0 where
   pub interface : Interface
   pub at : interface_at tables place ≡ Some interface
@@ -50,7 +50,7 @@ position_of : (o : Option ℕ) (iface : Iface) → option_map (λ place. let wit
 position_of None iface h = cc
 position_of (Some p) iface h = ap (option_map (λ (i : Iface). i.0)) h
 
--- where `place_of` answers, an interface of that name is there
+-- if `place_of` finds a place, an interface with that name is there
 pub named : (tables : List Interface) (name : List ℕ) (iface : Iface) → place_of tables name ≡ Some iface
     → IsNamed tables name iface.0
 named [] name iface h = cc
@@ -86,7 +86,7 @@ position_within p xs within = ap (λ b. cond b (Some (position_or_len p xs)) Non
 as_iface : ℕ → Iface
 as_iface place = record { 0 = place }
 
--- in valid tables each interface is the first of its name
+-- in valid tables each interface is the first with its name
 pub place_of_its_name : (tables : List Interface) → Valid tables → (place : ℕ) (i : Interface)
     → interface_at tables place ≡ Some i → place_of tables i.name ≡ Some (record { 0 = place })
 unfolding as_iface

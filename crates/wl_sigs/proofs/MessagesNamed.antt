@@ -11,7 +11,7 @@ use Rattle.wl_sigs.specs.ByName.{opcode_of}
 use Rattle.wl_sigs.specs.Valid.{Valid}
 use Rattle.wl_sigs.proofs.Lookups.{then_some, found, signature_from, passes_within, position_within}
 
--- the message of this name stands at this opcode
+-- the message with this opcode has this name
 abbrev Named : List Interface → ℕ → Side → List ℕ → ℕ → Type 0
 Named tables place side name opcode = (m : MessageSignature) × (signature_at tables place side opcode ≡ Some m)
     × (m.name ≡ name)
@@ -51,7 +51,7 @@ there_named tables valid place side name opcode h =
     (other.2 ∙ sym h.2) in
     answer ∙ ap (λ (o : ℕ). Some o) same
 
--- what an answer of this value says
+-- the opcode that is found is that of a message with this name
 pub opcode_named : (tables : List Interface) → Valid tables → (place : ℕ) (side : Side) (name : List ℕ) (o : Option ℕ)
     → o ≡ opcode_of tables place side name
     → (opcode : ℕ) → (o ≡ Some opcode) ↔ ((m : MessageSignature) × (signature_at tables place side opcode ≡ Some m)

@@ -1,4 +1,4 @@
--- What the kinds of a text become.
+-- What the kinds in a text become in the tables.
 use Rattle.std.proofs.Common.{◌≡◌, ◌≢◌, ℕ, ◌+◌, ◌<◌, true, false, List, [], ◌∷◌, length, map, refl}
 use Rattle.std.proofs.Common.{sym, ◌∙◌, subst, Some, None, Option, Bool, slice_get, not, cond, ◌&&◌}
 use Rattle.std.proofs.Common.{arith}
@@ -20,7 +20,7 @@ use Rattle.wl_sigs.specs.Broken.{is_new, is_object, makes_object, is_ended}
 abbrev as_iface : ℕ → Iface
 as_iface place = record { 0 = place }
 
--- what a test says of each written kind holds of each kind that it becomes
+-- if a test passes for each written kind, P holds for each kind that they become
 pub all_placed : (test : WrittenKind → Bool) (f : WrittenKind → Kind) (P : Kind → Type 0)
     → ((k : WrittenKind) → test k ≡ true → P (f k)) → (ks : List WrittenKind)
     → list_all test ks ≡ true → All P (map f ks)
@@ -34,7 +34,7 @@ all_placed test f P each (k ∷ ks) all =
     both true false e = cc e
     both false b e = cc e
 
--- as many new objects
+-- the number of new objects stays the same
 counted : (place : List ℕ → Option ℕ) (past : ℕ) (kind : BareKind) (iface : Option (List ℕ)) (more : List Kind) (n : ℕ)
     → length (new_objects more) ≡ n
     → length (new_objects (with_iface past kind (option_map (iface_named place past) iface) ∷ more))

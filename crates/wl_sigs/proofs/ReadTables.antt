@@ -15,7 +15,7 @@ none_told : (found : Option BrokenLine) → ((answer : BrokenLine) → found ≡
 none_told None never = refl
 none_told (Some answer) never = absurd (never answer refl)
 
--- where no line breaks a rule, what was gathered makes valid tables
+-- if no line breaks a rule, the tables that the text gives are valid
 pub still_valid : (tables : List Interface) (written : List WrittenInterface) (g : Gathered)
     (of_extensions of_others : Option Broken) (found : Option BrokenLine) → Valid tables
     → whole_of tables g ≡ extended tables written

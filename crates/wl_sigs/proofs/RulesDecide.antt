@@ -44,7 +44,7 @@ decides_name name =
     (Decides-le (length name) 256))
     (Decides-list_all test.is_name_byte IsNameByte decides_name_byte name))
 
--- no two messages of one side of an interface have one name
+-- no two messages on one side of an interface have the same name
 abbrev MessagesDistinct : Side → Interface → Type 0
 MessagesDistinct side i = DistinctBy (λ m. m.name) (messages_of side i)
 
@@ -151,7 +151,7 @@ decides_no_unnamed : (m : MessageSignature) → Decides (test.has_no_unnamed_new
 decides_no_unnamed m = Decides-list_all (λ k. not (test.is_unnamed_new k))
     (λ k. k ≢ kinds.New None) decides_unnamed m.kinds
 
--- a request at its place and opcode
+-- the message is wl_registry.bind, or each of its new objects has an interface
 abbrev IsBindOrNamed : ℕ → ℕ → MessageSignature → Type 0
 IsBindOrNamed place opcode m = ((place ≡ 1) × (opcode ≡ 0)) ⊎ NoUnnamedNew m
 

@@ -54,11 +54,11 @@ not_fixed place never fixed = let yes = (decides_fixed place).1 fixed in let e :
 none_fixed : (place : ℕ) → ¬ IsFixedPlace place → is_fixed_place place ≡ false
 none_fixed place never = not_so (is_fixed_place place) (λ t. never ((decides_fixed place).0 t))
 
--- the server may make objects of the interface that stands at this place
+-- the server may make objects of the interface at this place
 abbrev IsMakeable : ℕ → Interface → Type 0
 IsMakeable place i = (has_destroying_event i ≡ false) × ¬ IsFixedPlace place
 
--- a new object of the server is of such an interface
+-- if the argument is a new object of the server, the server may make objects of its interface
 abbrev pub MadeRightly : List Interface → Kind → Type 0
 MadeRightly tables k = (iface : Iface) (i : Interface) → k ≡ kinds.NewByServer iface
     → interface_at tables iface.0 ≡ Some i → (has_destroying_event i ≡ false) × ¬ IsFixedPlace iface.0
@@ -124,7 +124,7 @@ decides_server tables =
 
 -- ---- kinds of a text
 
--- as many new objects of the server
+-- the number of new objects of the server stays the same
 counted : (place : List ℕ → Option ℕ) (past : ℕ) (kind : BareKind) (iface : Option (List ℕ)) (more : List Kind) (n : ℕ)
     → length (server_objects more) ≡ n
     → length (server_objects (with_iface past kind (option_map (iface_named place past) iface) ∷ more))
@@ -150,12 +150,12 @@ count_by_server place past (k ∷ ks) =
 abbrev as_iface : ℕ → Iface
 as_iface place = record { 0 = place }
 
--- the mark of an interface
+-- the interface is not marked as having a destroying event
 unmarked : (o : Option Bool) (b : Bool) → o ≡ Some b → option_map_or (λ x. x) o false ≡ false → b ≡ false
 unmarked o b is e = let same : option_map_or (λ (x : Bool). x) (Some b) false ≡ false =
     subst (λ (m : Option Bool). option_map_or (λ (x : Bool). x) m false ≡ false) is e in same
 
--- what the test lets pass becomes a new object of an interface that the server may make
+-- if a written kind passes the test, the server may make the new object that it becomes
 pub made_rightly : (tables : List Interface) (place : List ℕ → Option ℕ) (past : ℕ) (ended : List Bool)
     → ((p : ℕ) (i : Interface) → interface_at tables p ≡ Some i → slice_get ended p ≡ Some (has_destroying_event i))
     → interface_at tables past ≡ None → (kind : BareKind) (iface : Option (List ℕ))
@@ -187,7 +187,7 @@ made_rightly tables place past ended ends none bare.NewByServer (Some name) t f 
 made_rightly tables place past ended ends none bare.Array iface t f i e at = cc e
 made_rightly tables place past ended ends none bare.Fd iface t f i e at = cc e
 
--- the interface of a place, and its mark
+-- each mark says whether the interface at its place has a destroying event
 abbrev IsMarked : List Interface → List Bool → Type 0
 IsMarked tables ended = (p : ℕ) (b : Bool) → slice_get ended p ≡ Some b
     → (i : Interface) × (interface_at tables p ≡ Some i) × (has_destroying_event i ≡ b)
@@ -196,7 +196,7 @@ IsMarked tables ended = (p : ℕ) (b : Bool) → slice_get ended p ≡ Some b
 abbrev IsThere : List Interface → (List ℕ → Option ℕ) → Type 0
 IsThere tables place = (name : List ℕ) (p : ℕ) → place name ≡ Some p → (i : Interface) × (interface_at tables p ≡ Some i)
 
--- what becomes a new object of an interface that the server may make passes the test
+-- if the server may make the new object that a written kind becomes, the kind passes the test
 pub was_made_rightly : (tables : List Interface) (place : List ℕ → Option ℕ) (past : ℕ) (ended : List Bool)
     → IsMarked tables ended → IsThere tables place → (kind : BareKind) (iface : Option (List ℕ))
     → MadeRightly tables (with_iface past kind (option_map (iface_named place past) iface))
@@ -230,7 +230,7 @@ was_made_rightly tables place past ended ends there bare.NewByServer (Some name)
 was_made_rightly tables place past ended ends there bare.Array iface free = refl
 was_made_rightly tables place past ended ends there bare.Fd iface free = refl
 
--- a new object of the server, of an interface that it may not make
+-- a new object of the server, of an interface whose objects it must not make
 pub record IsWronglyMade (tables : List Interface) (kind : Kind) : Type 0 where
   pub iface : Iface
   pub interface : Interface

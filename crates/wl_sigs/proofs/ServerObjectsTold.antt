@@ -54,7 +54,7 @@ told_some tables h =
 server_objects_told : (tables : List Interface) → (has_server_objects tables ≡ true) ↔ HasServerObjects tables
 server_objects_told tables = (some_told tables, told_some tables)
 
--- what says so of the one says so of the other
+-- a value equal to the test's result decides the same
 pub told_by : (tables : List Interface) (b : Bool) → b ≡ has_server_objects tables
     → (b ≡ true) ↔ HasServerObjects tables
 told_by tables b is = subst (λ (x : Bool). (x ≡ true) ↔ HasServerObjects tables) (sym is) (server_objects_told tables)
@@ -71,7 +71,7 @@ kinds_without (kinds.NewByServer iface ∷ ks) e = absurd (cc e)
 kinds_without (kinds.Array ∷ ks) e = kinds_without ks e
 kinds_without (kinds.Fd ∷ ks) e = kinds_without ks e
 
--- in tables without new objects of the server no event has one
+-- in tables without new objects of the server, no event has one
 pub none_by_server : (tables : List Interface) → has_server_objects tables ≡ false
     → (place opcode : ℕ) (m : MessageSignature) → signature_at tables place Event opcode ≡ Some m
     → server_objects m.kinds ≡ []

@@ -1,4 +1,4 @@
--- The tests of a line fail exactly where the line breaks their rules.
+-- A test of a line fails if and only if the line breaks the rule of the test.
 use Rattle.std.proofs.Common.{◌≡◌, ◌≢◌, ℕ, zero, suc, ◌+◌, ◌<◌, ◌≤◌, inl, inr, true, false, List}
 use Rattle.std.proofs.Common.{[], ◌∷◌, length, map, refl, sym, ap, ◌∙◌, subst, Some, None, Option}
 use Rattle.std.proofs.Common.{Bool, slice_get, not, nat_le, nat_lt, ◌&&◌, ◌||◌, arith}
@@ -62,7 +62,7 @@ pub record Says (Broken : ℕ → Type 0) (tests : List Tested) : Type 0 where
   pub to : (rule : ℕ) → Breaks tests rule → Broken rule
   pub from : (rule : ℕ) → Broken rule → Breaks tests rule
 
--- the test at this place is of the rule and fails
+-- the test at this place is for the rule and fails
 pub failing_at : (tests : List Tested) (k own rule : ℕ) (kept : Bool) → slice_get tests k ≡ Some (tested own kept)
     → rule ≡ own → kept ≡ false → Breaks tests rule
 failing_at tests k own rule kept at is fails = record {
@@ -354,7 +354,7 @@ message_says tables written w side o m of = record {
           | inr forbidden ↦ forbidden_says forbidden.1
         ]
 
-    -- the test of V11 fails where one of its two parts does
+    -- the test of V11 fails if one of its two parts does
     many_back : (rule most : ℕ) → rule ≡ 11 → most_by_server side ≡ most → most < length (server_objects (map kind_of m.kinds))
         → Breaks tests rule
     many_back rule most is at_most lt =

@@ -23,7 +23,7 @@ pub Decides-list_all : {X : Type 0} (test : X → Bool) (P : X → Type 0) → (
     → (xs : List X) → Decides (list_all test xs) (All P xs)
 Decides-list_all test P each xs = Decides-by_and test P (list_all test) each refl (λ _ _. refl) xs
 
--- what holds of all elements, by their places
+-- what holds for all elements holds for the one at each place
 each_from : {X : Type 0} (P : X → Type 0) (xs : List X) → All P xs → (k : ℕ) (x : X) → slice_get xs k ≡ Some x → P x
 each_from P xs all k x at = subst P (get_or_from_slice_get xs k x x at) (all k x (slice_get_within xs k x at))
 

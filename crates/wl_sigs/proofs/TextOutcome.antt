@@ -1,4 +1,4 @@
--- What reading a text behind tables comes to.
+-- The result of reading a text that is appended to tables.
 use Rattle.std.proofs.Common.{◌≡◌, ℕ, List, [], Some, None, Option, refl, sym, ap, subst, ◌∙◌}
 use Rattle.std.specs.Prelude.{Result, Ok, Err, ◌↔◌}
 use Rattle.std.specs.Str.Lines.{lines}

@@ -71,7 +71,7 @@ broken_alone tables written none =
     ∙ ap (messages_or_declared_broken tables) (declares_alone tables written none)
     ∙ others_alone tables written
 
--- of a text that extends nothing, nothing need be kept of what it adds
+-- what a text without extensions says: it adds nothing, and no record of that is needed
 abbrev pub declaring : List WrittenInterface → Gathered
 declaring written = record { added = []; declared = written }
 

@@ -1,4 +1,4 @@
--- Where tables joined with those of a text are valid, no line of the text breaks a rule.
+-- If tables joined with those of a text are valid, no line of the text breaks a rule.
 use Rattle.std.proofs.Common.{◌≡◌, ◌≢◌, ℕ, zero, suc, ◌+◌, ◌<◌, ◌≤◌, ◌==◌, inl, inr, true, false}
 use Rattle.std.proofs.Common.{List, [], ◌∷◌, ◌++◌, length, map, refl, ap, ◌∙◌, Some, None, Option}
 use Rattle.std.proofs.Common.{Bool, slice_get, not, ◌||◌, arith}
@@ -33,7 +33,7 @@ use Rattle.wl_sigs.proofs.PlacedKinds.{count_placed, NotEndedIn}
 use Rattle.wl_sigs.proofs.ServerObjects.{MadeRightly, count_by_server, was_made_rightly}
 use Rattle.wl_sigs.proofs.KindsKept.{all_tested, was_named, was_no_any, was_there, was_not_ended}
 
--- what stands behind others
+-- an element of a list that is appended to another
 pub behind : {X : Type 0} (xs ys : List X) (k j : ℕ) (y : X) → j ≡ length xs + k → slice_get ys k ≡ Some y
     → slice_get (xs ++ ys) j ≡ Some y
 behind [] ys k j y e at = let same : j ≡ k = omega arith in rw same at
@@ -59,7 +59,7 @@ message_at tables written side k w o m at of =
     (rw (placed_messages tables written side w) (slice_get-map (placing_message tables written) (written_of side w) o
     ∙ ap (option_map (placing_message tables written)) of))
 
--- a name that stands at one place alone stands first there
+-- a name that is at only one place is there for the first time
 stands_first : (names : List (List ℕ)) (name : List ℕ) (here : ℕ) → slice_get names here ≡ Some name
     → ((p : ℕ) → slice_get names p ≡ Some name → p ≡ here)
     → is_first (first_place names) name here ≡ true
@@ -97,7 +97,7 @@ interface_keeps tables written valid k w at =
         valid.names_distinct.interfaces_distinct p (length tables + k) witness.0 _ witness.1
         (placed_at tables written k w at) witness.2
 
--- what `ended_of` says of a place
+-- what `ended_of` says about a place
 pub ended_is : (tables : List Interface) (written : List WrittenInterface) (p : ℕ) (b : Bool)
     → slice_get (ended_of tables written) p ≡ Some b
     → (i : Interface) × (interface_at (joined tables written) p ≡ Some i) × (has_destroying_event i ≡ b)
@@ -183,7 +183,7 @@ none_unnamed tables written two valid side k w o m at of =
           (λ x never. was_named (first_place names) (length names) x.kind x.iface never) m.kinds named
     ]
 
--- an element stands at each place within
+-- each place of a list has an element
 some_at : {X : Type 0} (xs : List X) (k : ℕ) → k < length xs → (x : X) × (slice_get xs k ≡ Some x)
 some_at [] k lt = absurd (omega arith)
 some_at (x ∷ xs) zero lt = (x, refl)
@@ -275,7 +275,7 @@ message_keeps tables written two valid side k w o m at of =
         valid.names_distinct.messages_distinct (length tables + k) side p o _ _
         (message_at tables written side k w p witness.0 at witness.1) (message_at tables written side k w o m at of) witness.2
 
--- no rule is broken where all tests pass
+-- if all tests pass, no rule is broken
 interface_unbroken : (place : List ℕ → Option ℕ) (here : ℕ) (i : WrittenInterface) → InterfaceKeeps place here i
     → interface_rule place here i ≡ None
 interface_unbroken place here i keeps = rw (keeps.named, keeps.first, keeps.small, keeps.version) refl

@@ -22,8 +22,8 @@ outcome_of tables (Err line) = Err (BadLine line)
 outcome_of tables (Ok written) =
     extended_unless tables written (first_line_broken tables written)
 
--- The tables extended by a text and followed by its interfaces; else the first line that has no
--- form or is a message before any interface; else the first line that breaks a rule, and the lowest
--- rule there.
+-- The tables extended by a text and followed by its interfaces. If a line has no form, or is a
+-- message before any interface, the result is the first such line. Otherwise, if a line breaks a
+-- rule, it is the first such line and the lowest rule that the line breaks.
 abbrev pub outcome : List Interface → List ℕ → Result (List Interface) TableFault
 outcome tables text = outcome_of tables (interfaces_from 1 (lines text) [])

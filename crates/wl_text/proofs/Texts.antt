@@ -193,7 +193,7 @@ pub one_list : (text : List ℕ) (written others : List WrittenInterface) → Ta
 one_list text written others x y =
     let same : Ok written ≡ Ok others = sym (said_first x refl refl) ∙ said_first y refl refl in cc same
 
--- a line that may not follow adds nothing
+-- a line that may not follow the lines before it adds nothing
 added_somewhere : (side : Bool) (m : WrittenMessage) (i : WrittenInterface) (written : List WrittenInterface)
     → message_added side m (i ∷ written) ≡ None → ⊥
 added_somewhere side m i [] is = cc is

@@ -129,8 +129,8 @@ LinesList all written = Say 1 all [] [] written
 abbrev pub TableText : List ℕ → List WrittenInterface → Type 0
 TableText text written = LinesList (lines text) written
 
--- The line may follow lines that list these interfaces: it has one of the forms, and a message
--- follows an interface.
+-- The line may follow lines that list these interfaces: it has one of the forms, and if it is a
+-- message, there is an interface before it.
 pub data MayStand (written : List WrittenInterface) (line : List ℕ) : Type 0 where
   skips : IsSkipped line → MayStand written line
   opens : (extends : Bool) (name : List ℕ) (version : ℕ) → IsInterfaceLine line extends name version

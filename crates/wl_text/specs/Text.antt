@@ -113,7 +113,7 @@ since_of [] = Some 1
 since_of (word ∷ []) = at_number word
 since_of (word ∷ next ∷ more) = None
 
--- the ending that words spell, of which the first spells no argument: D if the message destroys its
+-- the end of a tail, from the first word on that spells no argument: D if the message destroys its
 -- target, and the since number
 abbrev pub ending_of : List ℕ → List (List ℕ) → Option Tail
 ending_of word more =
@@ -133,7 +133,7 @@ with_kinds kinds tail = record {
   since = tail.since;
 }
 
--- the tail whose first word spells this argument, or spells none
+-- the tail that begins with this argument, if its first word spells one, or else with its ending
 abbrev pub tail_from : Option WrittenKind → Option Tail → Option Tail → Option Tail
 tail_from (Some kind) more ending = option_map (with_kinds (kind ∷ [])) more
 tail_from None more ending = ending
@@ -201,8 +201,9 @@ abbrev pub line_added : ℕ → List ℕ → List WrittenInterface → Option (L
 line_added n line written =
     if says_nothing line then Some written else words_added n (words line) written
 
--- The interfaces so far, followed by those that the lines list, in order, where the lines are
--- numbered from n; or the first bad line: it has no form, or it is a message before any interface.
+-- The interfaces so far, followed by those that the lines list, in order; the first of the lines
+-- has number n. If a line is bad, the first bad line instead: it has no form, or it is a message
+-- before any interface.
 abbrev pub interfaces_from : ℕ → List (List ℕ) → List WrittenInterface
     → Result (List WrittenInterface) ℕ
 interfaces_from n [] written = Ok written
