@@ -10,7 +10,7 @@ use Rattle.wl_sigs.specs.Tables.{Interface, MessageSignature, signature_at, serv
 use Rattle.wl_sigs.specs.Valid.{Valid}
 use Rattle.theory_connection.specs.World.{Each}
 
--- a new object of this kind is one of the side's maker
+-- if an argument of this kind is a new object, the side's maker makes it
 abbrev pub MadeFor : Side → Kind → Type 0
 MadeFor Request (kinds.NewByServer iface) = ⊥
 MadeFor Event (kinds.New iface) = ⊥

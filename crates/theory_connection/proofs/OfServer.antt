@@ -261,8 +261,8 @@ module _ {test : Born → Bool} where
       let ne = held_some v n i a h in
       let k = untold i r (λ x j. f x (inr j)) (put_row_other v.rows n.id None i ne ∙ h) in ((ne, k.0), k.1)
 
-  -- an object that an event names is the last of its id that an earlier event makes; or the client
-  -- holds it, and no earlier event makes an object at its id
+  -- If an event names an object, then an earlier event makes it, and none in between makes another
+  -- at its id; or the client holds it, and no earlier event makes an object at its id.
   pub named_latest : (before after : List Tell) (x : Known) {v w : Rows Row}
       → ReadsInFlight test (before ++ (Name x ∷ after)) v w → IsLatest v x (mades before)
   named_latest [] after x (name a r) = not_made tt a

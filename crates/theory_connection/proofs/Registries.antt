@@ -202,7 +202,7 @@ pub fresh_row : (v : Objects) (n : Option Known) → IfThere (Fresh (server_rows
 fresh_row v None f = tt
 fresh_row v (Some x) f = (fresh_look x.id (look v x.id) f.free, fresh_range f)
 
--- the list still has exactly the registries after a request is read
+-- after a request is read, the list still has the registries and nothing else
 pub has_read : (c : Core) (rs : List server.Registry) (n o : Option Known)
     → IsFreshId c.view (option_map made_of n) → IfThere (HeldRow c.view) o → HasRegistries c.view rs
     → HasRegistries (ended_view Event (opens c.view (option_map made_of n)) o)

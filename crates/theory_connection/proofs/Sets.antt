@@ -258,7 +258,8 @@ held_in v w (Some x) s h = elim h [
   | inr p ↦ ap is_some (s.shown x.id (Ending x.born) p)
 ]
 
--- what is held of the server's objects depends only on which of its births the set has
+-- which of the server's objects the client holds depends only on which of the server's births are
+-- in the set
 holds_same : (n : ℕ) (f g : Birth → Option Row) → HoldsServerObjects n f
     → ((number : ℕ) → is_some (g (server_birth number)) ≡ is_some (f (server_birth number))) → HoldsServerObjects n g
 holds_same n f g h e = λ number. ((λ k. (h number).0 (sym (e number) ∙ k)), (λ k. e number ∙ (h number).1 k))
@@ -289,7 +290,7 @@ holds_made n w v None f h = h
 holds_made n w v (Some x) f h =
     holds_other n w x.born.birth (Some (Open x.born)) (ap (λ (b : Birth). b.maker) f.birth) h
 
--- an object that an event makes is one more, and is counted
+-- an object that an event makes is added to them, and is counted
 pub holds_told : (w : Birth → Option Row) (v : Rows Row) (o : Option Known) → 0 < v.by_server.births
     → IfThere (NextTold v) o → HoldsServerObjects v.by_server.births w
     → HoldsServerObjects (births_counted o v.by_server.births) (born_into Open (option_map born_of o) w)

@@ -405,8 +405,8 @@ pub each_by : {X : Type 0} (P Q : X → Type 0) (f : (x : X) → P x → Q x) (x
 each_by P Q f [] h = tt
 each_by P Q f (x ∷ xs) h = (f x h.0, each_by P Q f xs h.1)
 
--- drained ends: the server has exactly the objects that are open at the client, and the client has
--- no other in its range
+-- once both ends have read everything, the objects open at the client are those of the server, and
+-- the client has no other in its range
 pub record Drained (v : Rows Row) (s : Rows Born) : Type 0 where
   pub same : (id : ℕ) → only_open (v.rows id) ≡ s.rows id
   pub of_client : (id : ℕ) → is_of_server id ≡ false → v.rows id ≡ at_client (s.rows id)

@@ -1,5 +1,5 @@
--- If no event of the tables makes an object, what is known for the client's objects and ids is
--- known for all.
+-- If no event of the tables makes an object, what is known about the client's objects and ids is
+-- known about all.
 use Rattle.std.proofs.Common.{◌≡◌, ℕ, ◌≤◌, false, List, ◌⊎◌, inl, inr, refl, sym, ◌∙◌, ap, subst, arith, ◌∷◌}
 use Rattle.std.specs.Prelude.{is_some}
 use Rattle.std.specs.declared.option.Option.TheVariants.{None}

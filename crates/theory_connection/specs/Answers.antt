@@ -61,8 +61,8 @@ abbrev pub writing : Side → Message Born → Action
 writing request_side m = WriteRequest m
 writing event_side m = WriteEvent m
 
--- The message is written; its objects have the births of those passed to the call, and if it makes
--- an object, that is the one that the call returned.
+-- The message is written. Its objects have the births of those passed to the call. If it makes an
+-- object, the call returned that object.
 pub record WritesThat (tables : List Interface) (side : Side) (w : World) (target : Birth)
     (opcode : ℕ) (args : List (Arg Birth)) (new : Option Object) (w' : World) : Type 0 where
   pub message : Message Born
@@ -172,8 +172,8 @@ pub record ReportsRequest (w : World) (m : Message Born) (report : requests.Repo
   pub opcode : report.opcode ≡ m.opcode
   pub args : ReportsArgs (rows_of_server w) m.args report.args
 
--- The report of what comes to the client: for an event for an open object, the event as it was
--- meant; for one for an ending object, its tokens; for a delete, the object.
+-- What the client reports of what comes: an event for an open object, as it was meant; only the
+-- tokens of an event for an ending object; the object of a delete.
 abbrev pub ReportsComing : World → Coming Born → events.Report → Type 0
 ReportsComing w (Event m) (events.Event target opcode args) =
     IsOpen w.client m.target × (birth_at target ≡ m.target.birth) × (opcode ≡ m.opcode)
@@ -229,9 +229,9 @@ pub record ReadsEvent (tables : List Interface) (p : PairState) (w : World) (rep
   pub steps : Steps tables w (ReadEvent coming) w'
   pub reports : ReportsComing w coming report
 
--- What comes needs memory: an event with arguments for an open object, for its report; an event
--- that makes an object, to open it. The world has no ids; `Does` says that this is only at the next
--- unused one.
+-- Reading what comes needs memory: an event with arguments for an open object needs it for the
+-- report; an event that makes an object needs it to open the object. The world has no ids; `Does`
+-- says that only an object at an id that was never used needs it.
 abbrev pub NeedsMemory : World → Coming Born → Type 0
 NeedsMemory w (Event m) =
     (IsOpen w.client m.target × (m.args ≢ [])) ⊎ (is_some (made_in m.args) ≡ true)
@@ -312,14 +312,14 @@ Means p w _ _ w' = ⊥
 abbrev pub NotEnded : PairState → World → Type 0
 NotEnded p w = (w.ended ≡ false) × (p.ended_at ≡ None)
 
--- the recorded pieces stay, and so does the mark that an error set
+-- The recorded pieces stay, and the mark that an error set stays in its place.
 pub record KeepsRecord (p p' : PairState) : Type 0 where
   pub more : List Piece
   pub pieces : p'.recording ≡ p.recording ++ more
   pub mark : (count : ℕ) → p.ended_at ≡ Some count → p'.ended_at ≡ Some count
 
 -- The reply that a move may get, and what it leaves of the pair and the world. After an error was
--- posted anything is allowed, but what was recorded stays.
+-- posted anything is allowed, except that what was recorded stays.
 pub data Answers (p : PairState) (w : World) (move : Move) (reply : Reply) (p' : PairState)
     (w' : World) : Type 0 where
   before : NotEnded p w → Does p move reply p' → Means p w move reply w'

@@ -22,8 +22,8 @@ pub record Counts : Type 0 where
   pub next : ℕ
   pub births : ℕ
 
--- An end's objects by id, in both ranges; how many ids were used and how many births counted in the
--- client's range; and what was counted in the server's.
+-- An end's objects by id, in both ranges. For the client's range: how many ids were used, and how
+-- many births counted. For the server's range: what was counted.
 pub record Rows (X : Type 0) : Type 0 where
   pub rows : ℕ → Option X
   pub used : ℕ
@@ -201,9 +201,9 @@ abbrev pub only_open : Option Row → Option Born
 only_open (Some (Open x)) = Some x
 only_open _ = None
 
--- The client at v can read all of these events: when each one's turn comes, its objects are there
--- as they were meant. Then the client is at w. The test says which objects have an interface with a
--- destroying event.
+-- The client at v can read all of these events: each finds, in its turn, its objects as they were
+-- meant. Then the client is at w. The test says which objects have an interface with a destroying
+-- event.
 pub data ReadsInFlight (by_event : Born → Bool) : List Tell → Rows Row → Rows Row → Type 0 where
   done : {v : Rows Row} → ReadsInFlight by_event [] v v
   -- the client has what an event names, open or ending
@@ -227,9 +227,9 @@ pub data ReadsInFlight (by_event : Born → Bool) : List Tell → Rows Row → R
       → (by_event x.born ≡ true) ⊎ (v.rows x.id ≡ Some (Ending x.born))
       → ReadsInFlight by_event es (at v x.id None) w → ReadsInFlight by_event (Delete x ∷ es) v w
 
--- The server at s can read all of these requests, while the client, which will be at m after it has
--- read all events written so far, reads the deletes that follow from them. In the end the client's
--- open objects are those of the server, and in its own range the client has nothing else.
+-- The server at s can read all of these requests. The client will be at m once it has read all
+-- events written so far, and then reads the deletes that follow from the requests. In the end the
+-- client's open objects are those of the server, and in its own range the client has nothing else.
 pub data Tied (by_event : Born → Bool) : List Ask → Rows Born → Rows Row → Type 0 where
   -- nothing is in flight: both have the same counts, the client's open objects are the server's,
   -- and the client's range has nothing else

@@ -112,7 +112,7 @@ carried_bytes from taken = take taken.bytes (waiting_bytes from.outbox)
 abbrev pub carried_tokens : Core → Amounts → List ℕ
 carried_tokens from taken = take taken.tokens (waiting_tokens from.outbox)
 
--- The pair after a carry: exactly this is recorded.
+-- The pair after a carry: what was carried is recorded, and nothing else.
 abbrev pub after_carry_to_server : PairState → Amounts → PairState
 after_carry_to_server p taken = record p {
   client = client.with_core p.client (with_gone p.client.core taken.bytes);
@@ -146,8 +146,8 @@ after_post p object code text =
 
 -- ---- what a call returns and leaves
 
--- A write is accepted or refused as the answer says; but if it opens an object, it may be out of
--- memory instead of being accepted. Only acceptance changes the pair.
+-- A write is accepted or refused as the answer says. If it would be accepted and opens an object,
+-- it may instead fail for lack of memory. Only acceptance changes the pair.
 pub data Writes (answer : Result (Option Object) SendError) (opens : Bool)
     (before after : PairState)
     : Result (Option Object) SendError → PairState → Type 0 where
@@ -170,16 +170,16 @@ pub data Adds (refusal : Option GlobalError) (name : ℕ) (before after : PairSt
       → refusal ≡ Some why → Adds refusal name before after (Err why) before
   no_memory : refusal ≡ None → Adds refusal name before after (Err global_errors.Memory) before
 
--- The longest part of what is owed, from the front, that fits is written.
+-- As many of the owed events are written, in order, as fit.
 pub data Announces (p : PairState) : Result ℕ SendError → PairState → Type 0 where
   announced : {count : ℕ}
       → p.server.core.failed ≡ false → Fitting p.server count
       → Announces p (Ok count) (with_server p (after_announce p.server count))
   refused : p.server.core.failed ≡ true → Announces p (Err refusals.Failed) p
 
--- A read returns and leaves what it says; or there is no memory for a report that needs some, or,
--- at a client, for an object that the message makes at an id that was never used, and then nothing
--- changes.
+-- A read returns and leaves what the answer says. It may instead fail for lack of memory, and then
+-- nothing changes: memory for a report that needs some, or, at a client, for an object that the
+-- message makes at an id that was never used.
 pub data Nexts {R : Type 0} (needs : R → Bool) (opens : Bool)
     (answer : Result (Option R) NextError) (before after : PairState)
     : Result (Option R) NextError → PairState → Type 0 where
@@ -189,8 +189,8 @@ pub data Nexts {R : Type 0} (needs : R → Bool) (opens : Bool)
   no_memory_to_open : IsOk answer → opens ≡ true
       → Nexts needs opens answer before after (Err errors.Memory) before
 
--- A carry moves this much; or, if something would move, there may be no memory to record it, and
--- then nothing changes.
+-- A carry moves this much. If it would move something, it may instead fail for lack of memory to
+-- record that, and then nothing changes.
 pub data Carries (taken : Amounts) (before after : PairState) : CarryOutcome → PairState
     → Type 0 where
   moved : Carries taken before after (Moved taken) after

@@ -63,9 +63,9 @@ pub record AgreeByClient (client server : Objects) : Type 0 where
   pub live : (id : ℕ) (e : Entry) → is_of_server id ≡ false → look client id ≡ Some e
       → e.state ≡ states.Live
 
--- In the server's range the client's live rows are the server's, and the client's zombies have
--- exactly the ids that the server has freed: no delete_id informs the client of those. Both have
--- used as many ids there and counted as many births.
+-- In the server's range the client's live rows are the server's. An id there has a zombie at the
+-- client if and only if the server has freed it, since no delete_id informs the client. Both have
+-- used the same number of ids there and counted the same number of births.
 pub record AgreeByServer (client server : Objects) : Type 0 where
   pub same : (id : ℕ) (e : Entry) → is_of_server id ≡ true
       → (look server id ≡ Some e) ↔ ((look client id ≡ Some e) × (e.state ≡ states.Live))

@@ -80,9 +80,9 @@ NoneIsGone x = ⊥
 
 -- ---- messages in flight
 
--- These messages are in flight from an outbox to an inbox: first those begun, whose tokens are all
--- in the inbox, and whose bytes are too, except what is left in the outbox; then those of the
--- outbox that are not begun.
+-- These messages are in flight from an outbox to an inbox. First come those begun: the inbox has
+-- all their tokens, and all their bytes except what the outbox still has of them. Then come those
+-- of the outbox that are not begun.
 pub record InFlight (from : Outgoing) (to : Arrived) (messages : List boxes.QueuedMessage) : Type 0
   where
     pub begun : List boxes.QueuedMessage
@@ -223,8 +223,8 @@ pub record SameTerms (client server : Terms) : Type 0 where
   pub down_limit : server.out_limit ≡ client.in_limit
   pub one_limit : client.in_limit ≡ server.in_limit
 
--- Of the server's objects the client has exactly those that it has counted, open or ending: an
--- event adds each, and no delete removes one. The server's births begin at 1.
+-- The client has an object that the server made, open or ending, if and only if it has counted it:
+-- an event adds each, and no delete removes one. The server's births begin at 1.
 abbrev pub HoldsServerObjects : ℕ → (Birth → Option Row) → Type 0
 HoldsServerObjects births held =
     (number : ℕ)
@@ -314,8 +314,8 @@ pub record StandsBy (p : PairState) (w : World) (asked : List (Message Known))
       (all_asks asked)
   -- an event that destroys an object is immediately followed by that object's delete
   pub deletes_follow : DeletesFollow told
-  -- when its turn comes, each can be read; and when all is read, the objects open at the client are
-  -- those open at the server
+  -- each can be read in its turn; when all are read, the objects open at the client are those open
+  -- at the server
   pub meet : MeetInMiddle (by_event p.server.core.tables) (all_tells told) (all_asks asked)
       (client_rows p.client.core.view) (server_rows p.server.core.view)
   pub globals : GlobalsStand p.server.core.tables p.client.globals p.server.globals

@@ -27,7 +27,7 @@ use Rattle.wl_connection.proofs.Spelled.{begin_none, begin_more}
 
 -- ---- what both ends have in common
 
--- a report is for the message at the front; what waits behind that message is left
+-- a report is for the message at the front; the bytes after that message are left
 pub record IsOfMessage {S R : Type 0} (e : Reading S R) (side : Side) (state : S) : Type 0 where
   pub message : Found
   pub there : found (e.core state) side ≡ Ok (Some message)

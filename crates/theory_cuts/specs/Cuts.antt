@@ -11,8 +11,8 @@ use Rattle.wl_connection.specs.Reads.{Reading, with_arrivals, Reads, ReadsSome}
 
 -- ---- pieces that come in step
 
--- What waits begins with messages of these needs; messages of this side come in. Each message is
--- read before the next is at the front.
+-- What waits begins with messages that have these needs, and messages of this side come in. Each
+-- message is read before the next one gets to the front.
 pub data BeginsWithNeeds {S R : Type 0} (e : Reading S R) (side : Side) : S → List Need
     → Type 0 where
   here : {state : S} → BeginsWithNeeds e side state []
@@ -42,9 +42,9 @@ pub record HasOneReading {S R : Type 0} (e : Reading S R) : Type 0 where
       → ReadsSome e state reports last
       → ReadsSome e (with_arrivals e state bytes tokens) reports (with_arrivals e last bytes tokens)
 
--- If pieces are in step, it does not matter how the stream is split: what was read up to a fault,
--- or up to a last report, is what would be read if all pieces had come at once, and what was not
--- taken of them remains.
+-- If pieces are in step, it does not matter how the stream is split. Up to a fault or a last
+-- report, the same is read as if all pieces had come at once, and what was not taken of them
+-- remains.
 abbrev pub AnyCutReads : {S R : Type 0} → Reading S R → Side → Type 0
 AnyCutReads {S = S} {R = R} e side =
     (state last : S) (pieces : List Part) (count : ℕ) (some : Amounts)

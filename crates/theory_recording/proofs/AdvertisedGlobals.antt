@@ -105,7 +105,7 @@ named_in tables target name iface version new [] h = absurd h
 named_in tables target name iface version new (a ∷ []) h = absurd h.1
 named_in tables target name iface version new (a ∷ (b ∷ ks)) h = named_as tables target b iface version new h.1.0.1
 
--- a version that may be bound is one of the tables
+-- a version that may be bound is at most that of the interface in the tables
 bound_as : (tables : List Interface) (iface : List ℕ) (version : ℕ) (new : Known) (g : Global) (o : Option Interface)
     → Valid tables → IsGlobal tables g → IsNamed tables iface version new
     → interface_at tables g.iface.0 ≡ o → name_fits iface o && (nat_le 1 version && nat_le version g.version) ≡ true

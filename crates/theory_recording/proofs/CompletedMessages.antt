@@ -146,8 +146,8 @@ module _ {M : Type 0} (sp : M → boxes.QueuedMessage) (limit : ℕ) (tables : L
             (subst (λ (j : List Judged). F j ((seen ++ m ∷ []) ++ w.fresh) w.still) (sym after) w.next);
       })
 
-  -- These messages are begun, the first of those not yet recorded. Of their bytes, x are in the
-  -- stream, and `left` are still to come.
+  -- These messages are begun. They are the first of those not yet recorded. Of their bytes, x are
+  -- in the stream, and `left` are still to come.
   pub walk : KeepsOne → (later : List M) (begun others : List boxes.QueuedMessage) (e : List Judged) (seen : List M)
       (p : ℕ)
       (x left : List ℕ) → F e seen later → drop p (streams d) ≡ x → p ≤ length (streams d)

@@ -67,8 +67,9 @@ body_is m stream more p e =
     ap (take (length (spelled_meant m).bytes - 8)) behind
     ∙ take_at (spelled_values vs) more (length (spelled_meant m).bytes - 8) n
 
--- A message in a stream that fits keeps all rules, if the checker has what it names, it is no bad
--- bind, and its direction brought at least the tokens taken before it and its own.
+-- A message in a stream that fits keeps all rules under three conditions: the checker has what it
+-- names, it is no bad bind, and its direction brought at least the tokens taken before it and its
+-- own.
 pub frame_called : (limit : ℕ) (tables : List Interface) (k : Knows) (d : Direction) (m : Message Known)
     (stream more : List ℕ) (p t : ℕ) (o : HasObject (reader_by tables k d) m.target) (f : FitsSignature tables (side_of d) m)
     → Each (MadeFor (side_of d)) f.signature.kinds → IsMessage limit (spelled_meant m).bytes → drop p stream ≡ (spelled_meant m).bytes ++ more

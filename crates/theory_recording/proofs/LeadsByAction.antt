@@ -32,7 +32,7 @@ pub record Parted (test : Born → Bool) (es fs : List Tell) (v w : Rows Row) : 
 abbrev pub HasFrom : Rows Row → ℕ → ℕ → Type 0
 HasFrom v i b = (r : Row) × ((v.rows i ≡ Some r) × (b ≤ (birth_in r).number))
 
--- what holds for each and what else holds for each hold together for each
+-- if two properties hold for each element, both together hold for each
 each_both : {X : Type 0} (P Q : X → Type 0) (xs : List X) → Each P xs → Each Q xs → Each (λ x. P x × Q x) xs
 each_both P Q [] p q = tt
 each_both P Q (x ∷ xs) p q = ((p.0, q.0), each_both P Q xs p.1 q.1)
@@ -46,8 +46,8 @@ module _ {test : Born → Bool} where
 
   -- ---- an event is recorded
 
-  -- an object that is held after the requests is held at the recording point, if its making was
-  -- recorded; one of the server always is, since requests make none
+  -- an object that is held after the requests is held at the recording point, if the message that
+  -- makes it was recorded; that is always so for an object of the server, since requests make none
   pub held_here : {qs : List Ask} {v w : Rows Row} (x : Known) → Leads test qs v w → IsHeldInRows w x
       → (is_of_server x.id ≡ false → x.born.birth.number < v.births)
       → IsHeldInRows v x

@@ -52,7 +52,7 @@ other_born {o} test x n (inl h) a b t = let q : Some (Open x.born) ≡ Some (Ope
     in let s : x.born ≡ n.born = cc q in cc (sym t ∙ ap test s ∙ b)
 other_born {o} test x n (inr h) a b t = let q : Some (Ending x.born) ≡ Some (Open n.born) = sym h ∙ a in absurd (cc q)
 
--- an object was counted in these rows, if it is in the client's range
+-- if the object is in the client's range, its birth was counted in these rows
 abbrev pub Counted : Rows Row → Known → Type 0
 Counted v x = is_of_server x.id ≡ false → x.born.birth.number < v.births
 

@@ -70,8 +70,8 @@ pub record Whereabouts (tables : List Interface) (asked_seen asked_later : List 
   pub made_by : (id : ℕ) (x : Born) → server.rows id ≡ Some x → x.birth.maker ≡ maker_of id
   pub display : client.rows 1 ≡ Some (Open display_born)
 
--- the checker has counted an object of the client's range that is held where the checker and the
--- client meet, and that the server has counted
+-- the checker has counted an object of the client's range if the server has counted it and it is
+-- held in the rows that the checker and the client both reach
 counted_here : (here common : Rows Row) (server : Rows Born)
     → ((id : ℕ) (r : Row) → common.rows id ≡ Some r → (birth_in r).maker ≡ maker_of id) → server.births ≤ here.births
     → (x : Known) → IsHeldInRows common x → IsAmongFirst (births_in server) x.born.birth → Counted here x
@@ -92,7 +92,7 @@ all_counted here common server by first [] h c = tt
 all_counted here common server by first (x ∷ xs) h c =
     (counted_here here common server by first x h.0 c.0, all_counted here common server by first xs h.1 c.1)
 
--- what comes next, where the checker and the client meet
+-- what comes next, from the rows that the checker and the client both reach
 pub record NextRead (tables : List Interface) (c : Coming Known) (later : List (Coming Known))
     (common middle : Rows Row) (births : Maker → ℕ) : Type 0 where
   pub reads : ReadsInFlight (by_event tables) (tells c ++ all_tells later) common middle

@@ -50,9 +50,9 @@ abbrev pub place_before : Maker → List ℕ
 place_before Client = []
 place_before Server = 0 ∷ []
 
--- The places of the messages that make an object of this maker, by births: wl_display, the client's
--- birth 0, is made at place 0, and the client's birth b by the b-th request that makes an object;
--- the server's birth b by the b-th event that makes one.
+-- The places of the messages that make an object of this maker, by births. The client's birth 0 is
+-- wl_display, which is made at place 0; its birth b is made by the b-th request that makes an
+-- object. The server's birth b is made by the b-th event that makes one.
 unfoldable pub places_of_making : (ℕ → Option NewObject) → ℕ → Maker → List ℕ
 places_of_making made zero by = place_before by
 places_of_making made (suc place) by =
@@ -110,11 +110,11 @@ BindsAdvertised k m = is_bind Request m.target.born.iface m.opcode ≡ true
 
 -- ---- all of it
 
--- These requests were written and are not yet recorded; these events were recorded and are not yet
--- read by the client, which has these rows and remembers these globals. None of the judged messages
--- breaks a rule or is wl_display.error. From the rows that the checker knows, the requests lead to
--- the rows to which the events lead the client. Each global that the client remembers, will read of
--- or binds was advertised in a recorded event.
+-- These requests were written and are not yet recorded. These events were recorded, and the client,
+-- which has these rows and remembers these globals, has not read them yet. None of the judged
+-- messages breaks a rule or is wl_display.error. From the rows that the checker knows, the requests
+-- lead to the same rows to which the events lead the client. Each global that the client remembers,
+-- will read about or binds was advertised in a recorded event.
 pub record Follows (tables : List Interface) (judged : List Judged)
     (asked_later : List (Message Known)) (told_seen : List (Coming Known)) (client : Rows Row)
     (remembered : List Global) : Type 0 where

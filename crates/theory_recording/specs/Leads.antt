@@ -5,9 +5,9 @@ use Rattle.theory_connection.specs.World.{Row, Open, Ending}
 use Rattle.theory_connection.specs.Flight.{Rows, at, with_made, Ask, Use, Make, Destroy, Tell}
 use Rattle.theory_connection.specs.Flight.{Fresh, ReadsInFlight}
 
--- All of these requests may be recorded one after another if v is known: when each one's turn
--- comes, each object that it uses is open, and a new one has an id that is free or next, and is the
--- next birth. Then w is known.
+-- If v is known, all of these requests may be recorded one after another, and then w is known. Each
+-- finds, in its turn, that the objects it uses are open; a new object has an id that is free or
+-- next, and is the next birth.
 pub data Leads (by_event : Born → Bool) : List Ask → Rows Row → Rows Row → Type 0 where
   done : {v : Rows Row} → Leads by_event [] v v
   use_ : {qs : List Ask} {v w : Rows Row} {x : Known}
@@ -19,8 +19,8 @@ pub data Leads (by_event : Born → Bool) : List Ask → Rows Row → Rows Row �
       → x.id ≢ 1 → v.rows x.id ≡ Some (Open x.born) → by_event x.born ≡ false
       → Leads by_event qs (at v x.id (Some (Ending x.born))) w → Leads by_event (Destroy x ∷ qs) v w
 
--- There are rows that both reach: a checker of the recording by the requests that are not yet
--- recorded, and the client by the events that are recorded and that it has not yet read.
+-- A checker of the recording and the client come to the same rows: the checker by the requests that
+-- are not yet recorded, the client by the recorded events that it has not yet read.
 pub record Joins (by_event : Born → Bool) (later : List Ask) (seen : List Tell)
     (here client : Rows Row) : Type 0 where
   pub common : Rows Row

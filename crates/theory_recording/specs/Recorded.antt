@@ -10,8 +10,8 @@ use Rattle.wl_check.specs.Merged.{cut, stream_of, piece_tokens}
 -- These messages were recorded whole and wait in the inbox. After them, the inbox and the
 -- direction's stream end with the same part of the next message, which may be empty, and the stream
 -- has no bad size. (The inbox has the limit with which the stream is cut.) The recorded messages
--- took this many tokens, including those of the messages that wait; so the tokens that the pieces
--- brought beyond these are those that wait for later messages.
+-- took this many tokens, including those of the messages that wait; any further tokens that the
+-- pieces brought wait for later messages.
 pub record Recorded (limit : ℕ) (direction : Direction) (pieces : List Piece)
     (inbox : Arrived) (taken : ℕ) (seen : List boxes.QueuedMessage) : Type 0 where
   pub same_limit : inbox.limit.bytes ≡ limit

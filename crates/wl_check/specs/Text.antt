@@ -81,8 +81,8 @@ pub record IsExamined (messages : List Judged) (k : ℕ) : Type 0 where
   pub goes_on : (earlier : ℕ) (message : Judged) → earlier < k
       → slice_get messages earlier ≡ Some message → ends_session message ≡ false
 
--- A message with a line in a trace: it keeps the rules, and so does each message before it, none of
--- which is wl_display.error.
+-- A message with a line in a trace: it and each message before it keep the rules, and no message
+-- before it is wl_display.error.
 pub record IsPrinted (messages : List Judged) (k : ℕ) : Type 0 where
   pub call : Call
   pub is : slice_get messages k ≡ Some (Ok call)

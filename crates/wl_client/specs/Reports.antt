@@ -221,8 +221,8 @@ abbrev pub event_opens : Core → Result (Option Found) Fault → Bool
 event_opens core (Ok (Some f)) = opens_row core.view (made_by_event core f.message)
 event_opens core _ = false
 
--- A client's reading never waits for room. A fault makes the client fail, and so does
--- wl_display.error after it is reported.
+-- A client's reading never waits for room. A fault makes the client fail. A wl_display.error makes
+-- it fail once it is reported.
 abbrev pub client_role : Role State Report
 client_role = record {
   core = λ state. state.core;

@@ -11,7 +11,7 @@ use Rattle.wl_message.specs.Outgoing.{waiting_tokens}
 use Rattle.wl_message.proofs.TakenInStep.{passes, tokens_append}
 use Rattle.wl_message.proofs.Steps.{side}
 
--- n tokens of two lists, where the second is used once the first is empty
+-- the front of two lists, one after the other, if the second is used only once the first is empty
 pub two_parts : (unread unsent : List ℕ) (k d : ℕ) → k ≤ length unread → (d ≡ 0) ⊎ (length unread ≤ k)
     → take (k + d) (unread ++ unsent) ≡ take k unread ++ take d unsent
 two_parts unread unsent k d le (inl none) =

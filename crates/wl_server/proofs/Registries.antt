@@ -1,4 +1,4 @@
--- A server's list always has exactly its open registries.
+-- A server's list always has its open registries and nothing else.
 use Rattle.std.proofs.Common.{◌≡◌, ◌≢◌, ◌≤◌, ◌⊎◌, ℕ, Bool, true, false, cond, eqb, List, [], ◌∷◌, ◌++◌}
 use Rattle.std.proofs.Common.{Some, None, refl, sym, ap, subst, ◌∙◌, inl, inr, arith, ⊎_elim}
 use Rattle.std.specs.Prelude.{Option, map, nat_eq, not, if◌then◌else◌}
@@ -304,7 +304,7 @@ record IsMade (n : ℕ) (m : NewObject) : Type 0 where
   id : m.id ≡ n
   iface : m.iface ≢ registry
 
--- a new object of the server, if the kind is one, is no registry
+-- if the kind is a new object of the server, the object is no registry
 abbrev MakesNoRegistry : Kind → Type 0
 MakesNoRegistry kind = (iface : Iface) → kind ≡ kinds.NewByServer iface → iface ≢ registry
 

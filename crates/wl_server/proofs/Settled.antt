@@ -1,4 +1,4 @@
--- A registry is owed nothing once it was sent every event that it needs.
+-- A registry is owed nothing more once it was sent every event that it needs.
 use Rattle.std.proofs.Common.{◌≡◌, ◌≢◌, ℕ, suc, ◌+◌, ◌-◌, ◌<◌, ◌≤◌, Bool, true, false, List, [], ◌∷◌, ◌++◌, length}
 use Rattle.std.proofs.Common.{get_or, refl, sym, ap, ◌∙◌, ◌⊎◌, inl, inr, arith}
 use Rattle.std.specs.Prelude.{not, ◌&&◌, if◌then◌else◌, map}
@@ -90,7 +90,7 @@ removed-kept r n k y ne h =
     ap (λ (b : Bool). (has_name r.told (k + 1) && not y.present) && not b)
     (name-apart r.removed (n + 1) (k + 1) (omega arith) (omega arith) (λ e. ne (omega (arith, e)))) ∙ h
 
--- once the next removal is sent, no removal is owed for one name more
+-- once the next removal is sent, no removal is owed for the first n + 1 names
 pub removal-settled : (r : Registry) (globals : List Global) (n : ℕ) (x : Global)
     → NoneOf (owes_removal r) globals n → n < length globals → x ≡ get_or globals n x
     → has_name (with_name r.removed (n + 1)) (n + 1) ≡ true

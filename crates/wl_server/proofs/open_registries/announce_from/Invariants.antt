@@ -4,7 +4,8 @@ use Rattle.wl_server.specs.Tellings.{Progress}
 use Rattle.wl_server.specs.Slots.{SlotsRise, open_in, past_of}
 use Rattle.wl_server.proofs.open_registries.announce_from.Given as goal
 
--- what is still owed, is owed to the registries from this place on, and nothing to those before
+-- everything that is still owed is owed to the registries from this place on, and nothing to those
+-- before
 abbrev pub invariant-places : goal.invariant-places
 invariant-places g l = record {
   progress : Progress l.fn.core (open_in l.fn.slots) (owed_in l.globals (open_in l.fn.slots)) l.count l.core
