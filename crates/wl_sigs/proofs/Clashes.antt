@@ -2,7 +2,7 @@
 use Rattle.std.proofs.Common.{◌≡◌, ℕ, ◌⊎◌, inl, inr, true, false, cond, List, refl, sym, ap, ◌∙◌}
 use Rattle.std.proofs.Common.{subst, Some, None, Bool, slice_get, ◌&&◌, arith}
 use Rattle.std.specs.List.{Contains, list_any}
-use Rattle.std.proofs.lemmas.Bool.{eqb-true}
+use Rattle.std.proofs.lemmas.Bool.{eqb-true, and_parts, and_from}
 use Rattle.std.proofs.lemmas.Bool.Decides.{Decides-eqb}
 use Rattle.std.proofs.lemmas.Option.{slice_get-get_or}
 use Rattle.wl_wire.specs.declared.kind.Kind.{Kind}
@@ -84,14 +84,6 @@ is_made place (kinds.NewByServer iface) is = (iface, refl, eqb-true iface.0 plac
 is_made place kinds.Array is = cc is
 is_made place kinds.Fd is = cc is
 
-both_true : (a b : Bool) → a && b ≡ true → (a ≡ true) × (b ≡ true)
-both_true true b e = (refl, e)
-both_true false b e = cc e
-
-of_both : (a b : Bool) → a ≡ true → b ≡ true → a && b ≡ true
-of_both true b e e' = e'
-of_both false b e e' = cc e
-
 -- the rules that an added message breaks because of what the tables already have
 
 request_clash : (tables : List Interface) (place : ℕ) (old : Interface) (m : WrittenMessage) (s : MessageSignature)
@@ -155,7 +147,7 @@ event_clash tables place old m s same a b is_a is_b = by_tests a b is_a is_b
     as_argument : m.destroys && has_argument (is_object_of place) tables Request ≡ true
         → (rule : ℕ) → rule ≡ 7 → Clashes tables place old Event s rule
     as_argument is rule seven =
-        let both = both_true m.destroys (has_argument (is_object_of place) tables Request) is in
+        let both = and_parts m.destroys (has_argument (is_object_of place) tables Request) is in
         let witness = is_named (is_object_of place) tables Request both.1 in
         let object = is_object place witness.kind witness.passes in
         ends_argument witness.place witness.opcode witness.message object.0 object.1 seven refl (same ∙ both.0) witness.at
@@ -164,7 +156,7 @@ event_clash tables place old m s same a b is_a is_b = by_tests a b is_a is_b
     as_made : m.destroys && has_argument (is_server_object_of place) tables Event ≡ true
         → (rule : ℕ) → rule ≡ 11 → Clashes tables place old Event s rule
     as_made is rule eleven =
-        let both = both_true m.destroys (has_argument (is_server_object_of place) tables Event) is in
+        let both = and_parts m.destroys (has_argument (is_server_object_of place) tables Event) is in
         let witness = is_named (is_server_object_of place) tables Event both.1 in
         let made = is_made place witness.kind witness.passes in
         ends_server_object witness.place witness.opcode witness.message made.0 eleven refl (same ∙ both.0) witness.at
@@ -177,13 +169,13 @@ event_clash tables place old m s same a b is_a is_b = by_tests a b is_a is_b
     at_least rule (ends_argument p opcode request null iface is side destroys at there here) =
         inl (
           is,
-          of_both m.destroys _ (sym same ∙ destroys)
+          and_from m.destroys _ (sym same ∙ destroys)
               (named_object tables place p opcode request null iface at there here),
         )
     at_least rule (ends_server_object p opcode event iface is side destroys at there here) =
         inr (
           is,
-          of_both m.destroys _ (sym same ∙ destroys)
+          and_from m.destroys _ (sym same ∙ destroys)
               (named_made tables place p opcode event iface at there here),
         )
 

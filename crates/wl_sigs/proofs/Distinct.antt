@@ -1,11 +1,12 @@
 -- A test that decides whether the names in a list are distinct.
-use Rattle.std.proofs.Common.{◌≡◌, ℕ, zero, suc, List, [], ◌∷◌, refl, sym, ◌∙◌, ap, map, slice_get}
-use Rattle.std.proofs.Common.{not, bytes_eq, Option, Some, None, option_map}
+use Rattle.std.proofs.Common.{◌≡◌, ℕ, zero, suc, List, [], ◌∷◌, refl, sym, ◌∙◌, ap, map, slice_get, not, bytes_eq, Some}
+use Rattle.std.proofs.Common.{option_map}
 use Rattle.std.specs.List.{list_all}
 use Rattle.std.specs.Bool.{Decides}
 use Rattle.std.proofs.lemmas.Bool.Decides.{Decides-like, Decides-and, Decides-not}
 use Rattle.std.proofs.lemmas.Option.{slice_get-map}
 use Rattle.std.proofs.lemmas.Slice.Eq.{bytes_eq-Decides}
+use Rattle.wl_sigs.proofs.JoinedLookup.{mapped_some}
 use Rattle.wl_sigs.specs.Rules.{are_distinct}
 use Rattle.wl_sigs.proofs.TestsDecide.{Decides-each}
 
@@ -42,11 +43,6 @@ Decides-distinct (name ∷ names) =
 named_at : {X : Type 0} (name_of : X → List ℕ) (xs : List X) (k : ℕ) (x : X) → slice_get xs k ≡ Some x
     → slice_get (map name_of xs) k ≡ Some (name_of x)
 named_at name_of xs k x at = slice_get-map name_of xs k ∙ ap (option_map name_of) at
-
-mapped_some : {X Y : Type 0} (f : X → Y) (o : Option X) (y : Y) → option_map f o ≡ Some y
-    → (x : X) × (o ≡ Some x) × (f x ≡ y)
-mapped_some f None y h = cc
-mapped_some f (Some x) y h = (x, refl, cc)
 
 -- no two elements have the same name
 abbrev pub DistinctBy : {X : Type 0} → (X → List ℕ) → List X → Type 0

@@ -1,8 +1,7 @@
 -- The first line of an extension that breaks a rule by itself.
-use Rattle.std.proofs.Common.{◌≡◌, ℕ, ◌⊎◌, inl, inr, true, false, cond, List, [], ◌∷◌, ◌++◌}
-use Rattle.std.proofs.Common.{refl, sym, ap, ◌∙◌, subst, Some, None, Option, Bool, nat_lt, bytes_eq}
-use Rattle.std.proofs.Common.{◌||◌, codes, arith}
-use Rattle.std.proofs.lemmas.Bool.{ltb-true, ltb-false}
+use Rattle.std.proofs.Common.{◌≡◌, ℕ, inl, inr, true, false, cond, List, [], ◌∷◌, ◌++◌, refl, sym, ap, ◌∙◌, subst, Some}
+use Rattle.std.proofs.Common.{None, Option, Bool, nat_lt, bytes_eq, ◌||◌, codes, arith}
+use Rattle.std.proofs.lemmas.Bool.{ltb-true, ltb-false, or_cases, or_left, or_right}
 use Rattle.std.proofs.lemmas.Slice.Eq.{bytes_eq-Decides}
 use Rattle.wl_text.specs.Text.{WrittenInterface}
 use Rattle.wl_sigs.specs.Broken.{broken_at}
@@ -14,22 +13,10 @@ use Rattle.wl_sigs.specs.FirstLineBroken.{extends_fixed, lowers_version, extends
 use Rattle.wl_sigs.proofs.FirstLine.{IsLeast, like, Either, of_either, one_line, later_not_before}
 use Rattle.wl_sigs.proofs.LeastRule.{IsLeastRule, some_rule}
 
-either_true : (a b : Bool) → a || b ≡ true → (a ≡ true) ⊎ (b ≡ true)
-either_true true b e = inl refl
-either_true false b e = inr e
-
-left_true : (a b : Bool) → a ≡ true → a || b ≡ true
-left_true true b e = refl
-left_true false b e = cc e
-
-right_true : (a b : Bool) → b ≡ true → a || b ≡ true
-right_true true b e = refl
-right_true false b e = e
-
 pub fixed_name : (name : List ℕ) → is_fixed_name name ≡ true → IsFixedName name
-fixed_name name is = elim (either_true ((display || registry) || callback) fixes is) [
-  | inl three ↦ elim (either_true (display || registry) callback three) [
-    | inl two ↦ elim (either_true display registry two) [
+fixed_name name is = elim (or_cases ((display || registry) || callback) fixes is) [
+  | inl three ↦ elim (or_cases (display || registry) callback three) [
+    | inl two ↦ elim (or_cases display registry two) [
       | inl one ↦ names_display ((bytes_eq-Decides name (codes "wl_display")).0 one)
       | inr one ↦ names_registry ((bytes_eq-Decides name (codes "wl_registry")).0 one)
     ]
@@ -53,14 +40,14 @@ fixed_name name is = elim (either_true ((display || registry) || callback) fixes
 pub was_fixed : (name : List ℕ) → IsFixedName name → is_fixed_name name ≡ true
 was_fixed name (names_display is) = rw ((bytes_eq-Decides name (codes "wl_display")).1 is) refl
 was_fixed name (names_registry is) =
-    left_true _ (bytes_eq name (codes "wl_fixes")) (left_true _ (bytes_eq name (codes "wl_callback"))
-    (right_true (bytes_eq name (codes "wl_display")) _ ((bytes_eq-Decides name (codes "wl_registry")).1 is)))
+    or_left _ (bytes_eq name (codes "wl_fixes")) (or_left _ (bytes_eq name (codes "wl_callback"))
+    (or_right (bytes_eq name (codes "wl_display")) _ ((bytes_eq-Decides name (codes "wl_registry")).1 is)))
 was_fixed name (names_callback is) =
-    left_true _ (bytes_eq name (codes "wl_fixes"))
-    (right_true (bytes_eq name (codes "wl_display") || bytes_eq name (codes "wl_registry")) _
+    or_left _ (bytes_eq name (codes "wl_fixes"))
+    (or_right (bytes_eq name (codes "wl_display") || bytes_eq name (codes "wl_registry")) _
     ((bytes_eq-Decides name (codes "wl_callback")).1 is))
 was_fixed name (names_fixes is) =
-    right_true (bytes_eq name (codes "wl_display") || bytes_eq name (codes "wl_registry")
+    or_right (bytes_eq name (codes "wl_display") || bytes_eq name (codes "wl_registry")
     || bytes_eq name (codes "wl_callback")) _ ((bytes_eq-Decides name (codes "wl_fixes")).1 is)
 
 extension_least : (g : Gathered) (own : WrittenInterface)

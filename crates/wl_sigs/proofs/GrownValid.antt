@@ -3,7 +3,7 @@ use Rattle.std.proofs.Common.{◌≡◌, ◌≢◌, ℕ, zero, suc, ◌+◌, ◌
 use Rattle.std.proofs.Common.{List, [], ◌∷◌, ◌++◌, length, map, refl, sym, ap, ◌∙◌, subst, Some, None}
 use Rattle.std.proofs.Common.{Bool, slice_get, arith}
 use Rattle.std.specs.List.{All, Contains}
-use Rattle.std.proofs.lemmas.Bool.{cases_lt}
+use Rattle.std.proofs.lemmas.Bool.{cases_lt, false_from_ne_true}
 use Rattle.std.proofs.Math.Nat.{eq-or-lt_of_le}
 use Rattle.std.proofs.lemmas.List.{length-append, length-map}
 use Rattle.std.proofs.lemmas.List.Elements.{All-weaker}
@@ -356,10 +356,6 @@ ends_by tables written p j witness ends =
       | inr a ↦ inr (event.0, event.1, a, event.3)
     ]
 
-bool_false : (b : Bool) → (b ≡ true → ⊥) → b ≡ false
-bool_false true not_so = absurd (not_so refl)
-bool_false false not_so = refl
-
 -- V7
 requests_kept : (tables : List Interface) (written : List WrittenInterface) → NoLineBreaks tables written
     → Valid tables
@@ -407,7 +403,7 @@ arguments_kept tables written none valid =
     let lt = of_contained (λ x. (i : Iface) → named_interface x ≡ Some i → i.0 < length tables) m.kinds
     (kinds.Obj null (Some iface)) (valid.interfaces_there Request p o m h) object iface refl in
     let grows = whole_at tables written iface.0 j lt at in
-    bool_false (has_destroying_event j) (λ ends. elim (ends_by tables written iface.0 j grows ends) [
+    false_from_ne_true (has_destroying_event j) (λ ends. elim (ends_by tables written iface.0 j grows ends) [
       | inl old ↦
           let free = of_contained (NotEndedIn tables) m.kinds (kinds.Obj null (Some iface))
           (valid.race_free.no_arguments p o m h) object null iface grows.old refl grows.at in
@@ -416,7 +412,7 @@ arguments_kept tables written none valid =
           (ends_argument p o m null iface refl refl event.3 h object refl))
     ])))
     (λ p o m a. no_kind (NotEndedIn (extended tables written)) m.kinds (λ k there null iface j is at.
-    bool_false (has_destroying_event j) (λ ends. never tables written none p Request o m a 7
+    false_from_ne_true (has_destroying_event j) (λ ends. never tables written none p Request o m a 7
     (object_of_ended null iface j refl refl (subst (λ (x : Kind). Contains m.kinds x) is there) at ends))))
 
 -- V8
@@ -532,7 +528,7 @@ made_kept tables written none valid side =
     let grows = whole_at tables written iface.0 j lt at in
     let right = of_contained (MadeRightly tables) m.kinds (kinds.NewByServer iface)
     (valid.server_makes.interfaces side p o m h) made iface grows.old refl grows.at in (
-      bool_false (has_destroying_event j) (λ ends. elim (ends_by tables written iface.0 j grows ends) [
+      false_from_ne_true (has_destroying_event j) (λ ends. elim (ends_by tables written iface.0 j grows ends) [
         | inl old ↦ let no : true ≡ false = sym old ∙ right.0 in cc no
         | inr event ↦ none event.2.line 11 (by_clash iface.0 event.2.old event.2.i Event event.0 event.1 event.2.adds
             (by_event side p o m iface h made event.1 event.2.old event.3))
@@ -541,7 +537,7 @@ made_kept tables written none valid side =
     )))
     (λ p o m a. no_kind (MadeRightly (extended tables written)) m.kinds (λ k there iface j is at.
     let made = subst (λ (x : Kind). Contains m.kinds x) is there in (
-      bool_false (has_destroying_event j) (λ ends. never tables written none p side o m a 11
+      false_from_ne_true (has_destroying_event j) (λ ends. never tables written none p side o m a 11
           (server_object_of_ended iface j refl made at ends)),
       λ fixed. never tables written none p side o m a 11 (server_object_of_fixed iface j refl made at fixed),
     )))

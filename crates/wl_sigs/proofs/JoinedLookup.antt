@@ -31,7 +31,7 @@ in_front [] ys k x at = cc at
 in_front (y ∷ xs) ys zero x at = at
 in_front (y ∷ xs) ys (suc k) x at = in_front xs ys k x at
 
-mapped_some : {X Y : Type 0} (f : X → Y) (o : Option X) (y : Y) → option_map f o ≡ Some y
+pub mapped_some : {X Y : Type 0} (f : X → Y) (o : Option X) (y : Y) → option_map f o ≡ Some y
     → (x : X) × (o ≡ Some x) × (f x ≡ y)
 mapped_some f None y h = cc h
 mapped_some f (Some x) y h = (x, refl, cc h)

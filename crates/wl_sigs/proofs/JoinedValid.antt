@@ -11,7 +11,6 @@ use Rattle.wl_rules.proofs.FirstPlaces.{first_place-within, first_place-le}
 use Rattle.wl_sigs.proofs.Lookups.{found}
 use Rattle.std.specs.Option.{option_map_or}
 use Rattle.std.specs.Prelude.{option_map, unwrap_or, ◌==◌, not, ◌||◌}
-use Rattle.std.proofs.Math.Path.{fun_ext}
 use Rattle.std.proofs.lemmas.List.{length-map, map-append, map_more}
 use Rattle.std.proofs.lemmas.Option.{slice_get_within, slice_get-get_or, slice_get-map, slice_get_past}
 use Rattle.wl_wire.specs.declared.kind.Kind.TheVariants as kinds
@@ -27,7 +26,7 @@ use Rattle.wl_sigs.specs.Valid.{DestroyingEventsAreRaceFree, NamedInterfacesAreT
 use Rattle.wl_sigs.specs.Valid.{ArgumentEndsInFixesAlone, ServerMakesRightly, Valid, EachInterface}
 use Rattle.wl_sigs.specs.Valid.{EachMessage}
 use Rattle.wl_text.specs.Text.{WrittenMessage, WrittenInterface}
-use Rattle.wl_sigs.specs.Joined.{all_names, first_place, kind_placed, destroys_of, interface_placed, joined}
+use Rattle.wl_sigs.specs.Joined.{all_names, first_place, kind_placed, destroys_of, joined}
 use Rattle.wl_sigs.specs.Broken.{is_first, ended_of, first_broken}
 use Rattle.wl_sigs.proofs.RulesDecide.{decides_name}
 use Rattle.wl_rules.proofs.FirstBrokenLine.{each_interface_keeps}
@@ -498,12 +497,6 @@ places_fit tables written few place are =
         omega (arith, few, within, length_names tables written)
 
 -- the joined tables, made with places that are looked up
-pub joined_by : (tables : List Interface) (written : List WrittenInterface) (place : List ℕ → Option ℕ)
-    → ((name : List ℕ) → place name ≡ first_place (all_names tables written) name)
-    → tables ++ map (interface_placed place (length tables + length written)) written ≡ joined tables written
-joined_by tables written place are = rw (fun_ext are, ← length_names tables written) refl
-
--- the step of a loop that appends interfaces
 pub placed_more : (f : WrittenInterface → Interface) (tables : List Interface) (written : List WrittenInterface) (k : ℕ)
     (w : WrittenInterface) → k < length written → w ≡ get_or written k w
     → (tables ++ map f (take k written)) ++ f w ∷ [] ≡ tables ++ map f (take (k + 1) written)

@@ -2,6 +2,7 @@
 use Rattle.std.proofs.Common.{◌≡◌, ℕ, ◌+◌, true, false, List, map, refl, Some, None, Option, Bool}
 use Rattle.std.proofs.Common.{nat_le, nat_lt, length, slice_get, not, cond, ◌&&◌, arith}
 use Rattle.std.specs.List.{list_all, count_by}
+use Rattle.std.proofs.lemmas.Bool.{and_parts}
 use Rattle.wl_sigs.specs.Side.{Side}
 use Rattle.wl_sigs.specs.Side.TheVariants.{Request, Event}
 use Rattle.wl_sigs.specs.Rules.{is_name}
@@ -13,11 +14,6 @@ use Rattle.wl_sigs.specs.Broken.{broken_at, side_broken, interface_broken, makes
 use Rattle.wl_sigs.specs.Broken.{most_by_server, makes_forbidden}
 use Rattle.wl_sigs.specs.FirstBroken.{written_of}
 use Rattle.wl_rules.proofs.FirstBrokenLine.{earlier_none, each_message_keeps}
-
-both : (a b : Bool) → a && b ≡ true → (a ≡ true) × (b ≡ true)
-both true true e = (refl, refl)
-both true false e = cc e
-both false b e = cc e
 
 -- a test passes if neither it nor any test after it finds a broken rule
 unless : (t : Bool) (r : ℕ) (rest : Option ℕ) → cond (not t) (Some r) rest ≡ None → (t ≡ true) × (rest ≡ None)
@@ -40,7 +36,7 @@ interface_kept place here i none =
     let a = unless (is_name i.name && is_first place i.name here) 1 _ none in
     let b = unless (nat_lt here 1024) 3 _ a.1 in
     let d = unless (nat_le 1 i.version) 8 None b.1 in
-    let names = both (is_name i.name) (is_first place i.name here) a.0 in
+    let names = and_parts (is_name i.name) (is_first place i.name here) a.0 in
     record { named = names.0; first = names.1; small = b.0; version = d.0 }
 
 pub record MessageKeeps (place : List ℕ → Option ℕ) (ended : List Bool) (i : WrittenInterface) (side : Side)
@@ -73,10 +69,10 @@ message_kept place ended i side first opcode m none =
     let r9 = unless (list_all (λ k. not (names_missing place k)) m.kinds) 9 _ r8.1 in
     let r11 = unless (nat_le (count_by makes_server_object m.kinds) (most_by_server side)
     && list_all (λ k. not (makes_forbidden place ended k)) m.kinds) 11 None r9.1 in
-    let names = both (is_name m.name) (is_first first m.name opcode) r1.0 in
-    let sizes = both (nat_lt opcode 256) (nat_le (length m.kinds) 20) r3.0 in
-    let sinces = both (nat_le 1 m.since) (nat_le m.since i.version) r8.0 in
-    let by_server = both (nat_le (count_by makes_server_object m.kinds) (most_by_server side))
+    let names = and_parts (is_name m.name) (is_first first m.name opcode) r1.0 in
+    let sizes = and_parts (nat_lt opcode 256) (nat_le (length m.kinds) 20) r3.0 in
+    let sinces = and_parts (nat_le 1 m.since) (nat_le m.since i.version) r8.0 in
+    let by_server = and_parts (nat_le (count_by makes_server_object m.kinds) (most_by_server side))
     (list_all (λ k. not (makes_forbidden place ended k)) m.kinds) r11.0 in
     record {
       named = names.0;

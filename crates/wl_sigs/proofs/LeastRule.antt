@@ -15,14 +15,6 @@ pub record IsLeastRule (P : ℕ → Type 0) (o : Option ℕ) : Type 0 where
   pub least : (rule : ℕ) → o ≡ Some rule → (other : ℕ) → P other → rule ≤ other
   pub none : o ≡ None → (rule : ℕ) → P rule → ⊥
 
-pub like_rule : (P Q : ℕ → Type 0) → ((rule : ℕ) → P rule → Q rule) → ((rule : ℕ) → Q rule → P rule)
-    → (o : Option ℕ) → IsLeastRule P o → IsLeastRule Q o
-like_rule P Q to from o answer = record {
-  found = λ rule e. to rule (answer.found rule e);
-  least = λ rule e other q. answer.least rule e other (from other q);
-  none = λ e rule q. answer.none e rule (from rule q);
-}
-
 -- a rule is found if one is broken
 pub some_rule : (P : ℕ → Type 0) (o : Option ℕ) → IsLeastRule P o → (rule : ℕ) → P rule
     → (first : ℕ) × (o ≡ Some first) × (first ≤ rule)

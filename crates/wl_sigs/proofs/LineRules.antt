@@ -6,6 +6,7 @@ use Rattle.std.specs.Prelude.{option_map, unwrap_or, is_some}
 use Rattle.std.specs.List.{All, Contains, list_all}
 use Rattle.std.specs.Option.{option_map_or}
 use Rattle.std.proofs.lemmas.Option.{slice_get-map, slice_get_within, get_or_from_slice_get}
+use Rattle.std.proofs.lemmas.Bool.{not-false, false_from_ne_true}
 use Rattle.wl_wire.specs.declared.kind.Kind.{Kind}
 use Rattle.wl_wire.specs.declared.kind.Kind.TheVariants as kinds
 use Rattle.wl_wire.specs.declared.kind.Iface.{Iface}
@@ -41,24 +42,9 @@ fails_at {X} test (x ∷ xs) e = here (test x) refl e (λ rest. fails_at test xs
     here false is e rest = (0, x, refl, is)
     here true is e rest = let r = rest e in (suc r.0, r.1, r.2, r.3)
 
-was_true : (t : Bool) → not t ≡ false → t ≡ true
-was_true true e = refl
-was_true false e = cc e
-
-pub fails_unless : (t : Bool) → ¬ (t ≡ true) → t ≡ false
-fails_unless true never = absurd (never refl)
-fails_unless false never = refl
-
 pub either_fails : (a b : Bool) → a && b ≡ false → (a ≡ false) ⊎ ((a ≡ true) × (b ≡ false))
 either_fails true b e = inr (refl, e)
 either_fails false b e = inl refl
-
-pub left_fails : (a b : Bool) → a ≡ false → a && b ≡ false
-left_fails a b e = rw e refl
-
-pub right_fails : (a b : Bool) → b ≡ false → a && b ≡ false
-right_fails true b e = e
-right_fails false b e = refl
 
 -- a written kind that passes the test, and the kind that it becomes
 pub record SomeKind (test : WrittenKind → Bool) (f : WrittenKind → Kind) (ks : List WrittenKind) : Type 0 where
@@ -72,7 +58,7 @@ some_kind test f ks fails =
     let witness = fails_at (λ k. not (test k)) ks fails in
     record {
       kind = witness.1;
-      passes = was_true (test witness.1) witness.3;
+      passes = not-false (test witness.1) witness.3;
       there = contains (map f ks) witness.0 (f witness.1) (slice_get-map f ks witness.0 ∙ ap (option_map f) witness.2);
     }
 
@@ -81,7 +67,7 @@ pub kinds_fail : (test : WrittenKind → Bool) (f : WrittenKind → Kind) (P : K
     → ((k : WrittenKind) → not (test k) ≡ true → P (f k)) → (ks : List WrittenKind) (kind : Kind)
     → Contains (map f ks) kind → ¬ P kind → list_all (λ k. not (test k)) ks ≡ false
 kinds_fail test f P each ks kind at never =
-    fails_unless (list_all (λ k. not (test k)) ks)
+    false_from_ne_true (list_all (λ k. not (test k)) ks)
     (λ all. never (all_contain P (map f ks) kind (all_placed (λ k. not (test k)) f P each ks all) at))
 
 -- V5

@@ -7,6 +7,7 @@ use Rattle.std.specs.List.{All, list_all, count_by}
 use Rattle.std.specs.Option.{option_map_or}
 use Rattle.std.proofs.lemmas.List.Elements.{All-cons, All-nil}
 use Rattle.std.proofs.lemmas.List.Sums.{sum_by-cons}
+use Rattle.std.proofs.lemmas.Bool.{and_parts}
 use Rattle.wl_wire.specs.declared.kind.Kind.{Kind}
 use Rattle.wl_wire.specs.declared.kind.Kind.TheVariants as kinds
 use Rattle.wl_wire.specs.declared.kind.Iface.{Iface}
@@ -26,13 +27,8 @@ pub all_placed : (test : WrittenKind → Bool) (f : WrittenKind → Kind) (P : K
     → list_all test ks ≡ true → All P (map f ks)
 all_placed test f P each [] all = All-nil P
 all_placed test f P each (k ∷ ks) all =
-    let b = both (test k) (list_all test ks) all in
+    let b = and_parts (test k) (list_all test ks) all in
     All-cons P (f k) (map f ks) (each k b.0) (all_placed test f P each ks b.1)
-  where
-    both : (a b : Bool) → a && b ≡ true → (a ≡ true) × (b ≡ true)
-    both true true e = (refl, refl)
-    both true false e = cc e
-    both false b e = cc e
 
 -- the number of new objects stays the same
 counted : (place : List ℕ → Option ℕ) (past : ℕ) (kind : BareKind) (iface : Option (List ℕ)) (more : List Kind) (n : ℕ)

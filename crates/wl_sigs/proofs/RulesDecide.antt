@@ -5,6 +5,7 @@ use Rattle.std.proofs.Common.{slice_get, Option, Some, None}
 use Rattle.std.specs.List.{All, list_all}
 use Rattle.std.specs.Bool.{Decides}
 use Rattle.std.proofs.lemmas.Bool.Decides.{Decides-like, Decides-and, Decides-or, Decides-eqb, Decides-ltb}
+use Rattle.std.proofs.lemmas.Bool.{not-true, not_from_false}
 use Rattle.wl_wire.specs.declared.kind.Kind.{Kind}
 use Rattle.wl_wire.specs.declared.kind.Kind.TheVariants as kinds
 use Rattle.wl_wire.specs.declared.kind.Iface.{Iface}
@@ -233,24 +234,16 @@ abbrev NotEnded : List Interface → Kind → Type 0
 NotEnded tables k = (null : Bool) (iface : Iface) (i : Interface) → k ≡ kinds.Obj null (Some iface)
     → interface_at tables iface.0 ≡ Some i → has_destroying_event i ≡ false
 
-not_false : (b : Bool) → not b ≡ true → b ≡ false
-not_false true h = cc
-not_false false h = refl
-
-false_not : (b : Bool) → b ≡ false → not b ≡ true
-false_not true h = cc
-false_not false h = refl
-
 ended_from : (o : Option Interface) → not (test.is_ended_by_event o) ≡ true → (i : Interface) → o ≡ Some i
     → has_destroying_event i ≡ false
 ended_from None h i e = cc
 ended_from (Some j) h i e = let same : j ≡ i = cc
-    in subst (λ x. has_destroying_event x ≡ false) same (not_false (has_destroying_event j) h)
+    in subst (λ x. has_destroying_event x ≡ false) same (not-true (has_destroying_event j) h)
 
 ended_to : (o : Option Interface) → ((i : Interface) → o ≡ Some i → has_destroying_event i ≡ false)
     → not (test.is_ended_by_event o) ≡ true
 ended_to None all = refl
-ended_to (Some i) all = false_not (has_destroying_event i) (all i refl)
+ended_to (Some i) all = not_from_false (has_destroying_event i) (all i refl)
 
 object_ended : (tables : List Interface) (null : Bool) (iface : Iface)
     → not (test.is_ended_by_event (interface_at tables iface.0)) ≡ true → NotEnded tables (kinds.Obj null (Some iface))

@@ -8,6 +8,7 @@ use Rattle.std.specs.List.{All, list_all, count_by}
 use Rattle.std.specs.Option.{option_map_or}
 use Rattle.std.proofs.lemmas.Bool.Decides.{Decides-like, Decides-and, Decides-or, Decides-eqb}
 use Rattle.std.proofs.lemmas.List.Sums.{sum_by-cons}
+use Rattle.std.proofs.lemmas.Bool.{or_cases, false_from_ne_true}
 use Rattle.wl_wire.specs.declared.kind.Kind.{Kind}
 use Rattle.wl_wire.specs.declared.kind.Kind.TheVariants as kinds
 use Rattle.wl_wire.specs.declared.kind.Iface.{Iface}
@@ -26,10 +27,6 @@ use Rattle.wl_sigs.proofs.TestsDecide.{Decides-message}
 
 -- ---- tests of tables
 
-not_so : (t : Bool) → ¬ (t ≡ true) → t ≡ false
-not_so true never = absurd (never refl)
-not_so false never = refl
-
 neither : (a b : Bool) → not (a || b) ≡ true → (a ≡ false) × (b ≡ false)
 neither true b e = cc e
 neither false true e = cc e
@@ -37,10 +34,6 @@ neither false false e = (refl, refl)
 
 not_either : (a b : Bool) → a ≡ false → b ≡ false → not (a || b) ≡ true
 not_either a b first other = rw (first, other) refl
-
-either : (a b : Bool) → a || b ≡ true → (a ≡ true) ⊎ (b ≡ true)
-either true b e = inl refl
-either false b e = inr e
 
 decides_fixed : (place : ℕ) → Decides (is_fixed_place place) (IsFixedPlace place)
 decides_fixed place =
@@ -52,7 +45,7 @@ not_fixed : (place : ℕ) → is_fixed_place place ≡ false → ¬ IsFixedPlace
 not_fixed place never fixed = let yes = (decides_fixed place).1 fixed in let e : false ≡ true = sym never ∙ yes in cc e
 
 none_fixed : (place : ℕ) → ¬ IsFixedPlace place → is_fixed_place place ≡ false
-none_fixed place never = not_so (is_fixed_place place) (λ t. never ((decides_fixed place).0 t))
+none_fixed place never = false_from_ne_true (is_fixed_place place) (λ t. never ((decides_fixed place).0 t))
 
 -- the server may make objects of the interface at this place
 abbrev IsMakeable : ℕ → Interface → Type 0
@@ -268,7 +261,7 @@ wrongly_made tables place past ended ends there bare.NewByServer (Some name) t =
     by_place : (o : Option ℕ) → place name ≡ o → is_forbidden ended o ≡ true
         → IsWronglyMade tables (kinds.NewByServer (iface_named place past name))
     by_place None named t = cc t
-    by_place (Some p) named t = elim (either (is_fixed_place p) (is_ended ended (Some p)) t) [
+    by_place (Some p) named t = elim (or_cases (is_fixed_place p) (is_ended ended (Some p)) t) [
       | inl fixed ↦
           let witness = there name p named in
           let place_is : p ≡ unwrap_or (place name) past = rw named refl in

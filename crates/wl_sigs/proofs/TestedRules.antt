@@ -1,10 +1,10 @@
 -- A test of a line fails if and only if the line breaks the rule of the test.
-use Rattle.std.proofs.Common.{◌≡◌, ◌≢◌, ℕ, zero, suc, ◌+◌, ◌<◌, ◌≤◌, inl, inr, true, false, List}
-use Rattle.std.proofs.Common.{[], ◌∷◌, length, map, refl, sym, ap, ◌∙◌, subst, Some, None, Option}
-use Rattle.std.proofs.Common.{Bool, slice_get, not, nat_le, nat_lt, ◌&&◌, ◌||◌, arith}
+use Rattle.std.proofs.Common.{◌≡◌, ◌≢◌, ℕ, zero, suc, ◌+◌, ◌<◌, inl, inr, true, false, List, [], ◌∷◌, length, map, refl}
+use Rattle.std.proofs.Common.{sym, ap, ◌∙◌, subst, Some, None, Option, Bool, slice_get, not, nat_le, nat_lt, ◌&&◌, ◌||◌}
+use Rattle.std.proofs.Common.{arith}
 use Rattle.std.specs.Prelude.{option_map}
 use Rattle.std.specs.List.{Contains, list_all, count_by}
-use Rattle.std.proofs.lemmas.Bool.{leb-true, leb-false, ltb-false}
+use Rattle.std.proofs.lemmas.Bool.{leb-true, leb-false, ltb-false, false_from_ne_true, and_left, and_right}
 use Rattle.std.proofs.lemmas.List.{length-map}
 use Rattle.std.proofs.lemmas.Option.{slice_get-map, slice_get_past}
 use Rattle.wl_wire.specs.declared.kind.Kind.{Kind}
@@ -39,7 +39,7 @@ use Rattle.wl_sigs.proofs.ValidKeeps.{placed_at, ended_is, name_there}
 use Rattle.wl_sigs.proofs.ServerObjects.{MadeRightly, count_by_server, made_rightly, wrongly_made}
 use Rattle.wl_sigs.proofs.PlacedKinds.{count_placed, not_unnamed, not_any, there, NotEndedIn, not_ended}
 use Rattle.wl_rules.proofs.Extensions.{not_lt}
-use Rattle.wl_sigs.proofs.LineRules.{fails_unless, either_fails, left_fails, right_fails, some_kind}
+use Rattle.wl_sigs.proofs.LineRules.{either_fails, some_kind}
 use Rattle.wl_sigs.proofs.LineRules.{kinds_fail, unnamed_is, any_is, ended_named, missing_named}
 use Rattle.wl_sigs.proofs.LineRules.{earlier_name, not_first}
 use Rattle.wl_sigs.proofs.FirstLine.{Tested, tested, interface_tests, message_tests, Breaks}
@@ -80,10 +80,10 @@ not_name : (name : List ℕ) → is_name name ≡ false → ¬ IsTableName name
 not_name name fails is = let passes = (decides_name name).1 is in let no : false ≡ true = sym fails ∙ passes in cc no
 
 no_name : (name : List ℕ) → ¬ IsTableName name → is_name name ≡ false
-no_name name never = fails_unless (is_name name) (λ passes. never ((decides_name name).0 passes))
+no_name name never = false_from_ne_true (is_name name) (λ passes. never ((decides_name name).0 passes))
 
 not_le : (a b : ℕ) → b < a → nat_le a b ≡ false
-not_le a b lt = fails_unless (nat_le a b) (λ t. let le = leb-true a b t in omega (arith, lt, le))
+not_le a b lt = false_from_ne_true (nat_le a b) (λ t. let le = leb-true a b t in omega (arith, lt, le))
 
 -- an interface
 
@@ -132,9 +132,9 @@ interface_says tables written k w at = record {
 
     back : (rule : ℕ) → InterfaceBroken tables written k w rule → Breaks tests rule
     back rule (interface_misnamed is never) = failing_at tests 0 1 rule _ refl is
-        (left_fails (is_name w.name) (is_first (first_place names) w.name here) (no_name w.name never))
+        (and_left (is_name w.name) (is_first (first_place names) w.name here) (no_name w.name never))
     back rule (interface_named_again earlier j is lt found same) =
-        failing_at tests 0 1 rule _ refl is (right_fails (is_name w.name) (is_first (first_place names) w.name here)
+        failing_at tests 0 1 rule _ refl is (and_right (is_name w.name) (is_first (first_place names) w.name here)
         (not_first names w.name here earlier lt (name_at tables written earlier j found ∙ ap Some same)))
     back rule (interface_beyond is le) = failing_at tests 1 3 rule _ refl is (not_lt here 1024 le)
     back rule (version_below_one is lt) = failing_at tests 2 8 rule _ refl is (not_le 1 w.version lt)
@@ -358,14 +358,14 @@ message_says tables written w side o m of = record {
     many_back : (rule most : ℕ) → rule ≡ 11 → most_by_server side ≡ most → most < length (server_objects (map kind_of m.kinds))
         → Breaks tests rule
     many_back rule most is at_most lt =
-        failing_at tests 8 11 rule _ refl is (left_fails (nat_le (count_by makes_server_object m.kinds)
+        failing_at tests 8 11 rule _ refl is (and_left (nat_le (count_by makes_server_object m.kinds)
         (most_by_server side)) (list_all (λ k. not (makes_forbidden place ended k)) m.kinds)
         (not_le (count_by makes_server_object m.kinds) (most_by_server side) (omega (arith, lt, by_server, at_most))))
 
     forbidden_back : (rule : ℕ) (iface : Iface) → rule ≡ 11 → Contains (map kind_of m.kinds) (kinds.NewByServer iface)
         → ¬ MadeRightly all (kinds.NewByServer iface) → Breaks tests rule
     forbidden_back rule iface is there never =
-        failing_at tests 8 11 rule _ refl is (right_fails (nat_le (count_by makes_server_object m.kinds)
+        failing_at tests 8 11 rule _ refl is (and_right (nat_le (count_by makes_server_object m.kinds)
         (most_by_server side)) (list_all (λ k. not (makes_forbidden place ended k)) m.kinds)
         (kinds_fail (makes_forbidden place ended) kind_of (MadeRightly all)
         (λ x t. made_rightly all place past ended (ended_at tables written) beyond x.kind x.iface t) m.kinds
@@ -380,19 +380,19 @@ message_says tables written w side o m of = record {
     back rule (server_object_of_fixed iface j is there found fixed) =
         forbidden_back rule iface is there (λ right. (right iface j refl found).1 fixed)
     back rule (message_misnamed is never) =
-        failing_at tests 0 1 rule _ refl is (left_fails (is_name m.name) (is_first (first_place own_names) m.name o)
+        failing_at tests 0 1 rule _ refl is (and_left (is_name m.name) (is_first (first_place own_names) m.name o)
         (no_name m.name never))
     back rule (message_named_again earlier n is lt found same) =
         let listed : slice_get (map (placing_message tables written) (written_of side w)) earlier ≡ Some n =
         subst (λ ms. slice_get ms earlier ≡ Some n) (placed_messages tables written side w) found in
         let x = mapped_at (placing_message tables written) (written_of side w) earlier n listed in
         let named : x.0.name ≡ m.name = ap (λ (y : MessageSignature). y.name) x.2 ∙ same in
-        failing_at tests 0 1 rule _ refl is (right_fails (is_name m.name) (is_first (first_place own_names) m.name o)
+        failing_at tests 0 1 rule _ refl is (and_right (is_name m.name) (is_first (first_place own_names) m.name o)
         (not_first own_names m.name o earlier lt (own_name earlier x.0 x.1 ∙ ap Some named)))
     back rule (message_beyond is le) =
-        failing_at tests 1 3 rule _ refl is (left_fails (nat_lt o 256) (nat_le (length m.kinds) 20) (not_lt o 256 le))
+        failing_at tests 1 3 rule _ refl is (and_left (nat_lt o 256) (nat_le (length m.kinds) 20) (not_lt o 256 le))
     back rule (too_many_arguments is lt) =
-        failing_at tests 1 3 rule _ refl is (right_fails (nat_lt o 256) (nat_le (length m.kinds) 20)
+        failing_at tests 1 3 rule _ refl is (and_right (nat_lt o 256) (nat_le (length m.kinds) 20)
         (not_le (length m.kinds) 20 (let len = length-map m.kinds kind_of in omega (arith, lt, len))))
     back rule (event_makes is event lt) =
         failing_at tests 2 4 rule _ refl is (few_fails side (count_by makes_object m.kinds) 0 (ap most_new event)
@@ -420,10 +420,10 @@ message_says tables written w side o m of = record {
         (kinds.Obj null (Some iface)) there
         (λ never. let no : true ≡ false = sym ends ∙ never null iface j refl found in cc no)))
     back rule (since_below_one is lt) =
-        failing_at tests 6 8 rule _ refl is (left_fails (nat_le 1 m.since) (nat_le m.since w.version)
+        failing_at tests 6 8 rule _ refl is (and_left (nat_le 1 m.since) (nat_le m.since w.version)
         (not_le 1 m.since lt))
     back rule (since_above_version is lt) =
-        failing_at tests 6 8 rule _ refl is (right_fails (nat_le 1 m.since) (nat_le m.since w.version)
+        failing_at tests 6 8 rule _ refl is (and_right (nat_le 1 m.since) (nat_le m.since w.version)
         (not_le m.since w.version lt))
     back rule (interface_missing kind iface is there_is named le) =
         failing_at tests 7 9 rule _ refl is

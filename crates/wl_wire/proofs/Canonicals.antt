@@ -13,10 +13,9 @@ use Rattle.wl_wire.specs.declared.kind.ArgFault.{ArgFault}
 use Rattle.wl_wire.specs.declared.header.Header.{Header}
 use Rattle.wl_wire.specs.Word.{word, int_word, complement, header_bytes, header_at, IsHeader}
 use Rattle.wl_wire.specs.Argument.{Argument, Int, Uint, Fixed, Str, Obj, New, NewNamed, Array, Fd}
-use Rattle.wl_wire.specs.Spelling.{Spells, SpellsText, IsText, padded, zeros, text_bytes, canonical}
-use Rattle.wl_wire.specs.Spelling.{spelled_len, Suits, Fits, is_int, is_uint, is_fixed, is_null}
-use Rattle.wl_wire.specs.Spelling.{is_text, is_object, is_new, is_named, is_array, is_descriptor}
-use Rattle.wl_wire.specs.Spelling.{is_new_by_server}
+use Rattle.wl_wire.specs.Spelling.{Spells, SpellsText, IsText, padded, zeros, text_bytes, canonical, spelled_len, Suits}
+use Rattle.wl_wire.specs.Spelling.{is_int, is_uint, is_fixed, is_null, is_text, is_object, is_new, is_named, is_array}
+use Rattle.wl_wire.specs.Spelling.{is_descriptor, is_new_by_server}
 use Rattle.wl_wire.specs.Reading.{reading, number_at, signed}
 use Rattle.wl_wire.proofs.Numbers.{Bytewise, word-number_at, number_at-word, complement_fits, signed-complement}
 use Rattle.wl_wire.proofs.Fronts.{reading-spelled, text_front}
@@ -187,18 +186,3 @@ canonical-len (NewNamed iface version id) = let l = counted_len iface (length if
     )
 canonical-len (Array bytes) = counted_len bytes (length bytes) (omega arith)
 canonical-len (Fd tt) = refl
-
--- a value that suits a kind fits
-pub suits-fits : (kind : Kind) (value : Argument) → Suits kind value → Fits value
-suits-fits kinds.Int (Int z) h = tt
-suits-fits kinds.Uint (Uint n) h = tt
-suits-fits kinds.Fixed (Fixed z) h = tt
-suits-fits (kinds.Str null) (Str None) h = tt
-suits-fits (kinds.Str null) (Str (Some text)) h = h
-suits-fits (kinds.Obj null iface) (Obj id) h = tt
-suits-fits (kinds.New (Some iface)) (New id) h = tt
-suits-fits (kinds.New None) (NewNamed iface version id) h = h.0
-suits-fits (kinds.NewByServer iface) (New id) h = tt
-suits-fits kinds.Array (Array bytes) h = h
-suits-fits kinds.Fd (Fd x) h = tt
-suits-fits _ _ h = absurd h

@@ -1,15 +1,15 @@
 -- A search for a byte 0 in parts of a text, and in lanes of a vector.
-use Rattle.std.proofs.Common.{◌≡◌, ℕ, ◌+◌, ◌*◌, ◌-◌, ◌^◌, not, cond, nat_eq, ltb, ltb-true}
-use Rattle.std.proofs.Common.{ltb-false, w8, map, ◌<◌, ◌≤◌, List, [], ◌∷◌, ◌++◌, Bool, true, false}
-use Rattle.std.proofs.Common.{◌||◌, length, take, drop, refl, sym, ap, ◌∙◌, arith}
+use Rattle.std.proofs.Common.{◌≡◌, ℕ, ◌+◌, ◌*◌, ◌-◌, ◌^◌, not, cond, nat_eq, ltb, ltb-true, ltb-false, w8, map, ◌<◌}
+use Rattle.std.proofs.Common.{◌≤◌, List, [], ◌∷◌, Bool, true, false, ◌||◌, length, take, drop, refl, sym, ap, ◌∙◌}
+use Rattle.std.proofs.Common.{arith}
 use Rattle.std.proofs.lemmas.Bool.Decides.{nat_tests}
-use Rattle.std.proofs.lemmas.Grind.{common_steps}
 use Rattle.std.proofs.lemmas.List.{take-append-drop, drop-drop, length-drop, take_all}
 use Rattle.std.proofs.lemmas.List.Folds.{list_any-append}
 use Rattle.std.proofs.Math.Seq.{take-add}
 use Rattle.std.specs.Prelude.{◌==◌}
 use Rattle.std.specs.List.{list_any}
 use Rattle.std.proofs.lemmas.Simd.{tops_compared, length-sel_l, length-zip2}
+use Rattle.std.proofs.lemmas.Bool.{or_right, or_left, or_parts}
 use lib.Lanes.{zip2, mask_l, sel_l, top}
 use Rattle.wl_wire.specs.Spelling.{has_nul}
 
@@ -17,26 +17,14 @@ or_false_left : (a b : Bool) → a ≡ false → (a || b) ≡ b
 or_false_left true b e = absurd (cc)
 or_false_left false b e = refl
 
-or_true_right : (a b : Bool) → b ≡ true → (a || b) ≡ true
-or_true_right true b e = refl
-or_true_right false b e = e
-
-or_true_left : (a b : Bool) → a ≡ true → (a || b) ≡ true
-or_true_left true b e = refl
-or_true_left false b e = absurd (cc)
-
-or_parts : (a b : Bool) → (a || b) ≡ false → a ≡ false
-or_parts true b e = absurd (cc)
-or_parts false b e = refl
-
 nul_split : (n : ℕ) (xs : List ℕ) → has_nul xs ≡ (has_nul (take n xs) || has_nul (drop n xs))
 nul_split n xs = ap has_nul (sym (take-append-drop n xs)) ∙ list_any-append (λ b. b == 0) (take n xs) (drop n xs)
 
 -- a byte 0 in a part is one in the whole text
 pub nul_found : (text : List ℕ) (at n : ℕ) → has_nul (take n (drop at text)) ≡ true → has_nul text ≡ true
 nul_found text at n e =
-    nul_split at text ∙ or_true_right (has_nul (take at text)) (has_nul (drop at text))
-    (nul_split n (drop at text) ∙ or_true_left (has_nul (take n (drop at text)))
+    nul_split at text ∙ or_right (has_nul (take at text)) (has_nul (drop at text))
+    (nul_split n (drop at text) ∙ or_left (has_nul (take n (drop at text)))
     (has_nul (drop n (drop at text))) e)
 
 -- no byte is 0 before `at`, nor in the next n bytes
@@ -52,10 +40,10 @@ pub nul_last : (text : List ℕ) (at last n : ℕ) → last ≤ at → last + n 
 nul_last text at last n low size before =
     let sum : last + (at - last) ≡ at = omega arith in
     let front : has_nul (take last text) ≡ false =
-    or_parts (has_nul (take last text)) (has_nul (take (at - last) (drop last text))) (
+    (or_parts (has_nul (take last text)) (has_nul (take (at - last) (drop last text))) (
     sym (list_any-append (λ b. b == 0) (take last text) (take (at - last) (drop last text)))
     ∙ ap has_nul (sym (take-add last (at - last) text)) ∙ ap (λ m. has_nul (take m text)) sum ∙ before
-    ) in
+    )).0 in
     ap has_nul (take_all n (drop last text) (omega (arith, length-drop last text)))
     ∙ sym (nul_split last text ∙ or_false_left (has_nul (take last text)) (has_nul (drop last text)) front)
 

@@ -67,10 +67,6 @@ pub signed_fits : (n : ℕ) → n < 2 ^ 32 → FitsSigned w32 (signed n)
 signed_fits n f = cond_both (nat_lt n (2 ^ 31)) (pos n) (negsuc (2 ^ 32 - 1 - n)) (λ z. FitsSigned w32 z)
     (λ e. let h = ltb-true n (2 ^ 31) e in omega arith) (λ e. let h = ltb-false n (2 ^ 31) e in omega arith)
 
-pub number_at-int_word : (z : ℤ) (rest : List ℕ) → FitsSigned w32 z → signed (number_at (int_word z ++ rest)) ≡ z
-number_at-int_word z rest f = ap signed (number_at-word (complement z) rest (complement_fits z f))
-    ∙ signed-complement z f
-
 pub int_word-signed : (bytes : List ℕ) → 4 ≤ length bytes → Bytewise bytes
     → take 4 bytes ≡ int_word (signed (number_at bytes))
 int_word-signed bytes h f = word-number_at bytes h f

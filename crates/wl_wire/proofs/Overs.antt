@@ -1,11 +1,11 @@
 -- Values written over the front of bytes.
-use Rattle.std.proofs.Common.{◌≡◌, ℕ, zero, suc, ◌+◌, ◌-◌, ◌≤◌, List, [], ◌∷◌, ◌++◌, length, take}
-use Rattle.std.proofs.Common.{drop, refl, sym, ap, ◌∙◌, arith, append_assoc}
+use Rattle.std.proofs.Common.{◌≡◌, ℕ, zero, suc, ◌+◌, ◌-◌, ◌≤◌, List, ◌++◌, length, take, drop, refl, sym, ap, ◌∙◌}
+use Rattle.std.proofs.Common.{arith, append_assoc}
 use Rattle.std.proofs.lemmas.List.{append-nil, length-append, drop_all, drop-drop, drop-append-le}
 use Rattle.std.proofs.lemmas.List.{length-drop, length-take-le, take_at, drop_at}
 use Rattle.std.proofs.Math.Seq.{drop-append-add}
 use borrow.Rule.Slice.PartMut.{put_mid}
-use Rattle.wl_wire.specs.Spelling.{padded, zeros, text_bytes}
+use Rattle.wl_wire.specs.Spelling.{padded, zeros}
 use Rattle.wl_wire.specs.Word.{word}
 
 zeros_behind : (j : ℕ) → j ≤ 4 → drop j (word 0) ≡ zeros (4 - j)

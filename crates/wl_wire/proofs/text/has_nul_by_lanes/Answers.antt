@@ -1,4 +1,4 @@
-use Rattle.std.proofs.Common.{◌≡◌, ◌-◌, length, sym, ap, ◌∙◌, arith}
+use Rattle.std.proofs.Common.{◌-◌, length, sym, ap, ◌∙◌, arith}
 use Rattle.wl_wire.specs.Spelling.{has_nul}
 use Rattle.wl_wire.proofs.Lanes.{nul_found, nul_next, nul_last}
 use Rattle.wl_wire.proofs.text.has_nul_by_lanes.Goals as goal

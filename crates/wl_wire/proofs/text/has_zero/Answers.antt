@@ -1,4 +1,4 @@
-use Rattle.std.proofs.Common.{◌≡◌, not, nat_eq, eqb, w8, ap, ◌∙◌, arith}
+use Rattle.std.proofs.Common.{not, nat_eq, eqb, w8, ap, ◌∙◌, arith}
 use Rattle.std.proofs.lemmas.Simd.{bitmask_splat}
 use Rattle.wl_wire.proofs.Lanes.{mask_any}
 use Rattle.wl_wire.proofs.text.has_zero.Goals as goal
