@@ -12,7 +12,7 @@ use Rattle.std.proofs.lemmas.Grind.{common_steps}
 abbrev pub parts : List ℕ → List (List ℕ)
 parts text = slice_split (λ b. b == 10) text
 
-onto_first_some : (b : ℕ) (ps : List (List ℕ)) → (first : List ℕ) × (more : List (List ℕ))
+pub onto_first_some : (b : ℕ) (ps : List (List ℕ)) → (first : List ℕ) × (more : List (List ℕ))
     × (onto_first b ps ≡ first ∷ more)
 onto_first_some b [] = (b ∷ [], [], refl)
 onto_first_some b (p ∷ ps) = (b ∷ p, ps, refl)

@@ -23,7 +23,7 @@ digits_are (c ∷ cs) all = elim (is_ascii_digit c) as
       | false ↦ λ digit more. absurd (cc more)
     ] refl all
 
-are_digits : (digits : List ℕ) → AllDigits 10 digits → list_all is_ascii_digit digits ≡ true
+pub are_digits : (digits : List ℕ) → AllDigits 10 digits → list_all is_ascii_digit digits ≡ true
 are_digits [] all = refl
 are_digits (c ∷ cs) all = rw (is_digit c all.0, are_digits cs all.1) refl
 

@@ -4,11 +4,10 @@ use Rattle.std.proofs.Common.{[], ◌∷◌, ◌++◌, length, get_or, take, dro
 use Rattle.std.proofs.Common.{subst, ◌∙◌, inl, inr, ◌⊎◌, Some, None, Option, append-nil, drop-cons}
 use Rattle.std.proofs.Common.{arith}
 use Rattle.std.specs.Prelude.{codes, ◌&&◌, not, bytes_eq, nat_le, position, unwrap_or, option_and_then}
-use Rattle.std.specs.Char.{digit_value, is_ascii_digit}
+use Rattle.std.specs.Char.{is_ascii_digit}
 use Rattle.std.specs.List.{All, list_all, position_or_len}
-use Rattle.std.specs.Str.Parse.{AllDigits}
 use Rattle.std.proofs.Math.Seq.{get_or-append_seam, take-append_seam, drop-append_seam, take-length, drop-length}
-use Rattle.std.proofs.lemmas.Bool.{ne_eqb, eqb-true}
+use Rattle.std.proofs.lemmas.Bool.{ne_eqb, eqb-true, and_parts}
 use Rattle.std.proofs.lemmas.Bool.Decides.{nat_tests, Decides-ltb}
 use Rattle.std.proofs.lemmas.Grind.{common_steps}
 use Rattle.std.proofs.lemmas.List.{take-append-drop, get_or_append_left}
@@ -16,7 +15,7 @@ use Rattle.std.proofs.lemmas.List.Quantifiers.{position-Some}
 use Rattle.std.proofs.lemmas.List.Sums.{position_or_len_is, AllPass-from_list_all, list_all-from_AllPass}
 use Rattle.std.proofs.lemmas.Slice.Eq.{bytes_eq-Decides}
 use Rattle.wl_text.specs.Number.{number_of}
-use Rattle.wl_text.proofs.Numbers.{number_is}
+use Rattle.wl_text.proofs.Numbers.{number_is, are_digits}
 use Rattle.wl_text.specs.declared.written.BareKind.{BareKind}
 use Rattle.wl_text.specs.declared.written.BareKind.TheVariants as bare
 use Rattle.wl_text.specs.Text.{WrittenKind, is_text_byte, is_text_name, kind_of}
@@ -25,10 +24,6 @@ use Rattle.wl_text.specs.TableText.{IsTextName, SpellsNumber, SpellsKind, int, u
 use Rattle.wl_text.specs.TableText.{string, null_string, array, descriptor, object}
 use Rattle.wl_text.specs.TableText.{null_object, new_id, new_by_server, SpellsArgument}
 use Rattle.wl_text.specs.TableText.{alone, named}
-
-both : (a b : Bool) → (a && b) ≡ true → (a ≡ true) × (b ≡ true)
-both true b is = (refl, is)
-both false b is = cc is
 
 -- names
 name_bytes : (byte : ℕ) → is_text_byte byte ≡ true → (byte ≢ 32) × (byte ≢ 40) × (byte ≢ 41)
@@ -40,7 +35,7 @@ name_bytes byte is = (
 
 pub name_is : (name : List ℕ) → is_text_name name ≡ true → IsTextName name
 name_is name is =
-    let parts = both (not (length name == 0)) (list_all is_text_byte name) is in
+    let parts = and_parts (not (length name == 0)) (list_all is_text_byte name) is in
     let all = AllPass-from_list_all is_text_byte name parts.1 in
     record {
       some = let some : not (length name == 0) ≡ true = parts.0 in grind (arith, nat_tests);
@@ -58,13 +53,6 @@ is_name name is =
     rw (here, all) refl
 
 -- numbers
-is_digit : (c : ℕ) → digit_value c < 10 → is_ascii_digit c ≡ true
-is_digit c small = grind (arith, nat_tests)
-
-are_digits : (digits : List ℕ) → AllDigits 10 digits → list_all is_ascii_digit digits ≡ true
-are_digits [] all = refl
-are_digits (c ∷ cs) all = rw (is_digit c all.0, are_digits cs all.1) refl
-
 few_digits : (digits : List ℕ) (n : ℕ) → number_of digits ≡ Some n → (length digits ≤ 10) × (n ≤ 4294967295)
 few_digits digits n is = elim (list_all is_ascii_digit digits) as
     (λ t. list_all is_ascii_digit digits ≡ t → (length digits ≤ 10) × (n ≤ 4294967295)) [
@@ -323,7 +311,7 @@ same_first : (a b : ℕ) (more others : List ℕ) → a ∷ more ≡ b ∷ other
 same_first a b more others same = cc
 
 letter_first : (b : ℕ) (more : List ℕ) → list_all is_letter (b ∷ more) ≡ true → is_letter b ≡ true
-letter_first b more all = (both (is_letter b) (list_all is_letter more) all).0
+letter_first b more all = (and_parts (is_letter b) (list_all is_letter more) all).0
 
 begins_otherwise : (a : ℕ) (rest letters more : List ℕ) → is_letter a ≡ false → a ≢ 40
     → list_all is_letter letters ≡ true → a ∷ rest ≡ letters ++ 40 ∷ more → ⊥

@@ -2,14 +2,10 @@
 use Rattle.std.proofs.Common.{◌≡◌, ℕ, Bool, ◌==◌, true, false, cond, List, [], ◌∷◌, ◌++◌, refl, ap, Some, None}
 use Rattle.std.specs.Prelude.{option_map}
 use Rattle.std.specs.List.{onto_first}
+use Rattle.wl_text.proofs.Cuts.{onto_first_some}
 use Rattle.wl_text.specs.Lines.{words}
 use Rattle.wl_text.specs.Text.{WrittenMessage, WrittenInterface, since_of, interface_of}
 use Rattle.wl_text.specs.Text.{with_written_message, message_added}
-
-onto_first_some : (b : ℕ) (ps : List (List ℕ)) → (first : List ℕ) × (more : List (List ℕ))
-    × (onto_first b ps ≡ first ∷ more)
-onto_first_some b [] = (b ∷ [], [], refl)
-onto_first_some b (p ∷ ps) = (b ∷ p, ps, refl)
 
 -- each line has at least one word
 pub words_some : (line : List ℕ) → (first : List ℕ) × (more : List (List ℕ)) × (words line ≡ first ∷ more)
