@@ -496,7 +496,7 @@ places_fit tables written few place are =
         let within = first_place-within (all_names tables written) name p is in
         omega (arith, few, within, length_names tables written)
 
--- the joined tables, made with places that are looked up
+-- the step of a loop that appends interfaces
 pub placed_more : (f : WrittenInterface → Interface) (tables : List Interface) (written : List WrittenInterface) (k : ℕ)
     (w : WrittenInterface) → k < length written → w ≡ get_or written k w
     → (tables ++ map f (take k written)) ++ f w ∷ [] ≡ tables ++ map f (take (k + 1) written)

@@ -3,6 +3,7 @@ use Rattle.std.specs.declared.result.Result.TheVariants.{Ok}
 use Rattle.wl_objects.specs.declared.error.Fault.TheVariants.{BadBind}
 use Rattle.wl_objects.specs.Seen.{received_of, received_in}
 use Rattle.wl_trace_line.specs.Line.{line}
+use Rattle.wl_check.specs.Changes.{side_of}
 use Rattle.wl_check.specs.Rules.{called, reader_by}
 use Rattle.wl_check.specs.Trace.{wanted}
 use Rattle.wl_check.specs.Seen.{call_of, known_in}
@@ -96,6 +97,6 @@ returns-clause-text g c =
     c.write.new.sink.text.items _
     (call_of c.args.frame.now.direction c.args.whole.now.header.opcode c.in-Ok.message) (c.in_ok-write.ensures.text
     ∙ (λ i. c.args.sink.now.text.items ++ wanted c.args.sink.now.output (line c.args.tables.now
-    (c.side_of-side.ensures i) (reader_by c.args.tables.now (known_in c.args.known.now)
+    (side_of c.args.frame.now.direction) (reader_by c.args.tables.now (known_in c.args.known.now)
     c.args.frame.now.direction).object
     (received_of c.in-Ok.message) (c.taken-taken.ensures i)))) is
