@@ -1,4 +1,5 @@
--- How an outbox stores its messages: their bytes and tokens joined, and boundaries that separate them.
+-- How an outbox stores its messages: their bytes and tokens joined, and boundaries that separate
+-- them.
 use Rattle.std.specs.Prelude.{◌≡◌, ℕ, ◌+◌, ◌-◌, ◌*◌, ◌/◌, ◌%◌, ◌≤◌, Bool, false, nat_lt, ◌==◌}
 use Rattle.std.specs.Prelude.{if◌then◌else◌, List, [], ◌∷◌, ◌++◌, length, take, drop}
 use Rattle.std.specs.List.{AllByRecursion}
@@ -54,8 +55,8 @@ outgoing h = record {
   error_to = h.error_to;
 }
 
--- the boundaries cover all bytes and tokens, the error event is among the bytes, and all other bytes are
--- within the capacity
+-- the boundaries cover all bytes and tokens, the error event is among the bytes, and all other
+-- bytes are within the capacity
 pub record IsKept (h : Kept) : Type 0 where
   pub bytes : h.left + lens h.boundaries ≡ length h.bytes
   pub tokens : token_counts h.boundaries ≡ length h.tokens
