@@ -8,8 +8,8 @@
  *  2. Connections.  An end, its socket, and for each object a dispatcher and the caller's data.
  *                   `dispatch` does what wl_display_dispatch does.
  *
- * Descriptors. Here a token is a descriptor of this process. A descriptor that is sent belongs to the end after
- * the call that sends it has returned WAYWIRE_OK, and is closed when the socket has taken it: to keep a
+ * Descriptors. Here a token is a descriptor of this process. Once the call that sends a descriptor has returned
+ * WAYWIRE_OK, the descriptor belongs to the end, which closes it when the socket has taken it: to keep a
  * descriptor, send a duplicate. A descriptor that came belongs to the callback that gets it. Every descriptor
  * that is made here is close-on-exec.
  *
@@ -103,7 +103,7 @@ ssize_t waywire_socket_send(int socket, const waywire_part parts[2], const int *
  * Returns -1 with errno: EAGAIN if nothing is there yet; ENOBUFS if `parts` have no room; EMFILE if
  * the process may open no more descriptors; EOVERFLOW if more than WAYWIRE_SOCKET_DESCRIPTORS came
  * at once; else as recvmsg. After EMFILE and EOVERFLOW bytes and descriptors are lost: close the
- * socket. With the option SO_PASSCRED there is room for fewer. */
+ * socket. With the option SO_PASSCRED there is room for fewer descriptors. */
 ssize_t waywire_socket_receive(int socket, const waywire_part parts[2],
 	int descriptors[WAYWIRE_SOCKET_DESCRIPTORS], size_t *count);
 
@@ -119,8 +119,8 @@ ssize_t waywire_socket_receive_up_to(int socket, const waywire_part parts[2], in
 int waywire_socket_flush(int socket, waywire_end *end);
 
 /* Receives once into an end's inbox; read all its messages before. Returns as waywire_socket_receive. ENOBUFS if
- * the inbox has no room for WAYWIRE_SOCKET_DESCRIPTORS tokens and a byte: the other end has sent descriptors that
- * belong to no message, or this end has failed. */
+ * the inbox has no room for WAYWIRE_SOCKET_DESCRIPTORS tokens and a byte. Then the other end has sent descriptors
+ * that belong to no message, or this end has failed. */
 ssize_t waywire_socket_fill(int socket, waywire_end *end);
 
 /* Closes a socket, and every descriptor that was not sent, or that came and was not reported. The
@@ -156,9 +156,9 @@ waywire_connection *waywire_connection_of_server(const waywire_tables *tables,
  * errno is kept. */
 void waywire_connection_close(waywire_connection *connection);
 
-/* The end of a connection; the second and third return it with its type, and a null `end` if it is
- * the other's. The caller may make any call of waywire.h with it but `next`, `set_user`, those that
- * move bytes, and `free`, which the connection makes. */
+/* The end of a connection. The second and third call return it with its type, or with a null `end`
+ * if it has the other type. The caller may make any call of waywire.h with it, except `next`,
+ * `set_user`, those that move bytes, and `free`: the connection makes these. */
 waywire_end *waywire_connection_end(const waywire_connection *connection);
 waywire_client waywire_connection_client(const waywire_connection *connection);
 waywire_server waywire_connection_server(const waywire_connection *connection);
@@ -182,8 +182,9 @@ void waywire_connection_set_limits(waywire_connection *connection, size_t object
  * stubs. It returns whether there was a callback for the report. If there was none, the descriptors
  * of the report are closed, and an object that the event made is destroyed: if nothing listens to
  * that object, and its interface has a destructor without arguments.
- * A callback may send, dispatch, and make any call below. What its pointers point to is valid until
- * then, as waywire_report says. `user` of the report is the object's data, `replaced_user` null. */
+ * A callback may send, dispatch, and make any call below. What its pointers point to is valid until a
+ * call that may change the end, as waywire_report says. In the report, `user` is the object's data,
+ * and `replaced_user` is null. */
 typedef bool waywire_dispatcher(const void *calls, void *data, const waywire_report *report);
 
 /* Calls `dispatch` for each message to an object, with `calls` and `data`, as wl_proxy_add_listener
@@ -224,7 +225,7 @@ void waywire_connection_forget(waywire_connection *connection, waywire_object ob
 
 /* Sends what waits, and calls the callbacks for all messages that were read. If there were none, it waits until
  * some come. A server announces its globals. Returns how many messages there were, or 0 after this many
- * milliseconds: -1 means no limit, and 0 not to wait.
+ * milliseconds: -1 means no limit, and 0 means not to wait.
  *
  * Returns -1 with errno. The connection continues after ENOMEM (there was no memory for a message, or in the
  * kernel), ENOBUFS and ETOOMANYREFS (the kernel had no room to send): nothing is lost, and the next call tries
@@ -240,14 +241,15 @@ int waywire_connection_dispatch(waywire_connection *connection, int milliseconds
  * waywire_connection_dispatch, and EINVAL at a server. */
 int waywire_connection_roundtrip(waywire_connection *connection, int milliseconds);
 
-/* Sends what waits until all of it has gone, for example after WAYWIRE_FULL. It reads nothing. Returns 0. Returns
+/* Sends what waits until all of it has gone, for example after WAYWIRE_FULL. It reads nothing. Returns 0, or
  * -1 with errno: EAGAIN after this many milliseconds (-1: no limit), else as waywire_connection_flush. */
 int waywire_connection_drain(waywire_connection *connection, int milliseconds);
 
 /* A loop of one's own polls this descriptor, for POLLIN if the connection wants_read, and for POLLOUT if it
  * wants_write. Before that it flushes, and afterwards it fills and dispatches what is pending; or it makes one
  * call for all of this, which does not wait: waywire_connection_dispatch(it, 0). If the connection wants neither,
- * messages wait for whose answers there was no room before the flush, or no memory: dispatch without waiting. */
+ * some messages still wait, because there was no memory, or no room for their answers before the flush: dispatch
+ * without waiting. */
 int waywire_connection_fd(const waywire_connection *connection);
 
 /* Whether bytes wait to be sent. */

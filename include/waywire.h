@@ -27,8 +27,8 @@
  * inspector, which writes a line for each message and says whether the session breaks a rule.
  *
  * Objects.  The client makes objects with ids from 1 on. If the tables have events by which the server makes
- * objects, these have ids from 0xff000000 on. Births count from 0 in the client's range and from 1 in the
- * server's: only id and birth together identify an object. An object of one connection may equal one of
+ * objects, these have ids from 0xff000000 on. Births are numbered from 0 in the client's range and from 1 in the
+ * server's. Only id and birth together identify an object. An object of one connection may equal one of
  * another, and no call can distinguish them: keep an object with its end.
  *
  * Memory.  Tables, an end and an inspector belong to the caller, who frees each once. Tables may be freed before
@@ -308,7 +308,7 @@ typedef struct waywire_sizes {
 
 /* ---- reports */
 
-/* The most arguments of a message, and so the most tokens. */
+/* The most arguments that a message can have, and therefore the most tokens. */
 #define WAYWIRE_MAX_ARGS 20
 
 /* The most bytes of a text that waywire_server_post_error writes, without the ending NUL. */
@@ -330,12 +330,12 @@ typedef enum waywire_report_kind {
 	                        * stream at which the message begins. The end has failed */
 } waywire_report_kind;
 
-/* What `next` read. It points into the end, and is valid until the next call that may change the end: any but
- * waywire_client_made and those that take a `const waywire_end *`. That next call itself may still take these
- * pointers, for example `bind` the interface of a `global`. Strings end with a NUL that their length does not
+/* What `next` read. It points into the end, and is valid until the next call that may change the end, which is any
+ * call except waywire_client_made and those that take a `const waywire_end *`. You may still pass its pointers to
+ * that call, for example the interface of a `global` to `bind`. Strings end with a NUL that their length does not
  * count. Only the first `arg_count` of `args` are written. `tokens` has the tokens of all descriptors of the
- * message, whatever the report's kind, in order: the caller closes or keeps the descriptors. The tokens of a
- * WAYWIRE_MESSAGE are also in its `args`, so close each once. */
+ * message in order, whatever the report's kind: the caller closes or keeps the descriptors. The tokens of a
+ * WAYWIRE_MESSAGE are in its `args` too; close each descriptor only once. */
 typedef struct waywire_report {
 	uint32_t kind; /* a waywire_report_kind */
 	uint32_t opcode;
@@ -375,8 +375,8 @@ typedef struct waywire_tables waywire_tables;
  * them once, for all ends of all threads. The caller frees them. WAYWIRE_NO_MEMORY. */
 waywire_status waywire_tables_core(waywire_tables **tables);
 
-/* Frees tables: their memory is freed now, or with the last of the ends made with them. The caller must not use
- * them afterwards, nor names that came from them. Null is allowed. */
+/* Frees tables: their memory is freed now, or with the last end or inspector made with them. The caller must not
+ * use them afterwards, nor names that came from them. Null is allowed. */
 void waywire_tables_free(waywire_tables *tables);
 
 /* Makes new tables: these, and the interfaces that a text declares. FORMATS.md, installed in share/doc/waywire,
@@ -623,7 +623,7 @@ void waywire_end_space(waywire_end *end, waywire_part parts[2]);
 waywire_status waywire_end_received(waywire_end *end, size_t bytes, const uint32_t *tokens,
 	size_t token_count, waywire_amounts *fed);
 
-/* Gives the end up, for example when its connection is closed, and moves the tokens that wait in its inbox and
+/* Gives up the end, for example when its connection is closed, and moves the tokens that wait in its inbox and
  * its outbox into the caller's memory, so that their descriptors can be closed. Each token that was fed comes out
  * either in a report or in this call, and each that was sent either in `take` or in this call. The tokens of the
  * inbox come first (those of a message at fault before the others), then those of the outbox, all of a message at
@@ -671,7 +671,7 @@ waywire_status waywire_end_next(waywire_end *end, waywire_report *report);
 waywire_status waywire_client_new(const waywire_tables *tables, const waywire_sizes *sizes,
 	waywire_client *client);
 
-/* Binds a global that was announced to the client, of this name and interface (which ends with a NUL), and
+/* Binds a global that was announced to the client with this name and interface (which ends with a NUL), and
  * writes the new object to `bound`, which may be null. WAYWIRE_FAILED, WAYWIRE_STALE,
  * WAYWIRE_NO_SUCH_MESSAGE if `registry` is no wl_registry, WAYWIRE_BAD_BIND, WAYWIRE_FULL,
  * WAYWIRE_NO_IDS, WAYWIRE_NO_MEMORY. */
@@ -700,9 +700,9 @@ waywire_status waywire_client_bind_unannounced(waywire_client client, waywire_ob
 waywire_status waywire_client_more_tables(waywire_client client, const void *text, size_t length,
 	size_t *line, uint32_t *rule);
 
-/* The object of the server that the last message read made, even if its report was WAYWIRE_DISCARDED, so that it
- * can be destroyed. `made` gets id 0 if that message made none, and before the first message. A call that reads
- * no message does not change this.
+/* The object of the server that was made by the message read last. If that message was WAYWIRE_DISCARDED, its object
+ * is open all the same, and can be destroyed. `made` gets id 0 if that message made none, and before the first
+ * message. A call that reads no message does not change this.
  * The object can replace a live object of the server that no request can end at its version (for example a
  * version-2 zwlr_output_head_v1): the server destroys such an object on its own, and uses its id again. The
  * report of the message then has the old object as `replaced`. That one is no longer live, and `object_after`
@@ -716,8 +716,8 @@ waywire_status waywire_client_made(waywire_client client, waywire_object *made);
 waywire_status waywire_server_new(const waywire_tables *tables, const waywire_sizes *sizes,
 	waywire_server *server);
 
-/* Adds a global of an interface, by its place in the tables, and writes its name to `name`, which may
- * be null. waywire_server_announce writes it to the registries. WAYWIRE_FAILED, WAYWIRE_BAD_GLOBAL,
+/* Adds a global of an interface, given by its place in the tables, and writes the global's name to `name`, which
+ * may be null. waywire_server_announce writes it to the registries. WAYWIRE_FAILED, WAYWIRE_BAD_GLOBAL,
  * WAYWIRE_TOO_MANY_GLOBALS, WAYWIRE_NO_MEMORY. */
 waywire_status waywire_server_add_global(waywire_server server, uint16_t interface,
 	uint32_t version, uint32_t *name);
@@ -727,9 +727,9 @@ waywire_status waywire_server_add_global(waywire_server server, uint16_t interfa
 waywire_status waywire_server_withdraw(waywire_server server, uint32_t name);
 
 /* Writes wl_registry.global and global_remove to each open registry for the globals that were added and withdrawn
- * since it was last informed, until an event does not fit. `count`, which may be null, gets the number of these
- * events. Call it after a request has made a registry, after a change of the globals, and after a `take` if not
- * all had fitted. If events do not fit, the next call continues at the registry where this one stopped. It skips
+ * since it was last informed, and stops when an event does not fit. `count`, which may be null, gets the number of
+ * events written. Call it after a request has made a registry, after a change of the globals, and after a `take` if
+ * not all had fitted. If events do not fit, the next call continues at the registry where this one stopped. It skips
  * registries that are known to need no event, and takes constant time if these are all. The others are those made
  * since it last wrote everything or, after a change of the globals, all registries. Then its time is linear in
  * the events that it writes, in the globals that were ever added, and in these registries. For each of these it
@@ -846,7 +846,7 @@ typedef struct waywire_followed {
 	uint16_t size;             /* as its header says */
 	uint32_t made;             /* the id of the object that it makes; 0 if it makes none */
 	uint32_t made_version;
-	uint32_t destroyed;        /* the id of the object that it destroys, or may destroy; 0 if there is none */
+	uint32_t destroyed;        /* the id of the object that it destroys or may destroy; 0 if there is none */
 	uint32_t deleted;          /* the id in a wl_display.delete_id; 0 for any other message */
 	uint16_t made_interface;
 	bool is_read; /* its target and all objects that it names are known, and the tables have the message */
@@ -880,8 +880,8 @@ waywire_status waywire_inspector_go_past(waywire_inspector *inspector, waywire_s
 waywire_status waywire_inspector_object(const waywire_inspector *inspector, uint32_t id,
 	waywire_known *known);
 
-/* How many ids can be known: in the client's range those below this number, in the server's range this many from
- * 0xff000000 on. Nothing is known of any other id. 0 for a null inspector. */
+/* How many ids can be known. For the client, these are the ids below the returned number; for the server, this many
+ * ids from 0xff000000 on. Nothing is known of any other id. 0 for a null inspector. */
 size_t waywire_inspector_id_count(const waywire_inspector *inspector, waywire_sender maker);
 
 /* The newest version in which a global of this name was announced with this interface, or 0 if none was.
