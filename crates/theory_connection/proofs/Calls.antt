@@ -212,7 +212,7 @@ if_none : (b : Bool) (o : Option ℕ) (p : ℕ) → cond b o (Some p) ≡ None �
 if_none true o p h = (refl, h)
 if_none false o p h = absurd (cc h)
 
--- if no place is wrong and none is lost, all arguments are right
+-- if no argument is wrong and no object is lost, all arguments are right
 pub all_right : (view : Objects) (place : ℕ) (ks : List Kind) (given : List Given) → wrong_place place ks given ≡ None
     → lost_place (look view) place ks given ≡ None → AllRight view ks given
 all_right view place [] [] w l = tt

@@ -184,7 +184,7 @@ module _ {test : Born → Bool} where
   deleted_last (b ∷ bs) after x (end t l h r) = deleted_last bs after x r
   deleted_last (b ∷ bs) after x (delete z l h c r) = deleted_last bs after x r
 
-  -- ---- the converse, and only one of these
+  -- ---- the converse, and that only one of these holds
 
   -- an object that will be held is held, or made by an event on the way
   pub held_before : {es : List Tell} (x : Known) {v w : Rows Row} → ReadsInFlight test es v w → IsHeldInRows w x
@@ -277,7 +277,8 @@ module _ {test : Born → Bool} where
   make_new x (destroy z l a b c t) i = elim i [ inl p ↦ absurd (cc p) | inr p ↦ make_new x t p ]
   make_new x (give_back l a b c t) i = elim i [ inl p ↦ absurd (cc p) | inr p ↦ make_new x t p ]
 
-  -- the client holds an object for which one of these holds, or an event on the way makes it
+  -- the client holds an object that is deleted on the way, open at the server, or made by a request
+  -- on the way; or an event on the way makes it
   pub held_back : {es : List Tell} {qs : List Ask} {v : Rows Row} {s : Rows Born} (x : Known)
       → MeetInMiddle test es qs v s
       → In (Delete x) es ⊎ (s.rows x.id ≡ Some x.born) ⊎ In (Make x) qs → IsHeldInRows v x ⊎ In (Made x) es

@@ -556,7 +556,7 @@ module _ (p : PairState) (w : World) (asked : List (Message Known)) (told : List
 
 -- ---- a pair that represents a world
 
--- what follows for a pair that represents a world, follows in a world that has not ended
+-- what follows for each pair that represents a world follows in a world that has not ended
 pub in_world : {A : Type 0} (p : PairState) (w : World) → StandsIn p w
     → ((asked : List (Message Known)) (told : List (Coming Known)) → StandsBy p w asked told → A) → A
 in_world {A} p w h f = by_stands h.stands
