@@ -2,13 +2,13 @@
 use Rattle.std.proofs.Common.{◌≡◌, ◌≢◌, ℕ, zero, suc, ◌+◌, ◌-◌, ◌<◌, ◌≤◌, List, [], ◌∷◌, ◌++◌, refl}
 use Rattle.std.proofs.Common.{sym, ◌∙◌, ap, cond, Bool, true, false, length, arith, eqb, leb}
 use Rattle.std.proofs.Common.{⊎_elim}
-use Rattle.std.proofs.lemmas.Bool.{cases_eq, cases_lt}
+use Rattle.std.proofs.lemmas.Bool.{cases_eq, cases_lt, le-leb, lt-leb, eq-eqb, ne_eqb}
 use Rattle.std.proofs.lemmas.Bool.Decides.{nat_tests}
 use Rattle.std.specs.Ordering.{nat_cmp}
 use Rattle.std.specs.Cmp.{nat_cmp_total}
 use Rattle.std.specs.FinMap.{get, insert, remove, get-empty, same_map, nat_cmp-IsAntisymmetric}
-use Rattle.std.specs.Prelude.{slice_get, slice_set}
-use Rattle.std.proofs.lemmas.Option.{slice_get_within, slice_get_past}
+use Rattle.std.specs.Prelude.{slice_get}
+use Rattle.std.proofs.lemmas.Option.{slice_get_within}
 use Rattle.std.specs.declared.option.Option.{Option}
 use Rattle.std.specs.declared.option.Option.TheVariants.{None, Some}
 use Rattle.wl_object_map.specs.declared.object.Entry.{Entry}
@@ -18,18 +18,6 @@ use Rattle.wl_object_map.specs.Views.{get_put, get_gone, some_is}
 use Rattle.wl_object_map.specs.Slots.{slot_at, slot_of_entry, row_at, row_in, rows_from}
 
 -- Tests of numbers.
-
-le_is : (a b : ℕ) → a ≤ b → leb a b ≡ true
-le_is a b h = grind (arith, nat_tests, h)
-
-le_not : (a b : ℕ) → b < a → leb a b ≡ false
-le_not a b h = grind (arith, nat_tests, h)
-
-eq_is : (a b : ℕ) → a ≡ b → eqb a b ≡ true
-eq_is a b h = grind (arith, nat_tests, h)
-
-eq_not : (a b : ℕ) → a ≢ b → eqb a b ≡ false
-eq_not a b h = grind (arith, nat_tests, h)
 
 eq-suc : (a b c d : ℕ) → c ≡ suc a → d ≡ suc b → eqb a b ≡ eqb c d
 eq-suc a b c d e f = grind (arith, nat_tests, e, f)
@@ -48,7 +36,7 @@ no_row false = refl
 at_first : (id : ℕ) (s : Slot) (slots : List Slot) (q : ℕ) → q ≡ id → row_past id (s ∷ slots) q ≡ row_in (Some s)
 at_first id s slots q e =
     let none : q - id ≡ 0 = omega arith in
-    ap (λ b. cond b (row_in (slice_get (s ∷ slots) (q - id))) None) (le_is id q (omega arith))
+    ap (λ b. cond b (row_in (slice_get (s ∷ slots) (q - id))) None) (le-leb id q (omega arith))
     ∙ ap (λ n. row_in (slice_get (s ∷ slots) n)) none
 
 -- the row of any other id
@@ -56,27 +44,27 @@ at_other : (id : ℕ) (s : Slot) (slots : List Slot) (q : ℕ) → q ≢ id
     → row_past id (s ∷ slots) q ≡ row_past (id + 1) slots q
 at_other id s slots q n = ⊎_elim
     (λ below.
-    ap (λ b. cond b (row_in (slice_get (s ∷ slots) (q - id))) None) (le_not id q below)
-    ∙ sym (ap (λ b. cond b (row_in (slice_get slots (q - (id + 1)))) None) (le_not (id + 1) q (omega arith))))
+    ap (λ b. cond b (row_in (slice_get (s ∷ slots) (q - id))) None) (lt-leb id q below)
+    ∙ sym (ap (λ b. cond b (row_in (slice_get slots (q - (id + 1)))) None) (lt-leb (id + 1) q (omega arith))))
     (λ above.
     let on : q - id ≡ suc (q - (id + 1)) = omega arith in
-    ap (λ b. cond b (row_in (slice_get (s ∷ slots) (q - id))) None) (le_is id q above)
+    ap (λ b. cond b (row_in (slice_get (s ∷ slots) (q - id))) None) (le-leb id q above)
     ∙ ap (λ n. row_in (slice_get (s ∷ slots) n)) on
-    ∙ sym (ap (λ b. cond b (row_in (slice_get slots (q - (id + 1)))) None) (le_is (id + 1) q (omega arith))))
+    ∙ sym (ap (λ b. cond b (row_in (slice_get slots (q - (id + 1)))) None) (le-leb (id + 1) q (omega arith))))
     (cases_lt q id)
 
 row_past-cons : (id : ℕ) (s : Slot) (slots : List Slot) (q : ℕ)
     → row_past id (s ∷ slots) q ≡ cond (eqb q id) (row_in (Some s)) (row_past (id + 1) slots q)
 row_past-cons id s slots q = ⊎_elim
     (λ same. at_first id s slots q same ∙ sym (ap (λ b. cond b (row_in (Some s)) (row_past (id + 1) slots q))
-    (eq_is q id same)))
+    (eq-eqb q id same)))
     (λ other. at_other id s slots q other ∙ sym (ap (λ b. cond b (row_in (Some s)) (row_past (id + 1) slots q))
-    (eq_not q id other)))
+    (ne_eqb q id other)))
     (cases_eq q id)
 
 none_before : (id : ℕ) (slots : List Slot) (q : ℕ) → q ≡ id → row_past (id + 1) slots q ≡ None
 none_before id slots q e = ap (λ b. cond b (row_in (slice_get slots (q - (id + 1)))) None)
-    (le_not (id + 1) q (omega arith))
+    (lt-leb (id + 1) q (omega arith))
 
 free_first : (id : ℕ) (newer older : ℕ) (slots : List Slot) (q : ℕ)
     → row_past id (Free newer older ∷ slots) q ≡ row_past (id + 1) slots q
@@ -99,7 +87,7 @@ get_row slots zero = get_rows_from 1 slots 0
 get_row slots (suc q) =
     let back : suc q - 1 ≡ q = omega arith in
     get_rows_from 1 slots (suc q)
-    ∙ ap (λ b. cond b (row_in (slice_get slots (suc q - 1))) None) (le_is 1 (suc q) (omega arith))
+    ∙ ap (λ b. cond b (row_in (slice_get slots (suc q - 1))) None) (le-leb 1 (suc q) (omega arith))
     ∙ ap (λ n. row_in (slice_get slots n)) back
 
 -- slots that have one more row than others
@@ -137,38 +125,17 @@ pub slot_used : (slots : List Slot) (id : ℕ) (s : Slot) → slot_at slots id �
 slot_used slots zero s h = cc
 slot_used slots (suc n) s h = let u = some_used slots n s h in (omega arith, omega arith)
 
--- unused ids have no slots
-pub slot_past : (slots : List Slot) (id : ℕ) → length slots < id → slot_at slots id ≡ None
-slot_past slots zero h = refl
-slot_past slots (suc n) h = slice_get_past slots n (omega arith)
-
-get-set : (slots : List Slot) (n : ℕ) (s : Slot) (k : ℕ) → n < length slots
-    → slice_get (slice_set slots n s) k ≡ cond (eqb k n) (Some s) (slice_get slots k)
-get-set [] n s k h = absurd (omega arith)
-get-set (x ∷ xs) zero s zero h = refl
-get-set (x ∷ xs) zero s (suc k) h = sym (ap (λ b. cond b (Some s) (slice_get xs k)) (eq_not (suc k) 0 (omega arith)))
-get-set (x ∷ xs) (suc n) s zero h = sym (ap (λ b. cond b (Some s) (Some x)) (eq_not 0 (suc n) (omega arith)))
-get-set (x ∷ xs) (suc n) s (suc k) h = get-set xs n s k (omega arith)
-    ∙ ap (λ b. cond b (Some s) (slice_get xs k)) (eq-suc k n (suc k) (suc n) refl refl)
-
--- writing a slot
-pub slot_set : (slots : List Slot) (n id : ℕ) (s : Slot) → id ≡ n + 1 → n < length slots → (q : ℕ)
-    → slot_at (slice_set slots n s) q ≡ cond (eqb q id) (Some s) (slot_at slots q)
-slot_set slots n id s e h zero = sym (ap (λ b. cond b (Some s) None) (eq_not 0 id (omega arith)))
-slot_set slots n id s e h (suc q) = get-set slots n s q h
-    ∙ ap (λ b. cond b (Some s) (slice_get slots q)) (eq-suc q n (suc q) id refl (omega arith))
-
 get-push : (slots : List Slot) (s : Slot) (k : ℕ)
     → slice_get (slots ++ s ∷ []) k ≡ cond (eqb k (length slots)) (Some s) (slice_get slots k)
 get-push [] s zero = refl
-get-push [] s (suc k) = sym (ap (λ b. cond b (Some s) None) (eq_not (suc k) 0 (omega arith)))
-get-push (x ∷ xs) s zero = sym (ap (λ b. cond b (Some s) (Some x)) (eq_not 0 (suc (length xs)) (omega arith)))
+get-push [] s (suc k) = sym (ap (λ b. cond b (Some s) None) (ne_eqb (suc k) 0 (omega arith)))
+get-push (x ∷ xs) s zero = sym (ap (λ b. cond b (Some s) (Some x)) (ne_eqb 0 (suc (length xs)) (omega arith)))
 get-push (x ∷ xs) s (suc k) = get-push xs s k ∙ ap (λ b. cond b (Some s) (slice_get xs k))
     (eq-suc k (length xs) (suc k) (suc (length xs)) refl refl)
 
 -- pushing a slot
 pub slot_push : (slots : List Slot) (s : Slot) (q : ℕ)
     → slot_at (slots ++ s ∷ []) q ≡ cond (eqb q (length slots + 1)) (Some s) (slot_at slots q)
-slot_push slots s zero = sym (ap (λ b. cond b (Some s) None) (eq_not 0 (length slots + 1) (omega arith)))
+slot_push slots s zero = sym (ap (λ b. cond b (Some s) None) (ne_eqb 0 (length slots + 1) (omega arith)))
 slot_push slots s (suc q) = get-push slots s q ∙ ap (λ b. cond b (Some s) (slice_get slots q))
     (eq-suc q (length slots) (suc q) (length slots + 1) refl (omega arith))

@@ -17,13 +17,11 @@ use Rattle.wl_object_map.specs.Ranges.{first_server_id, is_of_server, table_id, 
 use Rattle.wl_object_map.specs.View as table
 use Rattle.wl_object_map.specs.View.{View, Sound, zombie}
 use Rattle.wl_object_map.specs.Views as rows
-use Rattle.wl_object_map.specs.Views.{in_row, in_list, at_null, unused}
 use Rattle.wl_object_map.specs.Sounds as sounds
 use Rattle.wl_object_map.specs.Objects.{Objects, ObjectsAreSound, in_range, changed_at, look}
-use Rattle.wl_object_map.specs.Objects.{is_held, births}
-use Rattle.wl_object_map.specs.Objects.{free_or_next, has_room, next_id, next_birth, can_open}
-use Rattle.wl_object_map.specs.Objects.{no_interface, IsServerRangeNew}
-use Rattle.wl_object_map.specs.Objects.{opening, opened_at, opened, closed, zombied}
+use Rattle.wl_object_map.specs.Objects.{is_held, births, free_or_next, has_room, next_id, can_open}
+use Rattle.wl_object_map.specs.Objects.{no_interface, IsServerRangeNew, opening, opened_at, opened}
+use Rattle.wl_object_map.specs.Objects.{closed, zombied}
 
 -- Ids and ranges.
 
@@ -293,14 +291,6 @@ next_of_server o s =
 pub table_id-wire_id : (place : ℕ) → table_id (wire_id place) ≡ place
 table_id-wire_id place = omega arith
 
--- the next birth is that of the next id's range
-pub births-next : (maker : Maker) (o : Objects) → ObjectsAreSound o
-    → births o (next_id maker o) ≡ next_birth maker o
-births-next Client o s =
-    in_range-client (λ view place. view.births) o (next_id Client o) (next_of_client o s)
-births-next Server o s =
-    in_range-server (λ view place. view.births) o (next_id Server o) (next_of_server o s)
-
 -- the next id is free in its range
 pub free-next : (maker : Maker) (o : Objects) → ObjectsAreSound o
     → free_or_next o (next_id maker o) ≡ true
@@ -458,25 +448,6 @@ births-zombied o id = client-changed (λ view. view.births) table.zombied (λ vi
 
 pub used-zombied : (o : Objects) (id : ℕ) → (zombied o id).client.used ≡ o.client.used
 used-zombied o id = client-changed (λ view. view.used) table.zombied (λ view place. refl) o id
-
--- An id with a row in the client's table is in the client's range.
-
-pub held_by_client : (o : Objects) (id : ℕ) (e : Entry) → Sound o.client
-    → table.look o.client id ≡ Some e → is_of_server id ≡ false
-held_by_client o id e s row =
-    let place = rows.place_of_id o.client s id in
-    let top = s.ids_end in
-    elim place [
-      | in_row d l t a b ↦ of_client id (omega (arith, b, top))
-      | in_list l t a b ↦ absurd (cc (row, l))
-      | at_null l t z ↦ absurd (cc (row, l))
-      | unused l t a ↦ absurd (cc (row, l))
-    ]
-
-pub look-held_by_client : (o : Objects) (id : ℕ) (e : Entry) → Sound o.client
-    → table.look o.client id ≡ Some e → look o id ≡ Some e
-look-held_by_client o id e s row =
-    in_range-client table.look o id (held_by_client o id e s row) ∙ row
 
 -- Where a row after a change comes from.
 

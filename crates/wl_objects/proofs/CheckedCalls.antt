@@ -52,7 +52,7 @@ same-number place (kind ∷ ks) (x ∷ list) w =
     let more : length list ≡ length ks = same-number (suc place) ks list suit.1 in omega arith
 
 -- a call has no argument for a new object without an interface in its signature
-not_named : (x : Arg) → suits (kinds.New None) (given_of x) ≡ true → ⊥
+pub not_named : (x : Arg) → suits (kinds.New None) (given_of x) ≡ true → ⊥
 not_named (args.Int z) e = cc
 not_named (args.Uint n) e = cc
 not_named (args.Fixed z) e = cc

@@ -1,10 +1,10 @@
 -- New objects, one argument after another.
-use Rattle.std.proofs.Common.{◌≡◌, ℕ, zero, suc, ◌+◌, ◌<◌, ◌≤◌, Bool, true, false, ◌||◌}
-use Rattle.std.proofs.Common.{List, [], ◌∷◌, length, get_or, drop, Some}
+use Rattle.std.proofs.Common.{◌≡◌, ℕ, zero, suc, ◌+◌, ◌<◌, ◌≤◌, false, List, [], ◌∷◌, length, get_or, drop, Some}
 use Rattle.std.specs.List.{list_any}
 use Rattle.std.proofs.Common.{None, refl, sym, ◌∙◌, add-one, drop-cons, drop-drop, slice_get}
 use Rattle.std.proofs.lemmas.List.{drop_all}
 use Rattle.std.proofs.lemmas.Option.{slice_get_within, get_or_from_slice_get}
+use Rattle.std.proofs.lemmas.Bool.{or_parts}
 use Rattle.wl_wire.specs.declared.kind.Kind.{Kind}
 use Rattle.wl_wire.specs.declared.kind.Kind.TheVariants as kinds
 use Rattle.wl_wire.specs.Argument.{Argument}
@@ -64,17 +64,13 @@ made-skip tables version i ks k values p e =
     (skip-one tables version (get_or ks i k) (drop (suc i) ks) (drop i values) e
     ∙ rw (behind, add-one) refl)
 
-neither : (a b : Bool) → a || b ≡ false → (a ≡ false) × (b ≡ false)
-neither false b e = (refl, e)
-neither true b e = absurd (cc)
-
 -- a message makes no object if no kind is a new object
 pub made-nothing : (tables : List Interface) (version : ℕ) (ks : List Kind) (values : List Argument)
     → list_any is_new_object ks ≡ false → made tables version ks values ≡ None
 made-nothing tables version [] [] e = refl
 made-nothing tables version [] (value ∷ values) e = refl
 made-nothing tables version (kind ∷ ks) values e =
-    let parts = neither (is_new_object kind) (list_any is_new_object ks) e in
+    let parts = or_parts (is_new_object kind) (list_any is_new_object ks) e in
     skip-one tables version kind ks values parts.0 ∙ made-nothing tables version ks (drop 1 values) parts.1
 
 -- the value at a place, and those after it

@@ -8,7 +8,6 @@ use Rattle.std.specs.declared.result.Result.TheVariants.{Ok, Err}
 use Rattle.std.proofs.lemmas.Bool.{ltb-false}
 use Rattle.std.proofs.lemmas.List.{length-drop}
 use Rattle.wl_wire.specs.Argument.{Argument, lent, units, Int, Uint, Fixed, Fd}
-use Rattle.wl_wire.specs.declared.fixed.Fixed as fixed
 use Rattle.wl_wire.specs.declared.kind.ArgFault.{ArgFault}
 use Rattle.wl_wire.specs.declared.kind.ArgFault.TheVariants.{Short}
 use Rattle.wl_wire.specs.declared.kind.Kind.{Kind}

@@ -6,7 +6,7 @@ use Rattle.std.specs.Prelude.{set, Option, if◌then◌else◌, nat_lt}
 use Rattle.std.specs.declared.result.Result.{Result}
 use Rattle.std.specs.declared.result.Result.TheVariants.{Ok, Err}
 use Rattle.std.proofs.lemmas.Bool.{le-ltb}
-use Rattle.std.proofs.lemmas.List.{drop_all, length-drop, map-append, append-nil, take_more_set}
+use Rattle.std.proofs.lemmas.List.{length-drop, map-append, append-nil, take_more_set}
 use Rattle.wl_wire.specs.Argument.{Argument, Int, Uint, Fixed, Str, Obj, New, NewNamed, Array, Fd}
 use Rattle.wl_wire.specs.declared.kind.Kind.{Kind}
 use Rattle.wl_wire.specs.declared.kind.Kind.TheVariants as kinds
@@ -168,13 +168,6 @@ parsed-fault r q i end place birth ks k body items fault b e =
     let j = judged-err r place fault (value_or_fault q i (get_or ks i k)
     (reading (forgiving_kind q.forgives (get_or ks i k)) (drop end body))) e in
     rw (drop-cons ks i k b, j) refl
-
-pub parsed-end : (r q : Reader) (i end place birth : ℕ) (ks : List Kind) (body : List ℕ) (items : List ParsedArg)
-    → length ks ≤ i
-    → Ok (all_parsed body birth (take i items), drop end body)
-    ≡ behind_those (all_parsed body birth (take i items))
-    (made_of r place (arguments_at q i (drop i ks) (drop end body)))
-parsed-end r q i end place birth ks body items b = rw (drop_all i ks b, append-nil) refl
 
 pub behind-least : (p : ParsedArg) (place i : ℕ) → place ≤ i → place_behind p place ≤ i + 1
 behind-least p place i h = by (is_fd p)

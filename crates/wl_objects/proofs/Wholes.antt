@@ -3,10 +3,10 @@
 use Rattle.std.proofs.Common.{◌≡◌, ◌≢◌, ℕ, suc, ◌+◌, ◌%◌, ◌<◌, ◌≤◌, ◌^◌, Bool, true, false, List}
 use Rattle.std.proofs.Common.{[], ◌∷◌, ◌++◌, length, map, Some, None, refl, sym, ap, subst, ◌∙◌}
 use Rattle.std.proofs.Common.{arith, length-append}
-use Rattle.std.specs.Prelude.{Option, if◌then◌else◌, nat_eq, nat_lt, ◌&&◌, ◌||◌}
+use Rattle.std.specs.Prelude.{Option, if◌then◌else◌, nat_eq, nat_lt, ◌&&◌}
 use Rattle.std.specs.List.{All}
 use Rattle.std.specs.declared.result.Result.TheVariants.{Ok, Err}
-use Rattle.std.proofs.lemmas.Bool.{and_parts, eqb-true, eq-eqb, ltb-false, le-ltb}
+use Rattle.std.proofs.lemmas.Bool.{and_parts, eqb-true, eq-eqb, ltb-false, le-ltb, and_left, or_parts}
 use Rattle.std.proofs.lemmas.List.{append-nil}
 use Rattle.std.proofs.lemmas.List.Elements.{All-tail}
 use Rattle.wl_wire.specs.declared.kind.Kind.{Kind}
@@ -224,12 +224,8 @@ passed limit tables side view target opcode list found p =
 shown-error : (side : Side) (iface : Iface) (opcode : ℕ) → is_hidden side iface opcode ≡ false
     → is_error side iface opcode ≡ false
 shown-error Request iface opcode e = refl
-shown-error Event iface opcode e = by_display (same_iface iface display) refl e
-  where
-    by_display : (b : Bool) → same_iface iface display ≡ b → (b || same_iface iface registry) ≡ false
-        → (same_iface iface display && nat_eq opcode 0) ≡ false
-    by_display true t e = absurd (cc)
-    by_display false t e = rw t refl
+shown-error Event iface opcode e = and_left (same_iface iface display) (nat_eq opcode 0)
+    (or_parts (same_iface iface display) (same_iface iface registry) e).0
 
 forgiving-not : (r : Reader) → r.forgives ≡ false → forgiving false r ≡ r
 forgiving-not r f = let g : false ≡ r.forgives = sym f in λ i. record r { forgives = g i }

@@ -1,11 +1,10 @@
 -- What is written is what arrives.
-use Rattle.std.proofs.Common.{◌≡◌, ◌≢◌, ℕ, suc, ◌+◌, ◌<◌, ◌^◌, Bool, true, false, List, [], ◌∷◌}
-use Rattle.std.proofs.Common.{◌++◌, length, drop, map, Some, None, refl, sym, subst, arith}
-use Rattle.std.proofs.Common.{append_assoc}
-use Rattle.std.specs.Prelude.{Option, if◌then◌else◌, not, nat_eq}
+use Rattle.std.proofs.Common.{◌≡◌, ◌≢◌, ℕ, suc, ◌+◌, ◌<◌, ◌^◌, Bool, true, false, List, [], ◌∷◌, ◌++◌, length, drop}
+use Rattle.std.proofs.Common.{map, Some, None, refl, subst, arith, append_assoc}
+use Rattle.std.specs.Prelude.{Option, if◌then◌else◌, nat_eq}
 use Rattle.std.specs.List.{All, list_any}
 use Rattle.std.specs.declared.result.Result.TheVariants.{Ok}
-use Rattle.std.proofs.lemmas.Bool.{both_ways, and_parts, eq-eqb, ne_eqb}
+use Rattle.std.proofs.lemmas.Bool.{both_ways, and_parts, eq-eqb, ne_eqb, not-true}
 use Rattle.std.proofs.lemmas.List.{drop_at}
 use Rattle.std.proofs.lemmas.List.Folds.{list_any_at}
 use Rattle.std.proofs.lemmas.List.Sums.{sum_by-cons}
@@ -27,12 +26,8 @@ use Rattle.wl_objects.specs.Carried.{InRange, ReaderHolds, IsExpected, AreExpect
 
 no_nul : (text : List ℕ) → has_no_nul text ≡ true → All (λ b. b ≢ 0) text
 no_nul text e k d h z =
-    let f : list_any (λ b. nat_eq b 0) text ≡ false = not_true (list_any (λ b. nat_eq b 0) text) e in
+    let f : list_any (λ b. nat_eq b 0) text ≡ false = not-true (list_any (λ b. nat_eq b 0) text) e in
     both_ways _ f (list_any_at (λ (b : ℕ). nat_eq b 0) text k d h (eq-eqb _ 0 z))
-  where
-    not_true : (b : Bool) → not b ≡ true → b ≡ false
-    not_true true e = sym e
-    not_true false e = refl
 
 pub text_is : (text : List ℕ) → has_no_nul text ≡ true → length text + 1 < 2 ^ 32 → IsText text
 text_is text e h = record { no_nul = no_nul text e; len = h }
