@@ -5,7 +5,7 @@ use Rattle.std.specs.Prelude.{Option, bytes_eq, if◌then◌else◌}
 use Rattle.std.specs.Option.{option_and_then}
 use Rattle.std.specs.declared.result.Result.{Result}
 use Rattle.std.specs.declared.result.Result.TheVariants.{Ok, Err}
-use Rattle.std.proofs.lemmas.Bool.{and_parts}
+use Rattle.std.proofs.lemmas.Bool.{and_parts, not-false}
 use Rattle.std.proofs.lemmas.Slice.Eq.{bytes_eq-Decides}
 use Rattle.wl_wire.specs.declared.kind.Kind.{Kind}
 use Rattle.wl_sigs.specs.Side.TheVariants.{Request}
@@ -46,10 +46,6 @@ fits_global tables v iface version None h = absurd (cc h)
 fits_global tables v iface version (Some g) h = fits_version tables v iface version g.version g.iface.0
     (interface_at tables g.iface.0) refl h
 
-not_is : (b : Bool) → not b ≡ false → b ≡ true
-not_is true h = refl
-not_is false h = absurd (cc h)
-
 fits_row : (state : State) (name version : ℕ) (iface : List ℕ) (new : Option Object) (o : Option Entry)
     → Valid state.core.tables → bind_at state name iface version o ≡ Ok new → FitsBind iface
 fits_row state name version iface new None v e = absurd (cc e)
@@ -59,7 +55,7 @@ fits_row state name version iface new (Some entry) v e = by_iface (not (same_ifa
         → not (can_bind state.core.tables iface version (global_of state.globals name)) ≡ b
         → (if b then Err refusals.BadBind else x) ≡ Ok new → FitsBind iface
     by_bind true x t h = absurd (cc h)
-    by_bind false x t h = fits_global state.core.tables v iface version (global_of state.globals name) (not_is _ t)
+    by_bind false x t h = fits_global state.core.tables v iface version (global_of state.globals name) (not-false _ t)
 
     by_iface : (b : Bool) (x : Result (Option Object) SendError)
         → (if b then Err refusals.NoSuchMessage else

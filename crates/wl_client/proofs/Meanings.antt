@@ -1,14 +1,13 @@
 -- What the arguments of a message say, and what the messages of wl_display do not change.
 use Rattle.std.proofs.Common.{◌≡◌, ℕ, ◌∷◌, Bool, true, false, cond, eqb, List, [], refl, ap, ◌∙◌}
-use Rattle.std.specs.Prelude.{Option, is_some, slice_get, ◌&&◌, nat_eq, if◌then◌else◌}
+use Rattle.std.specs.Prelude.{Option, is_some, slice_get, ◌&&◌, if◌then◌else◌}
 use Rattle.std.specs.declared.option.Option.TheVariants.{None, Some}
 use Rattle.std.proofs.lemmas.Bool.{and_parts}
-use Rattle.std.proofs.lemmas.Bool.{eqb-true}
 use Rattle.wl_wire.specs.Argument.{Obj}
 use Rattle.wl_wire.specs.declared.kind.Iface.{Iface}
 use Rattle.wl_sigs.specs.Side.TheVariants.{Request as request_side}
 use Rattle.wl_sigs.specs.Tables.{Interface}
-use Rattle.wl_sigs.specs.Fixed.{display, registry}
+use Rattle.wl_sigs.specs.Fixed.{display}
 use Rattle.wl_objects.specs.declared.argument.Named.{Named}
 use Rattle.wl_objects.specs.declared.argument.Named.TheVariants as named_as
 use Rattle.wl_objects.specs.declared.parsed.ParsedArg.{ParsedArg}
@@ -22,11 +21,9 @@ use Rattle.wl_object_map.specs.ObjectsLaws.{look-opened_at}
 use Rattle.wl_client.specs.declared.changes.ObjectChange.{ObjectChange}
 use Rattle.wl_connection.specs.Core.{Core}
 use Rattle.wl_connection.specs.Receiving.{Found}
-use Rattle.wl_client.specs.State.{Global}
-use Rattle.wl_client.specs.Reports.{argument, deleted_id, delete_report, error_report, globals_told, id_in}
-use Rattle.wl_client.specs.Reports.{is_delete_event, is_error_event, plain_report, report}
-use Rattle.wl_client.specs.Steps.{changed, globals_by, made_by_found, view_by}
-use Rattle.wl_object_map.specs.View.{lives}
+use Rattle.wl_client.specs.Reports.{argument, deleted_id, delete_report, error_report, id_in, is_delete_event}
+use Rattle.wl_client.specs.Reports.{is_error_event, plain_report, report}
+use Rattle.wl_client.specs.Steps.{changed, made_by_found, view_by}
 
 abbrev first_named : List Reported → Named
 first_named (Obj named ∷ list) = named
@@ -66,29 +63,6 @@ delete_is_reported core f error delete =
     else plain_report core f.opcode f.message f.message.entry.state) error
     ∙ ap (λ (b : Bool). if b then delete_report core (deleted_id f)
     else plain_report core f.opcode f.message f.message.entry.state) delete
-
--- a message of wl_display tells nothing of globals
-not_told : (iface : Iface) (b live : Bool) (told globals : List Global) → (same_iface iface display && b) ≡ true
-    → (if same_iface iface registry && live then told else globals) ≡ globals
-not_told iface b live told globals h = by_test (same_iface iface display) refl h
-  where
-    by_test : (d : Bool) → same_iface iface display ≡ d → (d && b) ≡ true
-        → (if same_iface iface registry && live then told else globals) ≡ globals
-    by_test false e k = absurd (cc k)
-    by_test true e k = ap (λ (n : ℕ). if nat_eq n registry.0 && live then told else globals)
-        (eqb-true iface.0 display.0 e)
-
-pub error_not_told : (tables : List Interface) (globals : List Global) (f : Found) → is_error_event f ≡ true
-    → globals_by tables globals f ≡ globals
-error_not_told tables globals f h =
-    not_told f.message.entry.iface (nat_eq f.opcode 0) (lives f.message.entry.state)
-    (globals_told tables globals f.opcode f.message.values) globals h
-
-pub delete_not_told : (tables : List Interface) (globals : List Global) (f : Found) → is_delete_event f ≡ true
-    → globals_by tables globals f ≡ globals
-delete_not_told tables globals f h =
-    not_told f.message.entry.iface (nat_eq f.opcode 1) (lives f.message.entry.state)
-    (globals_told tables globals f.opcode f.message.values) globals h
 
 -- ---- what any other event changes
 

@@ -22,8 +22,7 @@ use Rattle.wl_objects.specs.Messages.{NewObject, opens}
 use Rattle.wl_connection.specs.Core.{Core, with_view}
 use Rattle.wl_connection.specs.Sending.{after_send}
 use Rattle.wl_connection.specs.MoreTables.{Extend, with_tables}
-use Rattle.wl_connection.specs.ServerRange.{EventsMakeMade, IsMadeBySome, NoEventEnds, NoEventEndsMade}
-use Rattle.wl_connection.specs.ServerRange.{OpensLasting, OpensMadeBySome}
+use Rattle.wl_connection.specs.ServerRange.{IsMadeBySome, NoEventEnds, OpensLasting, OpensMadeBySome}
 use Rattle.wl_connection.proofs.ServerRange.{freed_closed, freed_opened, freed_sent, freed_zombied}
 use Rattle.wl_connection.proofs.ServerRange.{made_closed, made_opened, made_requested, made_zombied, tables_sent}
 use Rattle.wl_connection.proofs.MoreTables.{by_some_extended, lasting_extended}

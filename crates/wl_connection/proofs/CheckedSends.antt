@@ -18,7 +18,6 @@ use Rattle.wl_sigs.specs.Fixed.{display}
 use Rattle.wl_sigs.specs.Valid.{Valid}
 use Rattle.wl_message.specs.Outgoing.{Outgoing}
 use Rattle.wl_objects.specs.declared.argument.Arg.{Arg}
-use Rattle.wl_objects.specs.declared.argument.Arg.TheVariants as args
 use Rattle.wl_object_map.specs.declared.object.Object.{Object}
 use Rattle.wl_object_map.specs.declared.object.Entry.{Entry}
 use Rattle.wl_object_map.specs.declared.object.State.{State}
@@ -35,7 +34,7 @@ use Rattle.wl_objects.specs.Writing.{tokens_of}
 use Rattle.wl_objects.specs.Messages.{ended_id, NewObject, opens, checked, destroys, maker_by}
 use Rattle.wl_objects.proofs.Calls.{len-any}
 use Rattle.wl_objects.proofs.WrittenArrives.{if-none}
-use Rattle.wl_objects.proofs.CheckedCalls.{call-makes}
+use Rattle.wl_objects.proofs.CheckedCalls.{call-makes, not_named}
 use Rattle.wl_objects.proofs.Wholes.{length-message, passes}
 use Rattle.wl_connection.specs.Core.{Core, HasDisplay, with_view}
 use Rattle.wl_connection.specs.Outcomes.{AnswersOrMemory}
@@ -44,18 +43,6 @@ use Rattle.wl_connection.specs.Sending.{opening_answer, sent, with_following, fo
 use Rattle.wl_connection.proofs.Displays.{ends-another}
 use Rattle.wl_connection.proofs.Messages.{fits-after}
 use Rattle.wl_connection.proofs.Ends.{NamesRegistry, is_the_destroy, names_registry, the_destroy}
-
--- a call has no argument for a new object without an interface in its signature
-not-named : (x : Arg) → suits (kinds.New None) (given_of x) ≡ true → ⊥
-not-named (args.Int z) e = cc
-not-named (args.Uint n) e = cc
-not-named (args.Fixed z) e = cc
-not-named (args.Str None) e = cc
-not-named (args.Str (Some text)) e = cc
-not-named (args.Obj object) e = cc
-not-named args.New e = cc
-not-named (args.Array bytes) e = cc
-not-named (args.Fd token) e = cc
 
 -- an argument of a call that makes nothing does not depend on the new id
 one-wired : (n m : ℕ) (kind : Kind) (ks : List Kind) (x : Given) → suits kind x ≡ true → (kind ≡ kinds.New None → ⊥)
@@ -81,7 +68,7 @@ same-wired n m place (kind ∷ ks) [] w h = absurd (cc)
 same-wired n m place (kind ∷ ks) (x ∷ list) w h =
     let suit = if-none (suits kind (given_of x)) (wrong_place (suc place) ks (given list)) place w in
     let one = one-wired n m kind ks (given_of x) suit.0
-    (λ (e : kind ≡ kinds.New None). not-named x (subst (λ (k : Kind). suits k (given_of x) ≡ true) e suit.0)) h
+    (λ (e : kind ≡ kinds.New None). not_named x (subst (λ (k : Kind). suits k (given_of x) ≡ true) e suit.0)) h
     in
     let more : on_wire n list ≡ on_wire m list = same-wired n m (suc place) ks list suit.1 one.1 in
     λ i. one.0 i ∷ more i

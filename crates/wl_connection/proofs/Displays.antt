@@ -22,8 +22,7 @@ use Rattle.wl_object_map.specs.Objects.{Objects, ObjectsAreSound, look, is_held,
 use Rattle.wl_object_map.specs.View.{zombie}
 use Rattle.wl_object_map.specs.Objects.{free_or_next, next_id, opened_at, opened, closed, zombied}
 use Rattle.wl_object_map.specs.ObjectsLaws.{look-opening, look-opened_at, look-closed, look-zombied}
-use Rattle.wl_object_map.specs.Ranges.{is_of_server}
-use Rattle.wl_object_map.specs.ObjectsLaws.{free-next, free-no_row, is_from}
+use Rattle.wl_object_map.specs.ObjectsLaws.{free-next, free-no_row}
 use Rattle.wl_connection.specs.Core.{HasDisplay}
 
 pub HasDisplay-opening : (range : Bool) → HasDisplay (opening display range)
@@ -111,11 +110,3 @@ HasDisplay-open view after id iface version (Ok object) o e u d = by_test (is_he
         subst HasDisplay (sym o) (look-opened_at view id iface version 1
         ∙ (ap (λ b. cond b (Some (record { birth = births view id; iface = iface; version = version; state = Live }))
         (look view 1)) (not_display view id d (is_held-of (look view id) h)) ∙ d))
-
--- opening an id of the server's range keeps the row of wl_display
-pub HasDisplay-made : (view : Objects) (id : ℕ) (iface : Iface) (version : ℕ) → is_of_server id ≡ true
-    → HasDisplay view → HasDisplay (opened_at view id iface version)
-HasDisplay-made view id iface version range d =
-    let low = is_from id range in
-    let other : eqb 1 id ≡ false = grind (arith, nat_tests, low) in
-    look-opened_at view id iface version 1 ∙ rw other d

@@ -5,7 +5,7 @@ use Rattle.std.proofs.lemmas.Grind.{common_steps}
 use Rattle.wl_wire.specs.Argument.{Argument}
 use Rattle.wl_message.specs.declared.limit.Limit.{Limit}
 use Rattle.wl_message.specs.Cut.{IsMessage}
-use Rattle.wl_message.specs.Outgoing.{Outgoing, all_bytes, queued, room_of, token_room_of, with_message}
+use Rattle.wl_message.specs.Outgoing.{Outgoing, all_bytes, queued, room_of, with_message}
 use Rattle.wl_message.proofs.Cuts.{headed}
 use Rattle.wl_message.proofs.TakenInStep.{bytes_append}
 use Rattle.wl_objects.specs.Writing.{message_len, message_bytes, spelled}
@@ -29,9 +29,6 @@ whole limit object opcode values o h = whole_within limit object opcode values o
 -- what fits is no more than the room
 pub fits-bytes : (o : Outgoing) (bytes tokens : ℕ) → fits o bytes tokens ≡ true → bytes ≤ room_of o
 fits-bytes o bytes tokens h = grind (arith, common_steps, nat_tests, h)
-
-pub fits-tokens : (o : Outgoing) (bytes tokens : ℕ) → fits o bytes tokens ≡ true → tokens ≤ token_room_of o
-fits-tokens o bytes tokens h = grind (arith, common_steps, nat_tests, h)
 
 -- a message that fits with more bytes also fits alone, and leaves room for them
 pub fits-less : (o : Outgoing) (bytes more tokens : ℕ) → fits o (bytes + more) tokens ≡ true

@@ -1,7 +1,6 @@
 -- What is known about a received message.
-use Rattle.std.proofs.Common.{◌≡◌, ◌≢◌, ℕ, zero, suc, ◌<◌, ◌≤◌, Bool, true, false, List, [], ◌∷◌}
-use Rattle.std.proofs.Common.{length, take, drop, get_or, Some, None, refl, sym, ap, subst, ◌∙◌}
-use Rattle.std.proofs.Common.{arith}
+use Rattle.std.proofs.Common.{◌≡◌, ◌≢◌, ℕ, zero, suc, ◌<◌, ◌≤◌, Bool, true, false, List, [], ◌∷◌, length, take, drop}
+use Rattle.std.proofs.Common.{get_or, Some, None, refl, ap, subst, arith}
 use Rattle.std.specs.Prelude.{Option, not, nat_lt, if◌then◌else◌}
 use Rattle.std.specs.declared.result.Result.{Result}
 use Rattle.std.specs.declared.result.Result.TheVariants.{Ok, Err}
@@ -10,16 +9,15 @@ use Rattle.std.proofs.lemmas.Grind.{common_steps}
 use Rattle.wl_wire.specs.declared.kind.Kind.{Kind}
 use Rattle.wl_wire.specs.declared.kind.ArgFault.{ArgFault}
 use Rattle.wl_wire.specs.declared.header.Header.{Header}
-use Rattle.wl_wire.specs.Argument.{Argument, Int, Uint, Fixed, Str, Obj, New, NewNamed, Array, Fd}
+use Rattle.wl_wire.specs.Argument.{Argument}
 use Rattle.wl_wire.specs.Reading.{reading}
 use Rattle.wl_sigs.specs.Side.{Side}
 use Rattle.wl_sigs.specs.Tables.{MessageSignature, Interface, signature_at, descriptors}
 use Rattle.wl_object_map.specs.declared.object.Entry.{Entry}
 use Rattle.wl_objects.specs.declared.error.Fault.{Fault}
 use Rattle.wl_objects.specs.declared.error.Fault.TheVariants as faults
-use Rattle.wl_objects.specs.Reading.{Reader, forgiving_kind, value_fault, unless, value_or_fault, before}
-use Rattle.wl_objects.specs.Reading.{and_those, arguments_at, forgiving, head_or}
-use Rattle.wl_objects.specs.Reading.{tokens_after, reported_argument, reports_of}
+use Rattle.wl_objects.specs.Reading.{Reader, forgiving_kind, value_fault, unless, value_or_fault, before, and_those}
+use Rattle.wl_objects.specs.Reading.{arguments_at, forgiving, reports_of}
 use Rattle.wl_objects.specs.Messages.{Received, is_error, received_whole, received_as, received_by, received}
 use Rattle.wl_objects.specs.declared.error.NextError.{NextError}
 use Rattle.wl_connection.specs.Receiving.{is_none}
@@ -144,45 +142,8 @@ is_received tables side reader header body waiting m h =
 
 -- ---- a report uses only the first tokens
 
-first-at : (xs : List ℕ) → head_or xs 0 ≡ get_or xs 0 0
-first-at [] = refl
-first-at (x ∷ xs) = refl
-
-rest-at : (xs : List ℕ) (k : ℕ) → get_or (drop 1 xs) k 0 ≡ get_or xs (suc k) 0
-rest-at [] k = refl
-rest-at (x ∷ xs) k = refl
-
 abbrev pub SameFirst : ℕ → List ℕ → List ℕ → Type 0
 SameFirst n a b = (k : ℕ) → k < n → get_or a k 0 ≡ get_or b k 0
-
-fewer : (n : ℕ) (a b : List ℕ) → SameFirst (suc n) a b → SameFirst n a b
-fewer n a b h k l = h k (omega arith)
-
-rests : (n : ℕ) (a b : List ℕ) → SameFirst (suc n) a b → SameFirst n (drop 1 a) (drop 1 b)
-rests n a b h k l = rest-at a k ∙ (h (suc k) (omega arith) ∙ sym (rest-at b k))
-
-lefts : (n : ℕ) (a b : List ℕ) (value : Argument) → SameFirst (suc n) a b
-    → SameFirst n (tokens_after value a) (tokens_after value b)
-lefts n a b (Int z) h = fewer n a b h
-lefts n a b (Uint z) h = fewer n a b h
-lefts n a b (Fixed z) h = fewer n a b h
-lefts n a b (Str z) h = fewer n a b h
-lefts n a b (Obj z) h = fewer n a b h
-lefts n a b (New z) h = fewer n a b h
-lefts n a b (NewNamed name own z) h = fewer n a b h
-lefts n a b (Array z) h = fewer n a b h
-lefts n a b (Fd z) h = rests n a b h
-
-pub reports-same : (r : Reader) (n : ℕ) (a b : List ℕ) (values : List Argument) → length values ≤ n → SameFirst n a b
-    → reports_of r a values ≡ reports_of r b values
-reports-same r n a b [] l h = refl
-reports-same r zero a b (value ∷ values) l h = absurd (omega arith)
-reports-same r (suc n) a b (value ∷ values) l h =
-    let one : reported_argument r (head_or a 0) value ≡ reported_argument r (head_or b 0) value =
-    ap (λ t. reported_argument r t value) (first-at a ∙ (h 0 (omega arith) ∙ sym (first-at b))) in
-    let more = reports-same r n (tokens_after value a) (tokens_after value b) values (omega arith)
-    (lefts n a b value h) in
-    λ i. one i ∷ more i
 
 -- equal prefixes of two lists of tokens
 pub first-tokens : (n : ℕ) (a b : List ℕ) → n ≤ length a → n ≤ length b → SameFirst n a b → take n a ≡ take n b

@@ -138,7 +138,7 @@ opens_lasting core Event target opcode list m v s e =
     (map (wired (next_id Server core.view)) (given list)) new p.exists refl)
 
 -- an event that follows a message does not change the objects
-followed_view : (b : Bool) (id : ℕ) (k : Core) → (with_following b id k).view ≡ k.view
+pub followed_view : (b : Bool) (id : ℕ) (k : Core) → (with_following b id k).view ≡ k.view
 followed_view true id k = refl
 followed_view false id k = refl
 

@@ -6,7 +6,7 @@ use Rattle.std.specs.Prelude.{Option, not, nat_lt, if◌then◌else◌, is_some}
 use Rattle.std.specs.List.{All, concat}
 use Rattle.std.specs.declared.result.Result.{Result}
 use Rattle.std.specs.declared.result.Result.TheVariants.{Ok, Err}
-use Rattle.std.proofs.lemmas.Bool.{and_parts}
+use Rattle.std.proofs.lemmas.Bool.{and_parts, not-false}
 use Rattle.std.proofs.lemmas.List.{take-append-drop, length-take-le}
 use Rattle.std.proofs.lemmas.List.Elements.{All-take, All-drop, All-nil, All-cons}
 use Rattle.wl_wire.specs.declared.kind.Kind.{Kind}
@@ -153,10 +153,6 @@ record ReadBy (side : Side) (reader : Reader) (opcode : ℕ) (body : List ℕ) (
   arguments : arguments_at (forgiving (is_error side entry.iface opcode) reader) 0 signature.kinds body
       ≡ Ok (m.values, [])
 
-not_true : (b : Bool) → not b ≡ false → b ≡ true
-not_true true h = refl
-not_true false h = absurd (cc h)
-
 empty_is : (xs : List ℕ) → is_empty xs ≡ true → xs ≡ []
 empty_is [] h = refl
 empty_is (x ∷ xs) h = absurd (cc h)
@@ -186,7 +182,7 @@ read_tests side reader header body m entry signature got false false t r h =
     (record {
       entry_is = refl;
       signature_is = refl;
-      arguments = r ∙ ap (λ (l : List ℕ). Ok (got.0, l)) (empty_is got.1 (not_true (is_empty got.1) t));
+      arguments = r ∙ ap (λ (l : List ℕ). Ok (got.0, l)) (empty_is got.1 (not-false (is_empty got.1) t));
     })
 
 read_whole : (side : Side) (reader : Reader) (header : Header) (body : List ℕ) (waiting : ℕ) (m : Received)

@@ -4,7 +4,6 @@ use Rattle.std.specs.Prelude.{take}
 use Rattle.std.specs.Prelude.{drop, Option, Some, None}
 use Rattle.std.specs.declared.result.Result.{Result}
 use Rattle.std.specs.declared.result.Result.TheVariants.{Ok, Err}
-use Rattle.wl_message.specs.declared.amounts.Amounts.{Amounts}
 use Rattle.wl_message.specs.Arrived.{free_tokens}
 use Rattle.wl_message.specs.InStep.{Part, part_bytes, part_tokens}
 use Rattle.wl_objects.specs.declared.error.Fault.{Fault}

@@ -16,7 +16,7 @@ use Rattle.wl_message.proofs.Fronts.{Seen, short, long, whole, bad, seen, front_
 -- ---- the front of a stream
 
 -- further bytes do not change the size in a header
-told_append : (xs ys : List ℕ) → 8 ≤ length xs → told_size (xs ++ ys) ≡ told_size xs
+pub told_append : (xs ys : List ℕ) → 8 ≤ length xs → told_size (xs ++ ys) ≡ told_size xs
 told_append xs ys h =
     let p = get_or_append_left xs ys 0 6 (omega arith) in
     let q = get_or_append_left xs ys 0 7 (omega arith) in
@@ -232,7 +232,7 @@ pub messages_one : (limit : ℕ) (stream : List ℕ) (ms : List (List ℕ)) (r :
 messages_one limit stream ms r c = let e = one_cut limit stream ms r c
     in (ap (λ (k : Cut). k.messages) e, ap (λ (k : Cut). k.rest) e)
 
-all_append : {X : Type 0} (P : X → Type 0) (xs ys : List X) → AllByRecursion P xs → AllByRecursion P ys
+pub all_append : {X : Type 0} (P : X → Type 0) (xs ys : List X) → AllByRecursion P xs → AllByRecursion P ys
     → AllByRecursion P (xs ++ ys)
 all_append P [] ys p q = q
 all_append P (x ∷ xs) ys p q = (p.0, all_append P xs ys p.1 q)

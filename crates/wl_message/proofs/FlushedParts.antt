@@ -1,11 +1,12 @@
 -- Bytes that leave an outbox in parts, without tokens.
-use Rattle.std.proofs.Common.{◌≡◌, ℕ, zero, suc, ◌+◌, ◌-◌, ◌<◌, ◌≤◌, ◌⊎◌, inl, inr, List, [], ◌∷◌}
-use Rattle.std.proofs.Common.{◌++◌, length, take, drop, Option, Some, None, Ok, Err, refl, sym, ap}
-use Rattle.std.proofs.Common.{subst, ◌∙◌, arith, length-append, length-drop, append_assoc}
-use Rattle.std.specs.Io.KnownBytes.{Appends, Keeps}
+use Rattle.std.proofs.Common.{◌≡◌, ℕ, zero, suc, ◌+◌, ◌-◌, ◌<◌, ◌≤◌, ◌⊎◌, inl, inr, List, [], ◌∷◌, ◌++◌, length, take}
+use Rattle.std.proofs.Common.{drop, Option, Some, None, Ok, Err, refl, sym, ap, subst, ◌∙◌, arith, length-append}
+use Rattle.std.proofs.Common.{length-drop, append_assoc}
+use Rattle.std.specs.Io.KnownBytes.{Appends}
 use Rattle.std.specs.List.{AllByRecursion}
 use Rattle.std.proofs.lemmas.List.{length-take, append-nil, drop-append-le, drop-drop}
 use Rattle.std.proofs.Math.Seq.{take-add}
+use Rattle.std.proofs.KnownBytes.{Appends-trans}
 use Rattle.wl_message.specs.declared.amounts.Amounts.{Amounts}
 use Rattle.wl_message.specs.declared.streams.FlushError.TheVariants.{Io, NeedsTokens}
 use Rattle.wl_message.specs.Outgoing.{QueuedMessage, Outgoing, all_bytes, all_tokens, begun, newly_begun}
@@ -155,16 +156,6 @@ tokens_part o a b =
     ap (λ (ms : List QueuedMessage). length (all_tokens ms)) (newly_more o a b)
     ∙ ap (λ (xs : List ℕ). length xs) (tokens_append first second)
     ∙ length-append (all_tokens first) (all_tokens second)
-
-may_both : (o : Outgoing) (total w n : ℕ) → MayGo o total 0 total → w + n ≤ total → MayGo o (w + n) 0 (w + n)
-may_both o total w n may h =
-    let e : w + n + (total - (w + n)) ≡ total = omega (arith, h) in
-    let t = ap (λ (i : ℕ). length (all_tokens (newly_begun o i))) e in
-    record {
-      there = omega (arith, may.there, h);
-      within = omega arith;
-      tokens_within = omega (arith, t, tokens_part o (w + n) (total - (w + n)), may.tokens_within);
-    }
 
 pub may_first : (o : Outgoing) (total w : ℕ) → MayGo o total 0 total → w ≤ total → MayGo o w 0 w
 may_first o total w may h =
@@ -334,24 +325,11 @@ needs o held w o' holds may written some rest = record {
 
 pub appends_more : (a b c : Option (List ℕ)) (xs : List ℕ) (w n : ℕ) → Appends a b (take w xs)
     → Appends b c (take n (drop w xs)) → Appends a c (take (w + n) xs)
-appends_more None b c xs w n p q = tt
-appends_more (Some a) None c xs w n p q = absurd p
-appends_more (Some a) (Some b) None xs w n p q = absurd q
-appends_more (Some a) (Some b) (Some c) xs w n p q =
-    q ∙ ap (λ (r : List ℕ). r ++ take n (drop w xs)) p ∙ append_assoc a (take w xs) (take n (drop w xs))
-    ∙ ap (λ (r : List ℕ). a ++ r) (sym (take-add w n xs))
+appends_more a b c xs w n p q =
+    subst (Appends a c) (sym (take-add w n xs)) (Appends-trans a b c (take w xs) (take n (drop w xs)) p q)
 
 pub appends_none : (a b c : Option (List ℕ)) (xs : List ℕ) → Appends a b xs → Appends b c [] → Appends a c xs
-appends_none None b c xs p q = tt
-appends_none (Some a) None c xs p q = absurd p
-appends_none (Some a) (Some b) None xs p q = absurd q
-appends_none (Some a) (Some b) (Some c) xs p q = q ∙ append-nil b ∙ p
-
-pub appends_kept : (a b c : Option (List ℕ)) (xs : List ℕ) → Appends a b xs → Keeps b c → Appends a c xs
-appends_kept None b c xs p q = tt
-appends_kept (Some a) None c xs p q = absurd p
-appends_kept (Some a) (Some b) None xs p q = absurd q
-appends_kept (Some a) (Some b) (Some c) xs p q = q ∙ p
+appends_none a b c xs p q = subst (Appends a c) (append-nil xs) (Appends-trans a b c xs [] p q)
 
 -- a prefix of a prefix
 pub take_of_front : (n : ℕ) (part xs : List ℕ) → part ≡ take (length part) xs → n ≤ length part

@@ -1,9 +1,10 @@
 use Rattle.std.proofs.Common.{◌≡◌, ◌⊎◌, ℕ, [], take, drop, ap, sym, subst, ◌∙◌, arith}
+use Rattle.std.proofs.KnownBytes.{Appends-kept}
 use Rattle.wl_message.specs.Outgoing.{Outgoing, MayGo, waiting_bytes, after_taking}
 use Rattle.wl_message.specs.Streams.{NextHasTokens}
 use Rattle.wl_message.proofs.FlushedParts.{after_none, appends_nothing, may_first, may_more}
 use Rattle.wl_message.proofs.FlushedParts.{after_more, waiting_after, appends_more, appends_none}
-use Rattle.wl_message.proofs.FlushedParts.{appends_kept, take_of_front, failed, needs}
+use Rattle.wl_message.proofs.FlushedParts.{take_of_front, failed, needs}
 use Rattle.wl_message.proofs.streams.flush.Goals as goal
 
 pub parts-init : goal.parts-init
@@ -52,7 +53,7 @@ pub returns-in-Err : goal.returns-in-Err
 returns-in-Err g c =
     let i = c.parts.invariant in
     failed c.args.outbox.now _ c.tokenless_len-total.result c.parts.written _ _ i.may (omega (arith, c.parts-test.true))
-    (i.gone, appends_kept _ _ _ _ i.written c.in-Err.ensures.bytes)
+    (i.gone, Appends-kept _ _ _ _ i.written c.in-Err.ensures.bytes)
 
 pub returns-else-is_empty : goal.returns-else-is_empty
 returns-else-is_empty g c =
