@@ -1,32 +1,14 @@
 -- What several writes append.
-use Rattle.std.proofs.Common.{◌≡◌, ◌∙◌, ◌⊎◌, ◌+◌, ◌-◌, ◌<◌, ◌≤◌, ℕ, List, [], ◌++◌, length, drop}
-use Rattle.std.proofs.Common.{take, Option, Some, None, sym, subst, inl, inr, arith}
+use Rattle.std.proofs.Common.{◌≡◌, ◌∙◌, ◌⊎◌, ◌+◌, ◌-◌, ◌<◌, ◌≤◌, ℕ, List, ◌++◌, length, drop, take, Option, sym, subst}
+use Rattle.std.proofs.Common.{inl, inr, arith}
 use Rattle.std.proofs.lemmas.Grind.{common_steps}
 use Rattle.std.proofs.lemmas.Bool.{cases_lt}
 use Rattle.std.proofs.lemmas.List.{take_all}
 use Rattle.std.proofs.Math.Seq.{take-add, take-append-add, take-append_seam}
 use Rattle.std.proofs.lemmas.List.{length-drop, take-append-le}
 use Rattle.std.specs.Io.KnownBytes.{Appends, Keeps}
+use Rattle.std.proofs.KnownBytes.{Appends-kept, Appends-trans}
 use Rattle.program_jobs.specs.Writing.{AppendsFront}
-
--- nothing was appended
-pub appends_none : (a : Option (List ℕ)) → Appends a a []
-appends_none None = tt
-appends_none (Some xs) = grind (arith, common_steps)
-
--- a call that left the writer unchanged
-pub appends_kept : (a b c : Option (List ℕ)) (xs : List ℕ) → Appends a b xs → Keeps b c → Appends a c xs
-appends_kept None b c xs h k = tt
-appends_kept (Some old) None c xs h k = absurd h
-appends_kept (Some old) (Some bs) None xs h k = absurd k
-appends_kept (Some old) (Some bs) (Some cs) xs h k = k ∙ h
-
--- two writes append both texts
-pub appends_more : (a b c : Option (List ℕ)) (xs ys : List ℕ) → Appends a b xs → Appends b c ys → Appends a c (xs ++ ys)
-appends_more None b c xs ys h k = tt
-appends_more (Some old) None c xs ys h k = absurd h
-appends_more (Some old) (Some bs) None xs ys h k = absurd k
-appends_more (Some old) (Some bs) (Some cs) xs ys h k = grind (arith, common_steps)
 
 -- the whole is a front part
 pub front_whole : (a b : Option (List ℕ)) (xs : List ℕ) → Appends a b xs → AppendsFront a b xs
@@ -38,7 +20,7 @@ pub front_more : (a b c : Option (List ℕ)) (xs ys : List ℕ) → Appends a b 
 front_more a b c xs ys h k = (
   length xs + k.0,
   subst (Appends a c) (sym (take-append-add xs ys k.0))
-      (appends_more a b c xs (take k.0 ys) h k.1),
+      (Appends-trans a b c xs (take k.0 ys) h k.1),
 )
 
 -- a front part of the first text is one of both
@@ -62,7 +44,7 @@ wrote_more a b c bytes at n next le is most so_far more =
     let taken : Appends b c (take n (drop at bytes)) = subst (λ (xs : List ℕ). Appends b c (take n xs)) rest more in
     let all : Appends a c (take (at + n) bytes) =
     subst (Appends a c) (sym (take-add at n bytes))
-    (appends_more a b c (take at bytes) (take n (drop at bytes)) so_far taken) in
+    (Appends-trans a b c (take at bytes) (take n (drop at bytes)) so_far taken) in
     (omega (arith, le, is, few, len), subst (λ (m : ℕ). Appends a c (take m bytes)) (sym is) all)
 
 -- one more write, which took nothing
@@ -72,7 +54,7 @@ pub wrote_none : (a b c : Option (List ℕ)) (bytes : List ℕ) (at next : ℕ) 
 wrote_none a b c bytes at next le is so_far keeps = (
   omega (arith, le, is),
   subst (λ (m : ℕ). Appends a c (take m bytes)) (sym is)
-      (appends_kept a b c (take at bytes) so_far keeps),
+      (Appends-kept a b c (take at bytes) so_far keeps),
 )
 
 -- a line is its parts, in the order in which they are written

@@ -1,7 +1,6 @@
 -- Table texts and pieces, one more at a time.
 use Rattle.std.proofs.Common.{◌≡◌, ◌∙◌, ◌⊎◌, ◌+◌, ◌-◌, ◌<◌, ◌≤◌, ℕ, List, [], ◌∷◌, ◌++◌, Option, map, refl, sym, ap}
-use Rattle.std.proofs.Common.{◌==◌, Bool, true, false, IfErr, inl, inr}
-use Rattle.std.proofs.Common.{append_assoc, arith, get_or, length, subst, take}
+use Rattle.std.proofs.Common.{◌==◌, Bool, true, false, inl, inr, append_assoc, arith, get_or, length, subst, take}
 use Rattle.std.specs.Prelude.{if◌then◌else◌, count_by}
 use Rattle.std.proofs.lemmas.Bool.Decides.{nat_tests}
 use Rattle.std.proofs.lemmas.Grind.{common_steps}
@@ -12,7 +11,7 @@ use Rattle.wl_recording.specs.Piece.{Piece, own, recorded_piece}
 use Rattle.wl_recording.specs.declared.piece.Passed.{Passed}
 use Rattle.wl_check.specs.Merged.{same_direction, stream_of}
 use Rattle.std.specs.List.{Contains, IsFirstAndRest, flat_map}
-use Rattle.std.specs.Prelude.{IsErrAnd, OnOk, Result, Ok, Err}
+use Rattle.std.specs.Prelude.{OnOk, Result, Ok, Err}
 use Rattle.std.specs.Result.{is_ok}
 use Rattle.wl_text.specs.declared.fault.TableFault.{TableFault}
 use Rattle.wl_text.specs.declared.fault.TableFault.TheVariants as faults
@@ -31,12 +30,6 @@ use Rattle.program_jobs.specs.declared.tables.ReadText.{ReadText}
 use Rattle.program_jobs.specs.Texts.{AreRead, IsTextOf, NamedText, as_one, is_line_feed, lines_in}
 use Rattle.program_jobs.specs.Texts.{one_text}
 use Rattle.program_jobs.specs.Texts.{Source, named_text, named_texts, own_line, source_of, sources_of}
-
--- an error is refused for its own reason
-pub refused_on : {X E : Type 0} (r : Result X E) (x : E) (R Q : E → Type 0) → IsErrAnd r R → ((e : E) → R e → e ≡ x)
-    → Q x → IfErr r Q
-refused_on (Ok found) x R Q is same h = tt
-refused_on (Err e) x R Q is same h = subst Q (sym (same e is)) h
 
 -- the text of one more file is read
 pub read_more : {T A : Type 0} (remaining : T → Option (List ℕ)) (files : List (TablesFile T))

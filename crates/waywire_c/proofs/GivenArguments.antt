@@ -1,22 +1,16 @@
 -- The arguments of a call, one after another.
 use mathlib.Core.Path.{ap}
-use Rattle.std.proofs.Common.{◌≡◌, ◌≤◌, ◌∙◌, arith, refl, sym, List, [], ◌∷◌, ◌++◌, Some, None, length, take}
+use Rattle.std.proofs.Common.{◌≡◌, ◌≤◌, ◌∙◌, arith, sym, List, ◌++◌, Some, None, length, take}
 use Rattle.std.proofs.lemmas.List.{take_all}
 use Rattle.std.specs.Prelude.{Option, IfSome}
-use mathlib.Core.List.{append_assoc}
 use Rattle.wl_objects.specs.Writing.{Given}
 use Rattle.waywire_c.specs.declared.values.CallArg.{CallArg}
-use Rattle.waywire_c.specs.Values.{all_given, given_before, given_by, given_in}
+use Rattle.waywire_c.specs.Values.{all_given, given_in}
 
 -- the arguments so far, followed by the rest
 abbrev pub ahead : List Given → Option (List Given) → Option (List Given)
 ahead front None = None
 ahead front (Some more) = Some (front ++ more)
-
-pub ahead-one : (front : List Given) (given : Given) (more : Option (List Given))
-    → ahead front (given_before (Some given) more) ≡ ahead (front ++ given ∷ []) more
-ahead-one front given None = refl
-ahead-one front given (Some more) = ap Some (sym (append_assoc front (given ∷ []) more))
 
 -- if there are few arguments, all of them are looked at
 pub few_given : (args : List CallArg) → length args ≤ 6 → all_given (take 6 args) ≡ given_in args

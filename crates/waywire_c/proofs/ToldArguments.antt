@@ -1,6 +1,6 @@
 -- Writing one more argument of a report.
 use Rattle.std.proofs.Common.{◌≡◌, ℕ, ◌+◌, ◌<◌, sym, ap, ◌∙◌, arith, List, [], ◌∷◌, ◌++◌, length, map, take, drop, set}
-use Rattle.std.proofs.lemmas.List.{length-drop, drop_more, take_more, take_more_set, drop-set, drop-set-lt, map-append}
+use Rattle.std.proofs.lemmas.List.{length-drop, drop_more, take_more, take_more_set}
 use Rattle.std.proofs.lemmas.Grind.{common_steps}
 use Rattle.wl_objects.specs.Reading.{Reported}
 use Rattle.waywire_c.specs.declared.values.ReportArg.{ReportArg}

@@ -325,7 +325,7 @@ advertised_keeps_once : (g : AdvertisedGlobal) (n i t : ℕ) → t ≤ advertise
 advertised_keeps_once g n i t = elim (cases_Bool (advertises n i g))
     [ inl both ↦ rw both (omega arith) | inr other ↦ rw other (omega arith) ]
 
-advertised_keeps : (o : Option AdvertisedGlobal) (n i t : ℕ) → t ≤ advertised_by o n i t
+pub advertised_keeps : (o : Option AdvertisedGlobal) (n i t : ℕ) → t ≤ advertised_by o n i t
 advertised_keeps None n i t = omega arith
 advertised_keeps (Some g) n i t = advertised_keeps_once g n i t
 

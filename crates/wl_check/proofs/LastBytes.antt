@@ -1,21 +1,14 @@
 -- A piece brings the last byte of each message that it completes. The messages are those that the
 -- sizes alone cut off.
-use Rattle.std.proofs.Common.{◌≡◌, ℕ, zero, suc, ◌+◌, ◌*◌, ◌<◌, ◌≤◌, Bool, true, false, cond, List}
-use Rattle.std.proofs.Common.{[], ◌∷◌, ◌++◌, length, drop, take, map, refl, sym, ap, ◌∙◌, arith}
-use Rattle.std.proofs.Common.{subst, length-append}
-use Rattle.std.proofs.lemmas.List.{length-drop, get_or_append_left, drop-append-le, drop-drop}
+use Rattle.std.proofs.Common.{◌≡◌, ℕ, zero, suc, ◌+◌, ◌<◌, ◌≤◌, Bool, true, false, cond, List, [], ◌∷◌, ◌++◌, length}
+use Rattle.std.proofs.Common.{drop, take, map, refl, sym, ap, ◌∙◌, arith, subst, length-append}
+use Rattle.std.proofs.lemmas.List.{length-drop, drop-append-le, drop-drop}
 use Rattle.wl_message.specs.Cut.{is_size, told_size, front, Front, More, Bad, Whole, cut_within, messages_in_stream}
 use Rattle.wl_message.proofs.Fronts.{Seen, short, long, whole, bad, seen, front_stands, is_size-true}
-use Rattle.wl_message.proofs.Cuts.{front_spoiled}
+use Rattle.wl_message.proofs.Cuts.{front_spoiled, told_append}
 use Rattle.wl_check.specs.Merged.{Span, span, cutting, cut_at, cut, finish}
 use Rattle.wl_check.specs.Text.{part_of, sound, Brings}
 use Rattle.wl_check.proofs.MessagesOfStream.{step, new_spans, next_within, front_past, place_within}
-
-told_append : (xs ys : List ℕ) → 8 ≤ length xs → told_size (xs ++ ys) ≡ told_size xs
-told_append xs ys h =
-    let p = get_or_append_left xs ys 0 6 (omega arith) in
-    let q = get_or_append_left xs ys 0 7 (omega arith) in
-    λ i. p i + 256 * q i
 
 -- ---- where a message ends
 

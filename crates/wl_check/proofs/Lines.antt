@@ -86,12 +86,6 @@ printed_is ms k = (printed_from ms k, printed_at ms k)
 
 -- ---- the lines
 
--- no line before the first message
-pub lines_none : (tables : List Interface) (s : Session) (o : Output) → [] ≡ wanted o (lines_within tables s 0)
-unfolding lines_within
-lines_none tables s Nothing = refl
-lines_none tables s Lines = refl
-
 -- one more line
 line_more : {A : Type 0} (tables : List Interface) (s : Session) (k : ℕ) (call : Call) (p : Progress A)
     → slice_get (messages tables s) k ≡ Some (Ok call) → IsAt tables s k p

@@ -1,28 +1,27 @@
 -- A longer recording: earlier judgements stay, and what is known after one more message.
-use Rattle.std.proofs.Common.{◌≡◌, ℕ, zero, suc, ◌+◌, ◌-◌, ◌*◌, ◌%◌, ◌/◌, ◌≤◌, Bool, true, false}
-use Rattle.std.proofs.Common.{cond, None, Some, List, [], ◌∷◌, ◌++◌, slice_get, length, take, drop}
-use Rattle.std.proofs.Common.{refl, sym, ap, ◌∙◌, arith, append-nil, append_assoc, length-append}
+use Rattle.std.proofs.Common.{◌≡◌, ℕ, zero, suc, ◌+◌, ◌-◌, ◌*◌, ◌%◌, ◌/◌, ◌≤◌, Bool, true, false, None, Some, List, []}
+use Rattle.std.proofs.Common.{◌∷◌, ◌++◌, slice_get, length, take, drop, refl, sym, ap, ◌∙◌, arith, append-nil}
+use Rattle.std.proofs.Common.{append_assoc, length-append}
 use Rattle.std.proofs.Math.Seq.{take-append_seam}
 use Rattle.std.proofs.lemmas.List.{length-drop, get_or_append_left, drop-append-le, take-append-le}
 use Rattle.std.specs.Prelude.{Option, max, nat_eq}
 use Rattle.std.specs.declared.result.Result.TheVariants.{Ok}
 use Rattle.std.proofs.lemmas.Bool.Decides.{nat_tests}
 use Rattle.std.specs.List.{AllByRecursion}
+use Rattle.wl_check.proofs.KnownAtPlace.{advertised_keeps}
 use Rattle.wl_wire.specs.declared.kind.Iface.{Iface}
 use Rattle.wl_wire.specs.Word.{header_at, number_at}
 use Rattle.wl_sigs.specs.Tables.{Interface}
 use Rattle.wl_message.specs.Cut.{is_size}
 use Rattle.wl_recording.specs.declared.piece.Direction.{Direction}
 use Rattle.wl_recording.specs.Piece.{Piece}
-use Rattle.wl_check.specs.declared.changes.AdvertisedGlobal.{AdvertisedGlobal}
 use Rattle.wl_check.specs.declared.changes.MessageChanges.{MessageChanges}
 use Rattle.wl_check.specs.declared.frames.FramedMessage.{FramedMessage}
 use Rattle.wl_check.specs.Merged.{stream_of, piece_tokens, completed, completed_at, merged, merged_within}
 use Rattle.wl_check.specs.Changes.{Call, changes}
-use Rattle.wl_check.specs.Places.{KnownAtPlace, known, object_named, object_after, used, used_after}
-use Rattle.wl_check.specs.Places.{server_used, server_used_after}
-use Rattle.wl_check.specs.Places.{advertised_version, advertised_after, advertised_by, advertises}
-use Rattle.wl_check.specs.Places.{taken, taken_after, IsKnownBehind}
+use Rattle.wl_check.specs.Places.{KnownAtPlace, known, object_named, object_after, used, used_after, server_used}
+use Rattle.wl_check.specs.Places.{server_used_after, advertised_version, advertised_after, advertised_by, taken}
+use Rattle.wl_check.specs.Places.{taken_after, IsKnownBehind}
 use Rattle.wl_check.specs.Rules.{judged, judged_message}
 use Rattle.wl_check.specs.Session.{Judged, changes_of, changes_at, judged_after, messages, session_of, IsWithin}
 use Rattle.wl_check.proofs.KnownBehindMessage.{named_next}
@@ -198,16 +197,8 @@ behind_one tables e call =
 
 -- ---- what was advertised
 
-once_more : (b : Bool) (v w : ℕ) → w ≤ cond b (max v w) w
-once_more true v w = omega arith
-once_more false v w = omega arith
-
-by_more : (o : Option AdvertisedGlobal) (name iface v : ℕ) → v ≤ advertised_by o name iface v
-by_more None name iface v = omega arith
-by_more (Some global) name iface v = once_more (advertises name iface global) global.version v
-
 pub advertised_more : (changes : MessageChanges) (name iface v : ℕ) → v ≤ advertised_after changes name iface v
-advertised_more changes name iface v = by_more changes.advertised name iface v
+advertised_more changes name iface v = advertised_keeps changes.advertised name iface v
 
 pub advertised_own : (changes : MessageChanges) (name : ℕ) (iface : Iface) (version v : ℕ)
     → changes.advertised ≡ Some (record { name = name; iface = iface; version = version })

@@ -161,10 +161,6 @@ new_spans limit s t = rw (more limit (length s) (length (s ++ t)) s t 0 (omega a
     (cutting limit (length s) s 0).has_bad_size refl)
 
 -- ---- a stream after more bytes
-pub fed_bad : (limit : ℕ) (s t : List ℕ) → (cut limit s).has_bad_size ≡ true → cut limit (s ++ t) ≡ cut limit s
-fed_bad limit s t bad = more limit (length s) (length (s ++ t)) s t 0 (omega arith) (omega arith) (omega arith)
-    ∙ rw bad refl
-
 pub fed_good : (limit : ℕ) (s t : List ℕ) → (cut limit s).has_bad_size ≡ false
     → cut limit (s ++ t) ≡ (let x = cutting limit (length (s ++ t)) (s ++ t) (cut limit s).place
     in record { spans = (cut limit s).spans ++ x.spans; place = x.place; has_bad_size = x.has_bad_size })

@@ -120,19 +120,6 @@ pub record Goes {A : Type 0} (tables : List Interface) (c n : SessionState A) (f
   pub few_to_client : n.progress.known.taken_to_client < c.progress.known.taken_to_client + 2 ^ 64
   pub count : n.count ≡ c.count + 1
 
-pub own_end : {A : Type 0} (c n : SessionState A) (f : FramedMessage) (d : Direction) → f.direction ≡ d
-    → n.progress.to_server ≡ tally_after ToServer f c.progress.to_server
-    → n.progress.to_client ≡ tally_after ToClient f c.progress.to_client
-    → end_in n d ≡ f.start + f.size
-own_end c n f ToServer e a b = rw (a, e) refl
-own_end c n f ToClient e a b = rw (b, e) refl
-
-pub other_end : {A : Type 0} (c n : SessionState A) (f : FramedMessage) (x : Direction)
-    → same_direction f.direction x ≡ false → n.progress.to_server ≡ tally_after ToServer f c.progress.to_server
-    → n.progress.to_client ≡ tally_after ToClient f c.progress.to_client → end_in n x ≡ end_in c x
-other_end c n f ToServer e a b = rw (a, e) refl
-other_end c n f ToClient e a b = rw (b, e) refl
-
 few_step : {A : Type 0} (c n : SessionState A) (f : FramedMessage) (d : Direction) → f.direction ≡ d
     → n.progress.to_server ≡ tally_after ToServer f c.progress.to_server
     → n.progress.to_client ≡ tally_after ToClient f c.progress.to_client

@@ -1,6 +1,5 @@
 -- The greatest version that was advertised, after one more advertisement.
-use Rattle.std.proofs.Common.{◌≡◌, ℕ, Bool, true, false, cond, List, Some, max, ap, sym, ◌∙◌, refl, inl, inr, subst, ◌≤◌}
-use Rattle.std.proofs.Math.Nat.{max-eq_right}
+use Rattle.std.proofs.Common.{◌≡◌, ℕ, Bool, true, false, cond, List, Some, max, ap, sym, ◌∙◌, refl, inl, inr}
 use Rattle.std.specs.Prelude.{nat_eq, nat_lt}
 use Rattle.std.proofs.lemmas.Bool.{and_right, cases_eq, eq-eqb, ne_eqb}
 use Rattle.std.specs.BTreeMap.{is_at}
@@ -57,23 +56,4 @@ version_more global old new q w w_is now = elim (cases_eq global.name q.0) [
       let away = first_apart global.name q.0 (nat_cmp global.iface.0 q.1) a in
       let found : lookup (is_at (pair_cmp q)) new ≡ lookup (is_at (pair_cmp q)) old = rw away at now in
       rw (ne_eqb global.name q.0 a) (ap (λ o. unwrap_or o 0) found)
-]
-
--- nothing changes if a version at least as great was advertised before
-pub version_same : (global : AdvertisedGlobal) (old : List ((ℕ × ℕ) × ℕ)) (q : ℕ × ℕ)
-    → global.version ≤ unwrap_or (lookup (is_at (pair_cmp (global.name, global.iface.0))) old) 0
-    → unwrap_or (lookup (is_at (pair_cmp q)) old) 0
-    ≡ advertised_once global q.0 q.1 (unwrap_or (lookup (is_at (pair_cmp q)) old) 0)
-version_same global old q most = elim (cases_eq global.name q.0) [
-  | inl a ↦ elim (cases_eq global.iface.0 q.1) [
-    | inl b ↦
-        let key : ℕ × ℕ = (global.name, global.iface.0) in
-        let same : key ≡ q = λ i. (a i, b i) in
-        let here : global.version ≤ unwrap_or (lookup (is_at (pair_cmp q)) old) 0 =
-        subst (λ (x : ℕ × ℕ). global.version ≤ unwrap_or (lookup (is_at (pair_cmp x)) old) 0) same most in
-        rw (eq-eqb global.name q.0 a, eq-eqb global.iface.0 q.1 b)
-        (sym (max-eq_right here))
-    | inr b ↦ rw (and_right (nat_eq global.name q.0) (nat_eq global.iface.0 q.1) (ne_eqb global.iface.0 q.1 b)) refl
-  ]
-  | inr a ↦ rw (ne_eqb global.name q.0 a) refl
 ]

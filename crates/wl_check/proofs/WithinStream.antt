@@ -5,11 +5,11 @@ use Rattle.std.proofs.Common.{length-append}
 use Rattle.std.specs.Prelude.{Option}
 use Rattle.std.specs.List.{AllByRecursion}
 use Rattle.std.proofs.lemmas.List.{length-drop}
+use Rattle.wl_check.proofs.MergedPiece.{same_is}
 use Rattle.wl_recording.specs.declared.piece.Direction.{Direction}
-use Rattle.wl_recording.specs.declared.piece.Direction.TheVariants.{ToServer, ToClient}
 use Rattle.wl_recording.specs.Piece.{Piece}
 use Rattle.wl_message.specs.Cut.{is_size, front, Front, More, Bad, Whole}
-use Rattle.wl_message.proofs.Cuts.{front_spoiled}
+use Rattle.wl_message.proofs.Cuts.{front_spoiled, all_append}
 use Rattle.wl_check.specs.declared.frames.FramedMessage.{FramedMessage}
 use Rattle.wl_check.specs.Merged.{Span, cutting, cut_at, cut, same_direction, stream_of, piece_tokens}
 use Rattle.wl_check.specs.Merged.{framed, completed_at, merged_within, merged}
@@ -40,11 +40,6 @@ all_drop : {X : Type 0} (P : X → Type 0) (n : ℕ) (xs : List X) → AllByRecu
 all_drop P zero xs a = a
 all_drop P (suc n) [] a = tt
 all_drop P (suc n) (x ∷ xs) a = all_drop P n xs a.1
-
-all_append : {X : Type 0} (P : X → Type 0) (xs ys : List X) → AllByRecursion P xs → AllByRecursion P ys
-    → AllByRecursion P (xs ++ ys)
-all_append P [] ys a b = b
-all_append P (x ∷ xs) ys a b = (a.0, all_append P xs ys a.1 b)
 
 all_get : {X : Type 0} (P : X → Type 0) (xs : List X) (k : ℕ) (x : X) → AllByRecursion P xs → slice_get xs k ≡ Some x
     → P x
@@ -89,10 +84,6 @@ frames_step limit ps d t n (m ∷ ms) h a = (
   frames_step limit ps d t n ms h a.1,
 )
 
-same_itself : (d : Direction) → same_direction d d ≡ true
-same_itself ToServer = refl
-same_itself ToClient = refl
-
 completed_within : (limit : ℕ) (ps : List Piece) (k : ℕ) (o : Option Piece) → slice_get ps k ≡ o
     → AllByRecursion (LiesIn limit ps) (completed_at limit ps k o)
 completed_within limit ps k None e = tt
@@ -100,7 +91,7 @@ completed_within limit ps k (Some p) e =
     let s = stream_of p.direction (take k ps) in
     frames_step limit ps p.direction (piece_tokens p.direction (take k ps) + p.tokens) (length (s ++ p.bytes))
     (drop (length (cut limit s).spans) (cut limit (s ++ p.bytes)).spans)
-    (stream_le p.direction ps k p e (same_itself p.direction))
+    (stream_le p.direction ps k p e (same_is p.direction))
     (all_drop (FitsIn limit (length (s ++ p.bytes))) (length (cut limit s).spans) (cut limit (s ++ p.bytes)).spans
     (spans_within limit (length (s ++ p.bytes)) (s ++ p.bytes) 0 (omega arith)))
 

@@ -1,6 +1,6 @@
 -- Messages that are followed without being judged: what each says by its target's signature, and
 -- what an id names after it.
-use Rattle.std.specs.Prelude.{◌≡◌, ℕ, ◌+◌, ◌-◌, Bool, true, false, not, ◌&&◌, ◌||◌, nat_eq, nat_le}
+use Rattle.std.specs.Prelude.{◌≡◌, ℕ, ◌+◌, ◌-◌, Bool, false, not, ◌&&◌, ◌||◌, nat_eq, nat_le}
 use Rattle.std.specs.Prelude.{nat_lt, is_some, if◌then◌else◌, List, [], ◌∷◌, ◌++◌, drop, take}
 use Rattle.std.specs.Prelude.{Option, Some, None}
 use Rattle.std.specs.Option.{option_map_or}

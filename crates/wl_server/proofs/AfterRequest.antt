@@ -1,8 +1,7 @@
 -- The state of a server after it read a request.
-use Rattle.std.proofs.Common.{◌≡◌, ◌≢◌, ℕ, ◌+◌, ◌<◌, length, take, drop, get_or, Bool, true, false, List}
-use Rattle.std.proofs.Common.{[], ◌∷◌, ◌++◌, Some, None, map, refl, sym, ap, subst, ◌∙◌, inl, inr, arith}
-use Rattle.std.proofs.Common.{eqb, cond}
-use Rattle.std.specs.Prelude.{Option, ◌||◌, not, if◌then◌else◌, IsOk, IsTrue, is_some}
+use Rattle.std.proofs.Common.{◌≡◌, ◌≢◌, ℕ, ◌+◌, ◌<◌, length, take, drop, get_or, Bool, true, false, List, [], ◌∷◌, ◌++◌}
+use Rattle.std.proofs.Common.{Some, None, map, refl, sym, ap, subst, ◌∙◌, inl, inr, arith}
+use Rattle.std.specs.Prelude.{Option, ◌||◌, not, if◌then◌else◌, IsOk, is_some}
 use Rattle.std.specs.declared.result.Result.{Result}
 use Rattle.std.specs.declared.result.Result.TheVariants.{Ok, Err}
 use Rattle.wl_sigs.specs.Destroys.{Destroys}
@@ -10,14 +9,13 @@ use Rattle.wl_sigs.specs.Destroys.TheVariants.{Nothing, Target, Arg}
 use Rattle.wl_sigs.specs.Side.TheVariants.{Request as request_side}
 use Rattle.wl_sigs.specs.Tables.{Interface}
 use Rattle.wl_wire.specs.declared.kind.Kind.{Kind}
-use Rattle.wl_object_map.specs.declared.object.Entry.{Entry}
 use Rattle.wl_objects.specs.declared.error.Fault.{Fault}
 use Rattle.wl_objects.specs.declared.error.NextError.{NextError}
 use Rattle.wl_objects.specs.declared.error.NextError.TheVariants as errors
 use Rattle.wl_object_map.specs.declared.object.Object.{Object}
-use Rattle.wl_object_map.specs.Objects.{Objects, closed, is_held, look}
+use Rattle.wl_object_map.specs.Objects.{Objects, closed}
 use Rattle.wl_object_map.specs.Ranges.{is_of_server}
-use Rattle.wl_object_map.specs.ObjectsLaws.{look-opened_at, opened_at-client}
+use Rattle.wl_object_map.specs.ObjectsLaws.{opened_at-client}
 use Rattle.wl_objects.specs.declared.parsed.ParsedArg.{ParsedArg}
 use Rattle.wl_objects.specs.Parsed.{reported_of}
 use Rattle.wl_objects.specs.Messages.{NewObject, made, opens, same_iface}
@@ -61,16 +59,6 @@ rise-opened core registries (Some m) f r =
     by_test false = rise-below 0 core.view.client.births (core.view.client.births + 1) registries (omega arith) r
 
 -- ---- the target is still there
-
-held-either : (b : Bool) (e : Entry) (o : Option Entry) → is_some o ≡ true → is_some (cond b (Some e) o) ≡ true
-held-either true e o h = refl
-held-either false e o h = h
-
-pub held-opened : (view : Objects) (made : Option NewObject) (id : ℕ) → IsTrue (is_held view id)
-    → IsTrue (is_held (opens view made) id)
-held-opened view None id h = h
-held-opened view (Some m) id h = ap is_some (look-opened_at view m.id m.iface m.version id)
-    ∙ held-either (eqb id m.id) _ (look view id) h
 
 -- ---- the result, and the state that is left, from the step at the front
 

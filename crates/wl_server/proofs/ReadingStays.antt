@@ -145,10 +145,6 @@ pub inbox_kept : (b : Bool) (id : ℕ) (core : Core) → (with_following b id co
 inbox_kept true id core = refl
 inbox_kept false id core = refl
 
-pub view_kept : (b : Bool) (id : ℕ) (core : Core) → (with_following b id core).view ≡ core.view
-view_kept true id core = refl
-view_kept false id core = refl
-
 failed_kept : (b : Bool) (id : ℕ) (core : Core) → (with_following b id core).failed ≡ core.failed
 failed_kept true id core = refl
 failed_kept false id core = refl

@@ -8,6 +8,7 @@ use Rattle.wl_objects.proofs.WrittenArrives.{All-first}
 use Rattle.std.proofs.lemmas.Bool.{eqb-true, eq-eqb, ne_eqb}
 use Rattle.std.specs.declared.result.Result.{Result}
 use Rattle.std.specs.declared.result.Result.TheVariants.{Ok, Err}
+use Rattle.wl_connection.proofs.ServerRange.{followed_view}
 use Rattle.wl_wire.specs.declared.kind.Iface.{Iface}
 use Rattle.wl_wire.specs.declared.kind.Kind.{Kind}
 use Rattle.wl_wire.specs.declared.kind.Kind.TheVariants as kinds
@@ -49,7 +50,6 @@ use Rattle.wl_server.specs.Steps.{Step, CanEnd, core_without, core_by, registrie
 use Rattle.wl_server.specs.Tellings.{IsAnnounced}
 use Rattle.wl_server.specs.declared.announce.Announced.{Announced}
 use Rattle.wl_server.proofs.OneObject.{one-same, not-one}
-use Rattle.wl_server.proofs.ReadingStays.{view_kept}
 use Rattle.wl_server.proofs.RisingBirths.{rise-without}
 use Rattle.wl_server.proofs.AfterRequest.{rise-opened}
 use Rattle.wl_connection.proofs.NewIds.{one_of, without_client}
@@ -103,22 +103,6 @@ among_before o (x ∷ rs) r h = elim h as (λ _. (r.object ≡ o) ⊎ ((x.object
   | inr p ↦ elim (among_before o rs r p) as (λ _. (r.object ≡ o) ⊎ ((x.object ≡ o) ⊎ IsAmong o rs))
       [ inl q ↦ inl q | inr q ↦ inr (inr q) ]
 ]
-
--- a registry in the list after an opening was there before, or has the next birth
-pub among_after : (core : Core) (rs : List Registry) (m : Option NewObject) (o : Object)
-    → IsAmong o (registries_after core rs m) → IsAmong o rs ⊎ (o.birth ≡ core.view.client.births)
-among_after core rs None o h = inl h
-among_after core rs (Some m) o h = by_test (same_iface m.iface registry) h
-  where
-    new : Registry
-    new = untold (record { id = m.id; birth = core.view.client.births })
-
-    by_test : (b : Bool) → IsAmong o (cond b (rs ++ new ∷ []) rs) → IsAmong o rs ⊎ (o.birth ≡ core.view.client.births)
-    by_test true a = elim (among_before o rs new a) as (λ _. IsAmong o rs ⊎ (o.birth ≡ core.view.client.births)) [
-      | inl p ↦ inr (ap (λ (x : Object). x.birth) (sym p))
-      | inr p ↦ inl p
-    ]
-    by_test false a = inl a
 
 left_if : (o object : Object) (r : Registry) (rs ls : List Registry) (b : Bool) → same_object r.object object ≡ b
     → (IsAmong o ls → (o ≢ object) × IsAmong o rs) → IsAmong o (cond b ls (r ∷ ls))
@@ -265,7 +249,7 @@ has_fewer v rs id f h = record {
 
 -- the objects are the same whether or not a delete_id is written
 view_without : (core : Core) (object : Object) → (core_without (Some object) core).view ≡ closed core.view object.id
-view_without core object = view_kept (not (is_of_server object.id)) object.id
+view_without core object = followed_view (not (is_of_server object.id)) object.id
     (with_view core (closed core.view object.id))
 
 pub births_left : (core : Core) (object : Object)

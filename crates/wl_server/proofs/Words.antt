@@ -11,10 +11,6 @@ use Rattle.std.proofs.lemmas.Bool.{eqb-true, eqb-false}
 use Rattle.std.proofs.lemmas.Nat.Bits.{bit_at_set_same, bit_at_set_other, shr_and_one}
 use Rattle.wl_server.specs.Bits.{bits, has_bit}
 
-pub bits-length : (n p : ℕ) (ws : List ℕ) → length (bits n p ws) ≡ n
-bits-length zero p ws = refl
-bits-length (suc n) p ws = ap (λ (k : ℕ). suc k) (bits-length n (suc p) ws)
-
 -- the bit at a place
 pub bits_get : (n p k : ℕ) (ws : List ℕ) → k < n → slice_get (bits n p ws) k ≡ Some (has_bit ws (p + k))
 bits_get zero p k ws h = absurd (omega arith)

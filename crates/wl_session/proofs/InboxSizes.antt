@@ -5,24 +5,16 @@ use Rattle.std.specs.declared.option.Option.TheVariants.{None, Some}
 use Rattle.std.specs.declared.result.Result.{Result}
 use Rattle.std.specs.declared.result.Result.TheVariants.{Ok, Err}
 use Rattle.wl_message.specs.Arrived.{Arrived}
-use Rattle.wl_sigs.specs.Side.{Side}
-use Rattle.wl_sigs.specs.Tables.{MessageSignature}
-use Rattle.wl_object_map.specs.declared.object.Object.{Object}
 use Rattle.wl_objects.specs.declared.error.SendError.{SendError}
 use Rattle.wl_objects.specs.declared.error.SendError.TheVariants as refusals
 use Rattle.wl_objects.specs.declared.error.NextError.{NextError}
 use Rattle.wl_objects.specs.declared.error.NextError.TheVariants as errors
 use Rattle.wl_objects.specs.declared.error.Fault.{Fault}
-use Rattle.wl_objects.specs.Writing.{Given}
-use Rattle.wl_objects.specs.Messages.{checked}
 use Rattle.wl_connection.specs.Core.{Core}
-use Rattle.wl_connection.specs.Receiving.{Found, found}
+use Rattle.wl_connection.specs.Receiving.{Found}
 use Rattle.wl_connection.specs.Roles.{front_left}
 use Rattle.wl_connection.specs.Outcomes.{unless_memory}
-use Rattle.wl_connection.specs.Sending.{after_send, after_checked, with_following, following, with_sent}
-use Rattle.wl_sigs.specs.Side.TheVariants.{Event as event_side}
-use Rattle.wl_client.specs.State as client
-use Rattle.wl_client.specs.Reports as events
+use Rattle.wl_connection.specs.Sending.{with_following, with_sent}
 use Rattle.wl_server.specs.State as server
 use Rattle.wl_server.specs.Requests as requests
 use Rattle.wl_server.specs.Announcing.{Due, Fitting, with_dues, owed_opcode, values_of, after_announce, owed}
@@ -40,18 +32,6 @@ following_box : (b : Bool) (id : ℕ) (core : Core) → AsLarge (with_following 
 following_box true id core = record { bytes = refl; tokens = refl }
 following_box false id core = record { bytes = refl; tokens = refl }
 
-checked_box : (core : Core) (side : Side) (target : Object) (opcode : ℕ) (given : List Given)
-    (r : Result MessageSignature SendError) → AsLarge (after_checked core side target opcode given r).inbox core.inbox
-checked_box core side target opcode given (Err why) = same_size core.inbox
-checked_box core side target opcode given (Ok signature) =
-    let f = following_box (following side signature.destroys) _ _ in
-    record { bytes = f.bytes; tokens = f.tokens }
-
-pub send_box : (core : Core) (side : Side) (target : Object) (opcode : ℕ) (given : List Given)
-    → AsLarge (after_send core side target opcode given).inbox core.inbox
-send_box core side target opcode given = checked_box core side target opcode given
-    (checked core.outbox.limit.bytes core.tables side core.view target opcode given)
-
 dues_box : (core : Core) (dues : List Due) → AsLarge (with_dues core dues).inbox core.inbox
 dues_box core [] = same_size core.inbox
 dues_box core (due ∷ dues) = let k = dues_box (with_sent core due.object.id (owed_opcode due.owing)
@@ -59,20 +39,6 @@ dues_box core (due ∷ dues) = let k = dues_box (with_sent core due.object.id (o
 
 pub announce_box : (state : server.State) (count : ℕ) → AsLarge (after_announce state count).core.inbox state.core.inbox
 announce_box state count = dues_box state.core (take count (owed state))
-
-found_box : (state : client.State) (r : Result (Option Found) Fault)
-    → AsLarge (front_left events.client_role state r).core.inbox state.core.inbox
-found_box state (Err fault) = record { bytes = refl; tokens = refl }
-found_box state (Ok None) = same_size state.core.inbox
-found_box state (Ok (Some f)) = record { bytes = refl; tokens = refl }
-
-next_client : (state : client.State) (b : Bool) → AsLarge
-    (cond b state (front_left events.client_role state (found state.core event_side))).core.inbox state.core.inbox
-next_client state true = same_size state.core.inbox
-next_client state false = found_box state (found state.core event_side)
-
-pub client_next_box : (state : client.State) → AsLarge (events.after_next state).core.inbox state.core.inbox
-client_next_box state = next_client state state.core.failed
 
 request_box : (state : server.State) (b : Bool) (f : Found)
     → AsLarge (cond b state (requests.state_past state f)).core.inbox state.core.inbox

@@ -16,7 +16,7 @@ use Rattle.wl_object_map.specs.Views.{place_of_id, in_row, in_list, at_null, unu
 use Rattle.wl_object_map.specs.Sounds.{Sound-opening}
 use Rattle.wl_object_map.specs.Objects.{Objects, ObjectsAreSound, IsServerRangeNew, look, ids_used, next_birth}
 use Rattle.wl_object_map.specs.Objects.{no_interface, row_count}
-use Rattle.wl_object_map.specs.ObjectsLaws.{in_range-client, in_range-server, is_from, of_client, of_server}
+use Rattle.wl_object_map.specs.ObjectsLaws.{in_range-client, in_range-server, is_from, of_server}
 use Rattle.theory_connection.specs.Runs.{AgreeByClient, AgreeByServer, is_freed, is_zombie}
 use Rattle.wl_session.specs.Room.{AreSame, AreSameByServer, SameByServer, both_live, was_freed}
 use Rattle.wl_session.specs.Room.{client_count, object_count}
@@ -69,12 +69,6 @@ same_of_client client server most c s l n h = record {
             (without server id range (no_row server.client id s.client (omega (arith, n, past))))
       ])
     ]
-
-pub same_at : (client server : Objects) (id most : ℕ) → AgreeByClient client server → id < 1 + most
-    → most ≤ 1048576 → AreSame (look client id) (look server id)
-same_at client server id most a high limit =
-    let range = of_client id (omega (arith, high, limit)) in
-    record { same = a.same id range; live = λ e h. a.live id e range h }
 
 -- ---- the server's range
 

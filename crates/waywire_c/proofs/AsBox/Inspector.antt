@@ -8,7 +8,6 @@ use Rattle.std_heap.specs.contracts.GlobalAllocator.TheImpl.{ghosts, dict}
 use Rattle.std_heap.proofs.Global.TheLaws as heap
 use Rattle.waywire_c.specs.contracts.held.HeldInspector as Held
 use Rattle.waywire_c.proofs.held.HeldInspector.TheLaws as held
-use Rattle.waywire_c.specs.contracts.parts.Parts as Parts
 use Rattle.waywire_c.specs.contracts.inspector_handle.InspectorHandle as Handle
 
 abbrev pub E : Bx
@@ -17,9 +16,6 @@ E = record {
   laws = held.the_row_laws;
   al = record { row = Heap.the_row; laws = heap.the_row_laws; g = ghosts; d = dict; drops = impl [] tnil dnil };
 }
-
-abbrev pub FromParts : Slot 0
-FromParts = plain (λ _. Parts.the_row Held.the_row Heap.the_row ghosts)
 
 abbrev pub FromHandle : Slot 0
 FromHandle = plain (λ _. Handle.the_row)

@@ -1,10 +1,11 @@
 use Rattle.std.proofs.Common.{◌∙◌, List, ap, map, rules, subst}
 use Rattle.std.specs.Prelude.{string_bytes}
+use Rattle.wl_recording.proofs.TextLemmas.{refused_on}
 use Rattle.program_jobs.specs.declared.tables.ReadText.{ReadText}
 use Rattle.program_jobs.specs.Failing.{IsTablesFailure}
 use Rattle.program_jobs.specs.Output.{IsTablesRefusal}
 use Rattle.program_jobs.specs.Texts.{as_one, named_texts, sources_of}
-use Rattle.program_jobs.proofs.Texts.{gives_none, loads, refused_on, some_sources}
+use Rattle.program_jobs.proofs.Texts.{gives_none, loads, some_sources}
 use Rattle.program_jobs.proofs.tables.load_tables.Goals as goal
 
 pub returns-in_err-texts-clause-refused : goal.returns-in_err-texts-clause-refused

@@ -1,11 +1,12 @@
 use Rattle.std.proofs.Common.{List, [], length, rules, subst, sym}
 use Rattle.std.proofs.lemmas.Iterator.Consumers.{YieldsList-turn}
 use Rattle.std.proofs.lemmas.Iterator.Adapters.{YieldsList-from_vec}
+use Rattle.wl_recording.proofs.TextLemmas.{refused_on}
 use Rattle.program_jobs.specs.declared.tables.ReadText.{ReadText}
 use Rattle.program_jobs.specs.Output.{IsTablesRefusal}
 use Rattle.program_jobs.specs.Texts.{AreRead, named_texts, no_text, source_of, sources_of}
 use Rattle.program_jobs.proofs.Opening.{contains_mapped}
-use Rattle.program_jobs.proofs.Texts.{read_more, refused_on, unread}
+use Rattle.program_jobs.proofs.Texts.{read_more, unread}
 use Rattle.program_jobs.proofs.tables.read_all.Goals as goal
 
 pub files-init : goal.files-init

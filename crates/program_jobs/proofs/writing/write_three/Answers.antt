@@ -1,8 +1,9 @@
 use Rattle.std.proofs.Common.{◌++◌, subst}
 use Rattle.std.specs.Io.KnownBytes.{Appends}
 use Rattle.std.proofs.lemmas.Result.{IfOk-weaker}
+use Rattle.std.proofs.KnownBytes.{Appends-trans}
 use Rattle.program_jobs.specs.Writing.{AppendsFront}
-use Rattle.program_jobs.proofs.Fronts.{appends_more, front_first, front_more}
+use Rattle.program_jobs.proofs.Fronts.{front_first, front_more}
 use Rattle.program_jobs.proofs.writing.write_three.Goals as goal
 
 pub returns-in_err-write_whole-clause-front : goal.returns-in_err-write_whole-clause-front
@@ -19,9 +20,9 @@ returns-in_err-write_whole-2-clause-front g c =
 
 pub returns-clause-whole : goal.returns-clause-whole
 returns-clause-whole g c = IfOk-weaker c.write_whole-3.result _ _
-    (λ done last. appends_more _ _ _ c.args.first.now (c.args.second.now ++ c.args.third.now)
+    (λ done last. Appends-trans _ _ _ c.args.first.now (c.args.second.now ++ c.args.third.now)
     (subst (Appends _ _) c.as_bytes.ensures.value c.in_ok-write_whole.ensures.whole)
-    (appends_more _ _ _ c.args.second.now c.args.third.now
+    (Appends-trans _ _ _ c.args.second.now c.args.third.now
     (subst (Appends _ _) c.as_bytes-2.ensures.value c.in_ok-write_whole-2.ensures.whole)
     (subst (Appends _ _) c.as_bytes-3.ensures.value last)))
     c.write_whole-3.ensures.whole

@@ -1,4 +1,3 @@
-use Rattle.std.proofs.Common.{◌≡◌}
 use Rattle.program_jobs.proofs.Fronts.{wrote_more, wrote_none}
 use Rattle.program_jobs.proofs.writing.write_whole.Goals.{in-Ok, in-Err+else-ne}
 use Rattle.program_jobs.proofs.writing.write_whole.Goals as goal

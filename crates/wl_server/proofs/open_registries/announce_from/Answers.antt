@@ -1,6 +1,7 @@
-use Rattle.std.proofs.Common.{◌≡◌, ◌<◌, Bool, true, false, not, List, [], ◌∷◌, length, length-set, get_or}
-use Rattle.std.proofs.Common.{refl, sym, ap, subst, ◌∙◌, arith}
+use Rattle.std.proofs.Common.{◌≡◌, ◌<◌, true, false, List, [], ◌∷◌, length, length-set, get_or, refl, sym, ap, subst}
+use Rattle.std.proofs.Common.{◌∙◌, arith}
 use Rattle.std.proofs.lemmas.List.{get_or_default}
+use Rattle.std.proofs.lemmas.Bool.{not-true, not-false}
 use Rattle.wl_connection.specs.Core.{Core, IsOrdinary}
 use Rattle.wl_server.specs.declared.registry.RegistrySlot.{RegistrySlot}
 use Rattle.wl_server.specs.Announcing.{Due, due_to, owed_in}
@@ -12,14 +13,6 @@ use Rattle.wl_server.proofs.Slots.{before, birth_in, is_open, open-set, owed-beh
 use Rattle.wl_server.proofs.Slots.{settled-past, settled-told}
 use Rattle.wl_server.proofs.open_registries.announce_from.Goals.{then-slots-place+else-not-told, else-slots-place}
 use Rattle.wl_server.proofs.open_registries.announce_from.Goals as goal
-
-not-true : (b : Bool) → not b ≡ true → b ≡ false
-not-true true e = sym e
-not-true false e = refl
-
-not-false : (b : Bool) → not b ≡ false → b ≡ true
-not-false true e = refl
-not-false false e = sym e
 
 pub places-init : goal.places-init
 places-init g c =

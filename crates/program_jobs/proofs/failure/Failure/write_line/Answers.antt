@@ -3,7 +3,8 @@ use Rattle.program_jobs.specs.Failing.{failure_text}
 use Rattle.program_jobs.specs.Writing.{AppendsFront}
 use Rattle.std.specs.Io.KnownBytes.{Appends}
 use Rattle.std.proofs.lemmas.Result.{IfOk-weaker}
-use Rattle.program_jobs.proofs.Fronts.{appends_more, front_first, front_more, line_is}
+use Rattle.std.proofs.KnownBytes.{Appends-trans}
+use Rattle.program_jobs.proofs.Fronts.{front_first, front_more, line_is}
 use Rattle.program_jobs.proofs.failure.Failure.write_line.Goals as goal
 
 abbrev begins : List ℕ
@@ -50,9 +51,9 @@ returns-clause-whole g c =
     IfOk-weaker c.write_whole-2.result _ _
     (λ done last. subst (Appends _ _) (line_is begins r.0.now r.1.now r.2.now r.3.now r.4.now r.5.now
     (failure_text c.args.self.now) ends c.parts.ensures)
-    (appends_more _ _ _ begins (head ++ (tail ++ ends)) c.in_ok-write_whole.ensures.whole
-    (appends_more _ _ _ head (tail ++ ends) c.in_ok-write_three.ensures.whole
-    (appends_more _ _ _ tail ends c.in_ok-write_three-2.ensures.whole last))))
+    (Appends-trans _ _ _ begins (head ++ (tail ++ ends)) c.in_ok-write_whole.ensures.whole
+    (Appends-trans _ _ _ head (tail ++ ends) c.in_ok-write_three.ensures.whole
+    (Appends-trans _ _ _ tail ends c.in_ok-write_three-2.ensures.whole last))))
     c.write_whole-2.ensures.whole
 
 pub returns-clause-front : goal.returns-clause-front
