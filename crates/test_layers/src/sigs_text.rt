@@ -296,8 +296,8 @@ const SHORT_AND_LONG: &[u8] =
     b"interface name_of_thirty_bytes_in_all_v1 7\nrequest none\nrequest name_of_thirty_bytes_in_all_v1 i u f ?s\nrequest name_of_thirty_one_bytes_in_all o(wl_surface) n(wl_output) h a ?o(wl_seat) D @2\ninterface name_of_thirty_one_bytes_in_all 1\nevent s s D\n";
 
 static PRINTED: [&str; 14] = [
-    "Entry { name: [110, 97, 109, 101, 95, 111, 102, 95, 116, 104, 105, 114, 116, 121, 95, ",
-    "98, 121, 116, 101, 115, 95, 105, 110, 95, 97, 108, 108, 95, 118, 49], version: 7, ",
+    "StoredInterface { name: [110, 97, 109, 101, 95, 111, 102, 95, 116, 104, 105, 114, 116, ",
+    "121, 95, 98, 121, 116, 101, 115, 95, 105, 110, 95, 97, 108, 108, 95, 118, 49], version: 7, ",
     "requests: [Signature { name: [110, 111, 110, 101], since: 1, kinds: [], destroys: ",
     "Nothing }, Signature { name: [110, 97, 109, 101, 95, 111, 102, 95, 116, 104, 105, 114, ",
     "116, 121, 95, 98, 121, 116, 101, 115, 95, 105, 110, 95, 97, 108, 108, 95, 118, 49], ",
@@ -306,8 +306,8 @@ static PRINTED: [&str; 14] = [
     "95, 111, 110, 101, 95, 98, 121, 116, 101, 115, 95, 105, 110, 95, 97, 108, 108], since: ",
     "2, kinds: [Obj { null: false, iface: Some(Iface(7)) }, New(Some(Iface(13))), Fd, ",
     "Array, Obj { null: true, iface: Some(Iface(9)) }], destroys: Target }], events: [] }, ",
-    "Entry { name: [110, 97, 109, 101, 95, 111, 102, 95, 116, 104, 105, 114, 116, 121, 95, ",
-    "111, 110, 101, 95, 98, 121, 116, 101, 115, 95, 105, 110, 95, 97, 108, 108], version: ",
+    "StoredInterface { name: [110, 97, 109, 101, 95, 111, 102, 95, 116, 104, 105, 114, 116, ",
+    "121, 95, 111, 110, 101, 95, 98, 121, 116, 101, 115, 95, 105, 110, 95, 97, 108, 108], version: ",
     "1, requests: [], events: [Signature { name: [115], since: 1, kinds: [Str { null: false ",
     "}], destroys: Target }] }] }",
 ];
@@ -325,8 +325,9 @@ fn tables_print_as_lists(rt: HostRuntime) -> Result<(), Fail> {
         end.push_str(part)?;
     }
     assert!(rt;
-        text.as_str()
-            .starts_with("Tables { interfaces: [Entry { name: [119, 108, 95, 100")
+        text.as_str().starts_with(
+            "Tables { interfaces: [StoredInterface { name: [119, 108, 95, 100"
+        )
     );
     assert!(rt; text.as_str().ends_with(end.as_str()));
     Ok(())

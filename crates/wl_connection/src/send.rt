@@ -25,8 +25,8 @@ use crate::receive::MAX_TOKENS;
 use crate::shared::Core;
 use wl_object_map::{DISPLAY_ID, Maker};
 use wl_objects::{
-    Arg, BindMessage, CallMessage, CheckedCall, Object, SendError, Table, TableError, check_call,
-    maker_by, take_tokens,
+    Arg, BindMessage, CallMessage, CheckedCall, Object, SendError, SideTables, Table, TableError,
+    check_call, maker_by, take_tokens,
 };
 use wl_sigs::event::wl_display::{DELETE_ID, ERROR};
 use wl_sigs::{Destroys, Side};
@@ -310,8 +310,11 @@ impl<'t, T: Table> Core<'t, T> {
             return Err(SendError::Failed);
         }
         let limit = self.outbox.limit().bytes;
-        let tables = self.tables;
-        let call = check_call(tables, side, &self.objects, target, opcode, args, limit)?;
+        let writer = SideTables {
+            tables: self.tables,
+            side,
+        };
+        let call = check_call(writer, &self.objects, target, opcode, args, limit)?;
         self.write_checked(side, target, opcode, args, call)
     }
 }

@@ -15,9 +15,9 @@ ghost use Rattle.wl_objects.specs.Writing.{suits, tokens_of, wired, wrong_place,
 
 use crate::argument::Arg;
 use crate::error::SendError;
-use crate::messages::is_hidden;
+use crate::messages::{SideTables, is_hidden};
 use wl_object_map::{Entry, Object, Objects, State, Table};
-use wl_sigs::{Side, Signature, Tables};
+use wl_sigs::Signature;
 use wl_wire::{HEADER_LEN, Iface, Kind, has_nul};
 
 /// A call that passed its checks.
@@ -47,8 +47,7 @@ struct Measured {
 /// this limit in bytes), else the target's entry, the message's signature and the measure of its
 /// arguments. Allocates nothing.
 pub fn check_call<'t, T: Table>(
-    tables: &'t Tables,
-    side: Side,
+    writer: SideTables<'t>,
     objects: &Objects<T>,
     target: Object,
     opcode: u16,
@@ -56,8 +55,8 @@ pub fn check_call<'t, T: Table>(
     limit: u16,
 ) -> Result<CheckedCall<'t>, SendError>
     requires { 8 ≤ limit }
-    ensures answer { signature_in result ≡ checked limit tables.now side
-        objects.now target opcode (given args.now) }
+    ensures answer { signature_in result ≡ checked limit writer.entry.tables.now
+        writer.entry.side objects.now target opcode (given args.now) }
     ensures entry { IfOk result (λ call. look objects.now target.id ≡ Some call.entry) }
     ensures len { IfOk result
         (λ call. (id : ℕ) → call.len ≡ message_len (on_wire id args.now)) }
@@ -71,8 +70,9 @@ pub fn check_call<'t, T: Table>(
     ensures few { IfOk result (λ _. length args.now ≤ max_args) }
     // Always true; known here because the objects and the tables were read.
     ensures sound { ObjectsAreSound objects.now }
-    ensures valid { IfOk result (λ _. Valid tables.now) }
+    ensures valid { IfOk result (λ _. Valid writer.entry.tables.now) }
 {
+    let SideTables { tables, side } = writer;
     let entry = match live_row(objects, target) {
         Some(entry) => entry,
         None => return Err(SendError::Stale),

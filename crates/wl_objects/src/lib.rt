@@ -25,7 +25,9 @@ pub use argument::{Arg, Got, GotRef, Named};
 pub use calling::{CheckedCall, check_call, live_row};
 pub use error::{Fault, NextError, SendError};
 pub use lookup::{Lookup, NewId, ObjectsLookup, waits_for_request};
-pub use messages::{DISPLAY, REGISTRY, is_bind, is_delete_id, is_error, is_hidden, maker_by};
+pub use messages::{
+    DISPLAY, REGISTRY, SideTables, is_bind, is_delete_id, is_error, is_hidden, maker_by,
+};
 pub use new_object::{NewObject, made_by_message};
 pub use parsed::{ParsedArg, ParsedArgs};
 pub use reading::{Received, receive};

@@ -3,8 +3,15 @@ ghost use Rattle.std.specs.Prelude.{◌≡◌};
 ghost use Rattle.wl_objects.specs.Messages.{is_error, is_delete_id, is_bind, is_hidden, maker_by};
 
 use wl_object_map::Maker;
-use wl_sigs::{Side, event, request};
+use wl_sigs::{Side, Tables, event, request};
 use wl_wire::Iface;
+
+/// The tables, and the side that writes messages by them.
+#[derive(Clone, Copy)]
+pub struct SideTables<'t> {
+    pub tables: &'t Tables,
+    pub side: Side,
+}
 
 /// Who makes the objects of messages of a side.
 pub fn maker_by(side: Side) -> Maker
