@@ -1,52 +1,42 @@
--- What a client finds in the frame of its first message.
-use Rattle.std.proofs.Common.{◌≡◌, ℕ, ◌<◌, ◌≤◌, List, length, take, drop, get_or, refl, sym, ap, ◌∙◌}
-use Rattle.std.proofs.Common.{subst, arith}
+-- What a client finds at the front of its inbox.
+use Rattle.std.proofs.Common.{◌≡◌, ℕ, ◌<◌, ◌≤◌, false, List, length, take, drop, get_or, refl, sym, ap, ◌∙◌}
+use Rattle.std.proofs.Common.{inl, inr, subst, arith}
 use Rattle.std.proofs.lemmas.List.{take-take}
-use Rattle.std.specs.Prelude.{if◌then◌else◌}
+use Rattle.std.specs.Prelude.{if◌then◌else◌, IfSome}
 use Rattle.std.specs.declared.option.Option.{Option}
-use Rattle.std.specs.declared.option.Option.TheVariants.{Some}
+use Rattle.std.specs.declared.option.Option.TheVariants.{Some, None}
+use Rattle.std.specs.declared.result.Result.{Result}
 use Rattle.std.specs.declared.result.Result.TheVariants.{Ok, Err}
-use Rattle.wl_wire.specs.declared.header.Header.{Header}
-use Rattle.wl_wire.specs.Word.{IsHeader}
 use Rattle.wl_sigs.specs.Side.TheVariants.{Event as event_side}
 use Rattle.wl_sigs.specs.Valid.{Valid}
-use Rattle.wl_message.specs.declared.inbox.Frame.{Frame}
-use Rattle.wl_message.specs.Arrived.{TellsFront, in_front}
+use Rattle.wl_message.specs.Arrived.{in_front}
 use Rattle.wl_message.specs.Cut.{Whole, message_size}
 use Rattle.wl_object_map.specs.declared.object.State.{State as ObjectState}
 use Rattle.wl_object_map.specs.declared.object.State.TheVariants.{Live, Zombie}
 use Rattle.wl_objects.specs.declared.error.Fault.{Fault}
+use Rattle.wl_objects.specs.declared.error.NextError.{NextError}
 use Rattle.wl_objects.specs.declared.parsed.ParsedArg.{ParsedArg}
-use Rattle.wl_objects.specs.Messages.{Received, received, reader_of}
 use Rattle.wl_connection.specs.Core.{Core}
-use Rattle.wl_connection.specs.Receiving.{Found, found, found_in, takes, own_tokens}
+use Rattle.wl_connection.specs.FirstMessage.{HasParsed, IsFrontMeaning, body_of}
+use Rattle.wl_connection.specs.Outcomes.{read_as}
+use Rattle.wl_connection.specs.Receiving.{Found, found, header_of, takes, own_tokens, reader_in}
+use Rattle.wl_connection.specs.Roles.{front_answer, role_answer}
 use Rattle.wl_connection.specs.ServerRange.{IsMadeBySome, NoEventEnds, OpensHolding, OpensLasting, OpensMadeBySome}
 use Rattle.wl_connection.proofs.MadeByEvent.{IsMadeByEvent}
+use Rattle.wl_connection.proofs.Roles.{answers}
 use Rattle.wl_connection.proofs.ServerRange.{opens_by, opens_made}
 use Rattle.wl_client.specs.declared.pending.PendingEvent.{PendingEvent}
-use Rattle.wl_client.specs.Reports.{Report, report, Event, Discarded, is_error_event}
+use Rattle.wl_client.specs.State.{State}
+use Rattle.wl_client.specs.Reports.{Report, report, Event, Discarded, client_role, is_error_event}
 use Rattle.wl_client.specs.Reports.{is_delete_event, deleted_id, error_report, delete_report}
 use Rattle.wl_client.specs.Reports.{plain_report, event_opens, opens_row}
 use Rattle.wl_client.specs.Steps.{CanOpen, end_with, made_by_found, report_by}
 use Rattle.wl_connection.proofs.ReceivedMessage.{is_received}
-use Rattle.wl_client.specs.Reading.{CanTake, IsPending, IsPendingOf, IsAhead, IsFront, body_of, front_report, headed}
+use Rattle.wl_client.specs.Reading.{CanTake, IsPending, IsPendingOf, IsAhead, IsNextEvent, front_report}
 use Rattle.wl_client.specs.Outlines.{outlined}
 use Rattle.wl_client.proofs.Makings.{can_open, event_makes_none}
 use Rattle.wl_connection.proofs.FoundStays.{IsFound, is_found, reported_own}
-use Rattle.wl_connection.proofs.Frames.{IsFrame, descriptors-le, found_frame, framed, same-body, same-tokens}
-
--- a message has at most twenty values and takes at most twenty tokens
-record FewOf (m : Received) : Type 0 where
-  values : length m.values ≤ 20
-  taken : takes m ≤ 20
-
-few_of : (core : Core) (h : Header) (body : List ℕ) (waiting : ℕ) (m : Received) → Valid core.tables
-    → received core.tables event_side (reader_of core.tables event_side core.view) h body waiting ≡ Ok m → FewOf m
-few_of core h body waiting m v e =
-    let p = is_received core.tables event_side (reader_of core.tables event_side core.view) h body waiting m e in
-    let small : length m.signature.kinds ≤ 20 = v.small.arguments event_side m.entry.iface.0 h.opcode m.signature
-    p.signature in
-    record { values = omega (arith, p.values); taken = omega (arith, descriptors-le m.signature.kinds) }
+use Rattle.wl_connection.proofs.Frames.{descriptors-le, read_at_front, same-body, same-tokens}
 
 -- ---- a message's own tokens are enough for its report
 
@@ -64,92 +54,77 @@ report_own core f h =
     then delete_report core (deleted_id f) else x)
     (plain_own core f f.message.entry.state h)
 
--- ---- what is found in a frame
-
 -- the tokens that the message takes are enough for its report
-own_reported : (core : Core) (h : Header) (body : List ℕ) (args : List ParsedArg) (event : PendingEvent) (m : Received)
-    → found core event_side ≡ Ok (Some (headed h m)) → IsPending core.tables core.view body args (headed h m) event
-    → outlined body args (take event.tokens core.inbox.tokens) event.outline ≡ report core (headed h m)
-own_reported core h body args event m found_it s =
+own_reported : (core : Core) (body : List ℕ) (args : List ParsedArg) (f : Found) (event : PendingEvent)
+    → found core event_side ≡ Ok (Some f) → IsPending core.tables core.view body args f event
+    → outlined body args (take event.tokens core.inbox.tokens) event.outline ≡ report core f
+own_reported core body args f event e s =
     ap (λ (k : ℕ). outlined body args (take k core.inbox.tokens) event.outline) s.tokens_taken
-    ∙ (s.report (own_tokens core m) ∙ report_own core (headed h m) (is_found core event_side (headed h m) found_it))
+    ∙ (s.report (own_tokens core f.message) ∙ report_own core f (is_found core event_side f e))
 
-ahead : (core : Core) (h : Header) (body : List ℕ) (args : List ParsedArg) (waiting : ℕ) (event : PendingEvent)
-    (m : Received) → Valid core.tables → IsFrame core h body waiting
-    → received core.tables event_side (reader_of core.tables event_side core.view) h body waiting ≡ Ok m
-    → found core event_side ≡ Ok (Some (headed h m)) → IsPending core.tables core.view body args (headed h m) event
-    → IsAhead core args (headed h m) event
-ahead core h body args waiting event m v f e found_it s =
-    let p = is_received core.tables event_side (reader_of core.tables event_side core.view) h body waiting m e in
-    let b = few_of core h body waiting m v e in
-    let behind : body_of core h.size ≡ body = ap (drop 8) f.parts in
-    let new = made_by_found core.tables (headed h m) in
-    let opens : OpensHolding (IsMadeByEvent core.tables) new = opens_made core.tables v m.entry.iface.0 h.opcode
+-- ---- the first event can be taken
+
+ahead : (core : Core) (args : List ParsedArg) (f : Found) (event : PendingEvent) → HasParsed event_side core args f
+    → IsPending core.tables core.view (body_of core f.size) args f event → IsAhead core args f event
+ahead core args f event h s =
+    let z = read_at_front core event_side f h.is_found in
+    let header = header_of core.inbox.bytes in
+    let body = body_of core f.size in
+    let waiting = length core.inbox.tokens in
+    let m = f.message in
+    let v : Valid core.tables = h.valid in
+    let p = is_received core.tables event_side (reader_in core event_side) header body waiting m z.2 in
+    let few : length m.signature.kinds ≤ 20 = v.small.arguments event_side m.entry.iface.0 header.opcode m.signature
+    p.signature in
+    let new = made_by_found core.tables f in
+    let opens : OpensHolding (IsMadeByEvent core.tables) new = opens_made core.tables v m.entry.iface.0 header.opcode
     m.entry.version m.signature m.values new p.signature refl in
     record {
       can_take = record {
-        message = f.whole ∙ ap Whole (sym s.bytes);
-        few = omega (arith, b.taken, s.tokens_taken);
-        waiting = omega (arith, p.tokens, f.tokens, s.tokens_taken);
+        message = z.0 ∙ ap Whole (sym s.bytes);
+        few = omega (arith, few, descriptors-le m.signature.kinds, s.tokens_taken);
+        waiting = omega (arith, p.tokens, s.tokens_taken);
         made = subst (CanOpen core.tables core.view) (sym s.made)
-            (can_open core.tables core.view h body waiting m (made_by_found core.tables (headed h m)) v e refl);
+            (can_open core.tables core.view header body waiting m new v z.2 refl);
         lasting = subst (OpensLasting core.tables) (sym s.made)
             (opens_by (IsMadeByEvent core.tables) (NoEventEnds core.tables) (λ iface i. i.lasting) new opens);
         by_some = subst (OpensMadeBySome core.tables) (sym s.made)
             (opens_by (IsMadeByEvent core.tables) (IsMadeBySome core.tables) (λ iface i. i.by_some) new opens);
         change = s.can;
         entry = s.entry;
-        wants = ap (event_opens core) found_it ∙ ap (opens_row core.view) (sym s.made);
+        wants = ap (event_opens core) h.is_found ∙ ap (opens_row core.view) (sym s.made);
         none = λ none. s.made
-            ∙ event_makes_none core.tables m.entry.iface.0 h.opcode m.entry.version m.signature m.values v none
+            ∙ event_makes_none core.tables m.entry.iface.0 header.opcode m.entry.version m.signature m.values v none
             p.signature;
       };
-      is_pending = subst (λ (l : List ℕ). IsPending core.tables core.view l args (headed h m) event) (sym behind) s;
+      is_pending = s;
       is_reported =
           ap (λ (k : ℕ). outlined (body_of core k) args (take event.tokens core.inbox.tokens) event.outline) s.bytes
-          ∙ (ap (λ (l : List ℕ). outlined l args (take event.tokens core.inbox.tokens) event.outline) behind
-          ∙ own_reported core h body args event m found_it s);
+          ∙ own_reported core body args f event h.is_found s;
     }
 
-pub found_headed : (core : Core) (h : Header) (body : List ℕ) (waiting : ℕ) (m : Received) → IsFrame core h body waiting
-    → received core.tables event_side (reader_of core.tables event_side core.view) h body waiting ≡ Ok m
-    → found core event_side ≡ Ok (Some (headed h m))
-found_headed core h body waiting m f e = found_frame core event_side h body waiting f ∙ ap (found_in h.size h.opcode) e
+-- ---- what `find` returns and leaves
 
-pending_is : (core : Core) (h : Header) (body : List ℕ) (args : List ParsedArg) (waiting : ℕ) (event : PendingEvent)
-    → Valid core.tables → IsFrame core h body waiting
-    → IsPendingOf core.tables core.view h body args
-    (received core.tables event_side (reader_of core.tables event_side core.view) h body waiting) (Ok event)
-    → IsFront core args (found core event_side) (Ok (Some event))
-pending_is core h body args waiting event v f s =
-    let e = found_headed core h body waiting s.0 f s.1 in
-    (headed h s.0, e, ahead core h body args waiting event s.0 v f s.1 e s.2)
+pub fault_found : (core : Core) (args : List ParsedArg) (fault : Fault)
+    → IsFrontMeaning event_side IsPendingOf core args (Err fault) → found core event_side ≡ Err fault
+fault_found core args fault (inl e) = e
+fault_found core args fault (inr w) = absurd w.2
 
-fault_is : (core : Core) (h : Header) (body : List ℕ) (waiting : ℕ) (fault : Fault) → IsFrame core h body waiting
-    → received core.tables event_side (reader_of core.tables event_side core.view) h body waiting ≡ Err fault
-    → found core event_side ≡ Err fault
-fault_is core h body waiting fault f s = found_frame core event_side h body waiting f ∙ ap (found_in h.size h.opcode) s
+pub answer_found : (state : State) (args : List ParsedArg) (event : Option PendingEvent) → state.core.failed ≡ false
+    → IsFrontMeaning event_side IsPendingOf state.core args (Ok event)
+    → read_as (front_report state.core args) (Ok event) ≡ role_answer client_role state
+answer_found state args None lives s =
+    sym (answers client_role state lives ∙ ap (front_answer client_role state.core) s)
+answer_found state args (Some event) lives s =
+    ap (λ (r : Report). let answer : Result (Option Report) NextError = Ok (Some r) in answer)
+    (ahead state.core args s.0 event s.1 s.2).is_reported
+    ∙ sym (answers client_role state lives ∙ ap (front_answer client_role state.core) s.1.is_found)
 
--- ---- with the values that the code has
-
-pub pending_told : (core before : Core) (args : List ParsedArg) (o : Option Frame) (f : Frame) (event : PendingEvent)
-    → core ≡ before → o ≡ Some f → TellsFront core.inbox (Ok o) → IsHeader f.header → Valid core.tables
-    → IsPendingOf core.tables core.view f.header f.body.now args
-    (received core.tables event_side (reader_of core.tables event_side core.view) f.header f.body.now f.tokens)
-    (Ok event)
-    → IsFront before args (found before event_side) (Ok (Some event))
-pending_told core before args o f event same e t h v s =
-    subst (λ (c : Core). IsFront c args (found c event_side) (Ok (Some event))) same
-    (pending_is core f.header f.body.now args f.tokens event v (framed core o f e t h) s)
-
-pub fault_told : (core before : Core) (o : Option Frame) (f : Frame) (fault : Fault) → core ≡ before → o ≡ Some f
-    → TellsFront core.inbox (Ok o) → IsHeader f.header
-    → received core.tables event_side (reader_of core.tables event_side core.view) f.header f.body.now f.tokens
-    ≡ Err fault
-    → found before event_side ≡ Err fault
-fault_told core before o f fault same e t h s =
-    subst (λ (c : Core). found c event_side ≡ Err fault) same
-    (fault_is core f.header f.body.now f.tokens fault (framed core o f e t h) s)
+pub next_if_some : (core : Core) (args : List ParsedArg) (event : Option PendingEvent) → core.failed ≡ false
+    → IsFrontMeaning event_side IsPendingOf core args (Ok event) → IfSome event (λ e. IsNextEvent core args e)
+next_if_some core args None lives s = tt
+next_if_some core args (Some event) lives s =
+    record { lives = lives; message = s.0; is_found = s.1.is_found; ahead = ahead core args s.0 event s.1 s.2 }
 
 -- ---- the owned report
 

@@ -1,18 +1,18 @@
 -- The result of a client's reading of the first message.
-use Rattle.std.specs.Prelude.{◌≡◌, ◌≤◌, ℕ, false, List, length, take, drop, Option, Some, None}
+use Rattle.std.specs.Prelude.{◌≡◌, ◌≤◌, ℕ, false, List, length, take, Some, None}
 use Rattle.std.specs.declared.result.Result.{Result}
 use Rattle.std.specs.declared.result.Result.TheVariants.{Ok, Err}
-use Rattle.wl_wire.specs.declared.header.Header.{Header}
 use Rattle.wl_sigs.specs.Side.TheVariants.{Event as event_side}
 use Rattle.wl_sigs.specs.Tables.{Interface, max_args}
 use Rattle.wl_sigs.specs.Rules.{has_server_objects}
 use Rattle.wl_objects.specs.declared.error.Fault.{Fault}
 use Rattle.wl_objects.specs.declared.parsed.ParsedArg.{ParsedArg}
 use Rattle.wl_object_map.specs.Objects.{Objects}
-use Rattle.wl_objects.specs.Messages.{Received, opens}
+use Rattle.wl_objects.specs.Messages.{opens}
 use Rattle.wl_message.specs.Arrived.{in_front}
 use Rattle.wl_message.specs.Cut.{Whole}
 use Rattle.wl_connection.specs.Core.{Core}
+use Rattle.wl_connection.specs.FirstMessage.{body_of}
 use Rattle.wl_connection.specs.Receiving.{Found, found, takes}
 use Rattle.wl_connection.specs.ServerRange.{OpensLasting, OpensMadeBySome}
 use Rattle.wl_client.specs.declared.pending.PendingEvent.{PendingEvent}
@@ -38,17 +38,11 @@ pub record IsPending (tables : List Interface) (view : Objects) (body : List ℕ
   pub last : event.change.last ≡ is_error_event f
   pub entry : event.entry ≡ outline_entry view event.outline
 
--- a message with this header
-abbrev pub headed : Header → Received → Found
-headed header m = record { size = header.size; opcode = header.opcode; message = m }
-
--- The result for a message at the front that its reader reads in this way: a pending event, or the
--- message's fault.
-abbrev pub IsPendingOf : List Interface → Objects → Header → List ℕ → List ParsedArg
-    → Result Received Fault → Result PendingEvent Fault → Type 0
-IsPendingOf tables view header body args r (Err fault) = r ≡ Err fault
-IsPendingOf tables view header body args r (Ok event) =
-    (m : Received) × (r ≡ Ok m) × IsPending tables view body args (headed header m) event
+-- What a message means: an event, and never a fault.
+abbrev pub IsPendingOf : List Interface → Objects → List ℕ → List ParsedArg → Found
+    → Result PendingEvent Fault → Type 0
+IsPendingOf tables view body args f (Err fault) = ⊥
+IsPendingOf tables view body args f (Ok event) = IsPending tables view body args f event
 
 -- The first event can be taken: its message is whole, its tokens wait, what it makes can be opened
 -- and is destroyed by no event, what it then changes exists, and what it is about exists. It makes
@@ -65,10 +59,6 @@ pub record CanTake (core : Core) (event : PendingEvent) : Type 0 where
   pub wants : event_opens core (found core event_side) ≡ opens_row core.view event.change.made
   pub none : has_server_objects core.tables ≡ false → event.change.made ≡ None
 
--- the body of the first message
-abbrev pub body_of : Core → ℕ → List ℕ
-body_of core size = drop 8 (take size core.inbox.bytes)
-
 -- the report of the first event, from its parsed arguments
 abbrev pub front_report : Core → List ParsedArg → PendingEvent → Report
 front_report core args event =
@@ -80,14 +70,6 @@ pub record IsAhead (core : Core) (args : List ParsedArg) (f : Found) (event : Pe
   pub can_take : CanTake core event
   pub is_pending : IsPending core.tables core.view (body_of core f.size) args f event
   pub is_reported : front_report core args event ≡ report core f
-
--- The result for what is found at the front of an end.
-abbrev pub IsFront : Core → List ParsedArg → Result (Option Found) Fault
-    → Result (Option PendingEvent) Fault → Type 0
-IsFront core args r (Ok None) = r ≡ Ok None
-IsFront core args r (Ok (Some event)) =
-    (f : Found) × (r ≡ Ok (Some f)) × IsAhead core args f event
-IsFront core args r (Err fault) = r ≡ Err fault
 
 -- This event is the first at an end that has not failed.
 pub record IsNextEvent (core : Core) (args : List ParsedArg) (event : PendingEvent) : Type 0 where

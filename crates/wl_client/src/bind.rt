@@ -17,7 +17,7 @@ impl<'t, T: Table> Client<'t, T> {
     pub fn remembers(&self, name: u32) -> bool
         ensures { result ≡ is_some (global_of self.now.globals name) }
     {
-        self.kept.globals.has(name)
+        self.role.globals.has(name)
     }
 
     /// Binds an announced global, by its name and interface, and returns the new object, which has
@@ -46,7 +46,7 @@ impl<'t, T: Table> Client<'t, T> {
         if entry.iface != REGISTRY {
             return Err(SendError::NoSuchMessage);
         }
-        let global = match self.kept.globals.get(name) {
+        let global = match self.role.globals.get(name) {
             Some(global) if can_bind(self.end.core.tables, global, iface, version) => global,
             _ => return Err(SendError::BadBind),
         };

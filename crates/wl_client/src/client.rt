@@ -6,7 +6,7 @@ ghost use Rattle.wl_connection.specs.MoreTables.{Extend, has_first_server_object
 ghost use Rattle.wl_client.specs.State.{new_state, with_core};
 
 use crate::globals::Remembered;
-use crate::role::Kept;
+use crate::role::ClientRole;
 use std::alloc::AllocError;
 use std::marker::Model;
 use wl_connection::{Core, Endpoint, FirstServerObject};
@@ -19,7 +19,7 @@ use wl_sigs::Tables;
 #[derive(Drop)]
 pub struct Client<'t, T: Table> {
     pub(crate) end: Endpoint<'t, T>,
-    pub(crate) kept: Kept<T::Alloc>,
+    pub(crate) role: ClientRole<T::Alloc>,
     /// Allocates owned reports.
     pub(crate) alloc: T::Alloc,
 }
@@ -35,9 +35,9 @@ impl<'t, T: Table> Model for Client<'t, T> {
 
     ghost view = { λ c. record {
       core = c.end.core;
-      globals = c.kept.globals;
-      made = c.kept.made;
-      replaced = c.kept.replaced;
+      globals = c.role.globals;
+      made = c.role.made;
+      replaced = c.role.replaced;
     } };
 
     ghost invariant = { λ c. IsSound c.end.core };
@@ -54,7 +54,7 @@ impl<'t, T: Table> Client<'t, T> {
         let core = Core::new(alloc, tables, sizes)?;
         Ok(Client {
             end: Endpoint::new(core),
-            kept: Kept {
+            role: ClientRole {
                 globals,
                 made: None,
                 replaced: None,
@@ -72,7 +72,7 @@ impl<'t, T: Table> Client<'t, T> {
         // Hence an id of the server's range without an entry was never used.
         ensures frees_none { self.now.core.view.server.freed ≡ [] }
     {
-        self.kept.made
+        self.role.made
     }
 
     /// The live object that the object returned by `made` replaced: it had the same id, and no
@@ -83,7 +83,7 @@ impl<'t, T: Table> Client<'t, T> {
     pub fn replaced(&self) -> Option<Object>
         ensures { result ≡ self.now.replaced }
     {
-        self.kept.replaced
+        self.role.replaced
     }
     /// Replaces the client's tables with these, which extend them, as the tables do that
     /// `Tables::read_more` makes from the client's. Nothing else changes: the interface of each

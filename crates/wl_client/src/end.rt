@@ -1,9 +1,8 @@
 //! The calls of the client that both ends have.
 use crate::client::Client;
-use crate::pending::find;
 use crate::report::OwnedIncoming;
 use std::io::{Read, Write};
-use wl_connection::{Core, End, Receiver};
+use wl_connection::{Core, End, Receiver, first_message};
 use wl_message::{Fed, FillError, FlushError, Taken};
 use wl_objects::{NextError, Table};
 
@@ -74,7 +73,7 @@ impl<'t, T: Table> Receiver for Client<'t, T> {
     ghost is_last = { is_last };
 
     fn has_report(&mut self) -> bool {
-        match find(&mut self.end) {
+        match first_message(&mut self.end, &self.role) {
             Ok(Some(_)) => true,
             _ => false,
         }

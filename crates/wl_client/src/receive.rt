@@ -36,7 +36,7 @@ impl<'t, T: Table> Client<'t, T> {
         ensures takes_none { has_server_objects self.old.core.tables ≡ false
             → lent_in result ≡ next_answer self.old }
     {
-        match read(&mut self.end, &mut self.kept)? {
+        match read(&mut self.end, &mut self.role)? {
             Some(event) => Ok(Some(lend(&self.end, event))),
             None => Ok(None),
         }
@@ -55,7 +55,7 @@ impl<'t, T: Table> Client<'t, T> {
         ensures entry { IfOk result (λ read. IfSome read (λ told. told.entry
             ≡ entry_of self.old.core.view (lent_report told.incoming))) }
     {
-        match read(&mut self.end, &mut self.kept)? {
+        match read(&mut self.end, &mut self.role)? {
             Some(event) => Ok(Some(IncomingWithEntry {
                 incoming: lend(&self.end, event),
                 entry: event.entry,
@@ -94,7 +94,7 @@ impl<'t, T: Table> Client<'t, T> {
         ensures entry { IfOk result (λ read. IfSome read (λ told. told.entry
             ≡ entry_of self.old.core.view (report_of told.incoming))) }
     {
-        match read_owned(&mut self.end, &mut self.kept, &self.alloc)? {
+        match read_owned(&mut self.end, &mut self.role, &self.alloc)? {
             Some((incoming, event)) => Ok(Some(OwnedIncomingWithEntry {
                 incoming,
                 entry: event.entry,

@@ -7,15 +7,18 @@ ghost use Rattle.wl_client.specs.Steps.{CanOpen};
 
 use crate::changes::{apply_object_change, open_made, replaced_by};
 use crate::globals::Remembered;
-use crate::pending::{PendingEvent, find};
+use crate::meaning::meaning_of;
+use crate::pending::PendingEvent;
 use crate::report::OwnedIncoming;
 use std::alloc::{AllocError, Allocator};
-use wl_connection::{Core, Endpoint, Role};
-use wl_objects::{NewObject, NextError, Object, Table};
+use wl_connection::{Core, Endpoint, Meaning, Role, first_message};
+use wl_objects::{Fault, NewObject, NextError, Object, Objects, Received, Table};
+use wl_sigs::{Side, Tables};
+use wl_wire::Header;
 
 /// What a client keeps besides its endpoint.
 #[derive(Drop)]
-pub(crate) struct Kept<A: Allocator> {
+pub(crate) struct ClientRole<A: Allocator> {
     /// The globals that were announced to it.
     pub(crate) globals: Remembered<A>,
     /// What the last message read made.
@@ -24,7 +27,7 @@ pub(crate) struct Kept<A: Allocator> {
     pub(crate) replaced: Option<Object>,
 }
 
-impl<A: Allocator> Kept<A> {
+impl<A: Allocator> ClientRole<A> {
     /// Opens the object that a message makes, if it makes one, and keeps it and the live object
     /// that it replaces. Without memory nothing changes.
     #[inline(always)]
@@ -58,14 +61,45 @@ impl<A: Allocator> Kept<A> {
     }
 }
 
-impl<T: Table> Role<T> for Kept<T::Alloc> {
+impl<T: Table> Meaning<T> for ClientRole<T::Alloc> {
+    ghost use Rattle.wl_sigs.specs.Side.TheVariants.{Event as event_side};
+    ghost use Rattle.wl_client.specs.Reading.{IsPendingOf};
+
+    type Pending = PendingEvent;
+
+    ghost reads = { event_side };
+
+    ghost Means = { λ kept. IsPendingOf };
+
+    fn side(&self) -> Side {
+        Side::Event
+    }
+
+    fn pending_of(
+        &self,
+        tables: &Tables,
+        objects: &Objects<T>,
+        header: Header,
+        message: &Received<'_, '_>,
+    ) -> Result<PendingEvent, Fault> {
+        let (outline, change, entry) = meaning_of(tables, objects, header.opcode, message);
+        Ok(PendingEvent {
+            outline,
+            change,
+            entry,
+            size: header.size,
+            tokens: message.tokens,
+        })
+    }
+}
+
+impl<T: Table> Role<T> for ClientRole<T::Alloc> {
     ghost use Rattle.wl_client.specs.State.{State as ClientState, IsSound as IsSoundClient};
     ghost use Rattle.wl_client.specs.Reports.{Report as ClientReport, client_role};
     ghost use Rattle.wl_client.specs.Seen.{report_of};
     ghost use Rattle.wl_client.specs.Steps.{client_state};
-    ghost use Rattle.wl_client.specs.Reading.{IsNextEvent, front_report, taken_report};
-
-    type Pending = PendingEvent;
+    ghost use Rattle.wl_client.specs.Reading.{IsNextEvent, front_report};
+    ghost use Rattle.wl_client.specs.Reading.{taken_report};
 
     type Owned = OwnedIncoming<T::Alloc>;
 
@@ -87,11 +121,12 @@ impl<T: Table> Role<T> for Kept<T::Alloc> {
 
     ghost IsAhead = { λ core kept args event. IsNextEvent core args event };
 
+    #[tactic(auto, using(crate::proofs::Fronts::fault_found))]
     fn find(&self, end: &mut Endpoint<'_, T>) -> Result<Option<PendingEvent>, NextError> {
         if end.core.failed {
             return Err(NextError::Failed);
         }
-        match find(end) {
+        match first_message(end, self) {
             Ok(event) => Ok(event),
             Err(fault) => {
                 end.core.failed = true;

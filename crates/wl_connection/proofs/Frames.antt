@@ -1,11 +1,12 @@
 -- What is at the front of an end that found a frame.
-use Rattle.std.proofs.Common.{◌≡◌, ℕ, ◌<◌, ◌≤◌, List, ◌++◌, length, take, drop, get_or, sym, ap, ◌∙◌}
-use Rattle.std.proofs.Common.{arith}
+use Rattle.std.proofs.Common.{◌≡◌, ℕ, ◌<◌, ◌≤◌, List, ◌++◌, length, take, drop, get_or, refl, sym, ap, ◌∙◌}
+use Rattle.std.proofs.Common.{subst, arith}
 use Rattle.std.proofs.lemmas.List.{take-append-drop, append_assoc}
 use Rattle.std.proofs.lemmas.List.Sums.{count_by-le-length}
 use Rattle.std.specs.declared.option.Option.{Option}
 use Rattle.std.specs.declared.option.Option.TheVariants.{Some}
-use Rattle.std.specs.declared.result.Result.TheVariants.{Ok}
+use Rattle.std.specs.declared.result.Result.{Result}
+use Rattle.std.specs.declared.result.Result.TheVariants.{Ok, Err}
 use Rattle.wl_wire.specs.declared.header.Header.{Header}
 use Rattle.wl_wire.specs.declared.kind.Kind.{Kind}
 use Rattle.wl_wire.specs.Word.{IsHeader, header_at, header_bytes}
@@ -13,11 +14,12 @@ use Rattle.wl_wire.proofs.Canonicals.{header_at-bytes}
 use Rattle.wl_sigs.specs.Side.{Side}
 use Rattle.wl_message.specs.declared.inbox.Frame.{Frame}
 use Rattle.wl_message.specs.Arrived.{TellsFront, in_front}
-use Rattle.wl_message.specs.Cut.{Front, Whole, message_size}
+use Rattle.wl_message.specs.Cut.{Front, More, Bad, Whole, message_size}
 use Rattle.wl_sigs.specs.Tables.{descriptors, is_descriptor_kind}
-use Rattle.wl_objects.specs.Messages.{received}
+use Rattle.wl_objects.specs.declared.error.Fault.{Fault}
+use Rattle.wl_objects.specs.Messages.{Received, received}
 use Rattle.wl_connection.specs.Core.{Core}
-use Rattle.wl_connection.specs.Receiving.{reader_in, found, found_at, found_in, header_of}
+use Rattle.wl_connection.specs.Receiving.{Found, reader_in, found, found_at, found_in, header_of}
 use Rattle.wl_connection.proofs.ReceivedMessage.{first-tokens}
 
 -- the frame found
@@ -67,3 +69,28 @@ pub same-tokens : (core inner : Core) (n : ℕ) (tokens : List ℕ) → inner �
 same-tokens core inner n tokens same few there all first =
     first-tokens n tokens core.inbox.tokens (omega (arith, few, all)) there
     (λ k less. first k less (omega (arith, less, few)) ∙ ap (λ (b : Core). get_or b.inbox.tokens k 0) same)
+
+-- what is at the front if a message is found, and how it was read
+abbrev pub IsAtFront : Core → Side → Front → Found → Type 0
+IsAtFront core side fr f = (fr ≡ Whole f.size) × (f.opcode ≡ (header_of core.inbox.bytes).opcode)
+    × (received core.tables side (reader_in core side) (header_of core.inbox.bytes)
+    (drop 8 (take f.size core.inbox.bytes)) (length core.inbox.tokens) ≡ Ok f.message)
+
+at_front : (core : Core) (side : Side) (f : Found) (fr : Front) → found_at core side fr ≡ Ok (Some f)
+    → IsAtFront core side fr f
+at_front core side f More h = absurd (cc h)
+at_front core side f (Bad n) h = absurd (cc h)
+at_front core side f (Whole n) h = by_result (received core.tables side (reader_in core side)
+    (header_of core.inbox.bytes) (drop 8 (take n core.inbox.bytes)) (length core.inbox.tokens)) refl h
+  where
+    by_result : (r : Result Received Fault) → received core.tables side (reader_in core side)
+        (header_of core.inbox.bytes) (drop 8 (take n core.inbox.bytes)) (length core.inbox.tokens) ≡ r
+        → found_in n (header_of core.inbox.bytes).opcode r ≡ Ok (Some f) → IsAtFront core side (Whole n) f
+    by_result (Err fault) e k = absurd (cc k)
+    by_result (Ok m) e k =
+        let same : record { size = n; opcode = (header_of core.inbox.bytes).opcode; message = m } ≡ f = cc k in
+        subst (IsAtFront core side (Whole n)) same (refl, refl, e)
+
+pub read_at_front : (core : Core) (side : Side) (f : Found) → found core side ≡ Ok (Some f)
+    → IsAtFront core side (in_front core.inbox) f
+read_at_front core side f e = at_front core side f (in_front core.inbox) e

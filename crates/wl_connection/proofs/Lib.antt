@@ -18,3 +18,4 @@ pub mod MadeByEvent
 pub mod ServerRange
 pub mod MoreTables
 pub mod Writes
+pub mod FirstMessages

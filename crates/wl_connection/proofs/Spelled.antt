@@ -17,8 +17,7 @@ use Rattle.wl_wire.proofs.Canonicals.{canonical-spells, header_at-bytes, header_
 use Rattle.wl_wire.proofs.Numbers.{number_at_fits}
 use Rattle.wl_sigs.specs.Side.{Side}
 use Rattle.wl_sigs.specs.Tables.{Interface, MessageSignature, signature_at, descriptors}
-use Rattle.wl_message.specs.Arrived.{in_front}
-use Rattle.wl_message.specs.Cut.{usual_limit, Front, More, Bad, Whole, IsSize, told_size}
+use Rattle.wl_message.specs.Cut.{usual_limit, IsSize, told_size}
 use Rattle.wl_message.proofs.Fronts.{front_stands, parts_of}
 use Rattle.wl_message.proofs.Cuts.{message_there}
 use Rattle.wl_object_map.specs.declared.object.Object.{Object}
@@ -41,10 +40,11 @@ use Rattle.wl_objects.proofs.Calls.{len-any, len-least}
 use Rattle.wl_objects.proofs.ArgumentsMeet.{met}
 use Rattle.wl_objects.proofs.Wholes.{length-message, message-words, meets-spelled, written-spelled, passes}
 use Rattle.wl_connection.specs.Core.{Core}
-use Rattle.wl_connection.specs.Receiving.{reader_in, Found, found, found_at, found_in, header_of}
+use Rattle.wl_connection.specs.Receiving.{reader_in, Found, found, header_of}
 use Rattle.wl_connection.specs.Spelled.{MessageSpells, CallsSpell, FoundSpells}
 use Rattle.wl_connection.specs.Streams.{BeginWith}
 use Rattle.wl_sigs.specs.Rules.{is_empty}
+use Rattle.wl_connection.proofs.Frames.{read_at_front}
 use Rattle.wl_connection.proofs.ReceivedMessage.{is_received}
 
 -- ---- what is written
@@ -264,31 +264,10 @@ header_size bytes h i e =
     let t : told_size (header_bytes h ++ drop 8 bytes) ≡ h.size = told_header h.size h.opcode i.size i.opcode in
     sym (ap told_size s ∙ t)
 
--- what is at the front, and how it was read
-abbrev IsFront : Core → Side → Front → Found → Type 0
-IsFront core side fr f = (fr ≡ Whole f.size) × (f.opcode ≡ (header_of core.inbox.bytes).opcode)
-    × (received core.tables side (reader_in core side) (header_of core.inbox.bytes)
-    (drop 8 (take f.size core.inbox.bytes)) (length core.inbox.tokens) ≡ Ok f.message)
-
-size_of : (core : Core) (side : Side) (f : Found) (fr : Front) → found_at core side fr ≡ Ok (Some f)
-    → IsFront core side fr f
-size_of core side f More h = absurd (cc h)
-size_of core side f (Bad n) h = absurd (cc h)
-size_of core side f (Whole n) h = by_result (received core.tables side (reader_in core side)
-    (header_of core.inbox.bytes) (drop 8 (take n core.inbox.bytes)) (length core.inbox.tokens)) refl h
-  where
-    by_result : (r : Result Received Fault) → received core.tables side (reader_in core side)
-        (header_of core.inbox.bytes) (drop 8 (take n core.inbox.bytes)) (length core.inbox.tokens) ≡ r
-        → found_in n (header_of core.inbox.bytes).opcode r ≡ Ok (Some f) → IsFront core side (Whole n) f
-    by_result (Err fault) e k = absurd (cc k)
-    by_result (Ok m) e k =
-        let same : record { size = n; opcode = (header_of core.inbox.bytes).opcode; message = m } ≡ f = cc k in
-        subst (IsFront core side (Whole n)) same (refl, refl, e)
-
 pub found_spells : (core : Core) (side : Side) (f : Found) → FoundSpells core side f
 found_spells core side f w e =
     let bytes = core.inbox.bytes in
-    let z = size_of core side f (in_front core.inbox) e in
+    let z = read_at_front core side f e in
     let st = front_stands core.inbox.limit.bytes bytes f.size z.0 in
     let big = st.size.header in
     let fits = st.there in
@@ -336,7 +315,7 @@ begin_more core side f count left rest e l b =
       as_many = ap suc b.as_many;
       whole = (
         message_there core.inbox.limit.bytes bytes f.size
-            (size_of core side f (in_front core.inbox) e).0,
+            (read_at_front core side f e).0,
         b.whole,
       );
       joined = sym (take-append-drop f.size bytes) ∙ ap (λ (x : List ℕ). first ++ x) (sym l ∙ b.joined)

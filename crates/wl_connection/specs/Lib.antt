@@ -10,3 +10,4 @@ pub mod MoreTables
 pub mod Spelled
 pub mod Transport
 pub mod Waiting
+pub mod FirstMessage

@@ -7,6 +7,7 @@
 
 mod end;
 mod endpoint;
+mod front;
 mod laws;
 mod receive;
 mod receiver;
@@ -19,10 +20,11 @@ mod waiting;
 
 pub use end::End;
 pub use endpoint::Endpoint;
+pub use front::first_message;
 pub use laws::{found_stays, messages_are_spelled, openings_alone_need_memory, texts_extend};
 pub use receive::MAX_TOKENS;
 pub use receiver::Receiver;
-pub use role::{Role, read, read_owned};
+pub use role::{Meaning, Role, read, read_owned};
 pub use send::DELETE_ID_LEN;
 pub use shared::{Core, FirstServerObject, MAX_GLOBALS};
 pub use streams::{ReadAll, read_all};

@@ -1,22 +1,58 @@
 //! How an end reads the next message, client or server.
-ghost use Rattle.std.specs.Prelude.{◌≡◌, true, Err, List, IfOk, IfSome, OnOk, OnErr};
+ghost use Rattle.std.specs.Prelude.{◌≡◌, ℕ, true, Err, List, Result, IfOk, IfSome, OnOk, OnErr};
+ghost use Rattle.wl_sigs.specs.Side.{Side as SideOf};
+ghost use Rattle.wl_sigs.specs.Tables.{Interface};
+ghost use Rattle.wl_object_map.specs.Objects.{Objects as ObjectsView};
+ghost use Rattle.wl_objects.specs.declared.error.Fault.{Fault as FaultState};
 ghost use Rattle.wl_objects.specs.declared.parsed.ParsedArg.{ParsedArg};
+ghost use Rattle.wl_objects.specs.Seen.{received_of};
 ghost use Rattle.wl_connection.specs.Core.{Core as CoreState};
+ghost use Rattle.wl_connection.specs.FirstMessage.{IsWellFormed, headed};
 ghost use Rattle.wl_connection.specs.Outcomes.{read_as, unless_memory};
+ghost use Rattle.wl_connection.specs.Receiving.{Found};
 ghost use Rattle.wl_connection.specs.Roles.{Role as RoleOf, IsNext, IsLentNext, role_after};
 ghost use Rattle.wl_connection.specs.Roles.{role_answer};
 
 use crate::endpoint::Endpoint;
 use std::alloc::AllocError;
-use wl_objects::{NextError, Table};
+use wl_objects::{Fault, NextError, Objects, Received, Table};
+use wl_sigs::{Side, Tables};
+use wl_wire::Header;
 
-/// The role of an end: what it keeps besides its endpoint, and how it finds, copies and takes a
-/// message.
-pub trait Role<T: Table>: Drop {
+/// What messages mean to an end.
+pub trait Meaning<T: Table>: Drop {
     /// A message that was found and not yet taken. It borrows nothing: its arguments are at the end
     /// that read it.
     type Pending: Copy;
 
+    // The side whose messages arrive.
+    ghost reads: { SideOf };
+
+    // A message with this body and these parsed arguments means this, or is this fault, given these
+    // tables and objects.
+    ghost Means: { Self → List Interface → ObjectsView → List ℕ → List ParsedArg → Found
+        → Result Self.Pending FaultState → Type 0 };
+
+    /// The side whose messages arrive.
+    fn side(&self) -> Side
+        ensures { result ≡ reads };
+
+    /// What a message means that was read, or its fault.
+    fn pending_of(
+        &self,
+        tables: &Tables,
+        objects: &Objects<T>,
+        header: Header,
+        message: &Received<'_, '_>,
+    ) -> Result<Self::Pending, Fault>
+        requires read { IsWellFormed reads tables.now objects.now header message.now }
+        ensures { Means self.now tables.now objects.now message.now.body.now message.now.args.now
+            (headed header (received_of message.now)) result };
+}
+
+/// The role of an end: what it keeps besides its endpoint, and how it finds, copies and takes a
+/// message.
+pub trait Role<T: Table>: Meaning<T> {
     /// The report of a message, owned.
     type Owned: Drop;
 

@@ -16,9 +16,6 @@ use Rattle.wl_sigs.specs.Destroys.TheVariants.{Nothing, Target, Arg}
 use Rattle.wl_sigs.specs.Tables.{Interface, MessageSignature, signature_at, message_of, destroys_one}
 use Rattle.wl_sigs.specs.Fixed.{wl_display, display}
 use Rattle.wl_sigs.specs.Valid.{Valid}
-use Rattle.wl_wire.specs.Word.{IsHeader}
-use Rattle.wl_message.specs.declared.inbox.Frame.{Frame}
-use Rattle.wl_message.specs.Arrived.{TellsFront}
 use Rattle.wl_message.specs.Outgoing.{room_of}
 use Rattle.wl_server.specs.declared.pending.PendingRequest.{PendingRequest}
 use Rattle.wl_objects.specs.declared.error.Fault.{Fault}
@@ -34,15 +31,16 @@ use Rattle.wl_object_map.specs.View.{free_or_next, has_room}
 use Rattle.wl_object_map.specs.Objects.{Objects, look}
 use Rattle.wl_object_map.specs.Ranges.{is_of_server}
 use Rattle.wl_objects.specs.declared.parsed.ParsedArg.{ParsedArg}
-use Rattle.wl_objects.specs.Parsed.{AreParsed, reported_in}
+use Rattle.wl_objects.specs.Parsed.{reported_in}
 use Rattle.wl_objects.specs.Reading.{Reader, in_state, reports_of, Reported}
-use Rattle.wl_objects.specs.Messages.{NewObject, Received, received}
+use Rattle.wl_objects.specs.Messages.{NewObject}
 use Rattle.wl_connection.specs.Core.{Core, HasDisplay}
-use Rattle.wl_connection.specs.Receiving.{Found, found, reported, found_in, takes, reader_in}
+use Rattle.wl_connection.specs.FirstMessage.{HasParsed, IsFrontMeaning, body_of}
+use Rattle.wl_connection.specs.Receiving.{Found, found, header_of, reported, takes, reader_in}
 use Rattle.wl_connection.specs.Sending.{delete_id_len, fits}
-use Rattle.wl_connection.proofs.ReceivedMessage.{is_received}
+use Rattle.wl_connection.proofs.ReceivedMessage.{IsReceived, is_received}
 use Rattle.wl_connection.proofs.FoundStays.{is_found}
-use Rattle.wl_connection.proofs.Frames.{IsFrame, descriptors-le, found_frame, framed}
+use Rattle.wl_connection.proofs.Frames.{descriptors-le, read_at_front}
 use Rattle.wl_connection.proofs.Ends.{argument_received}
 use Rattle.wl_connection.proofs.NewIds.{new_free_at_server}
 use Rattle.wl_connection.proofs.Descriptors.{fds, reports_stay}
@@ -53,25 +51,11 @@ use Rattle.wl_server.specs.Steps.{Step, step_of, step_found, front_step, server_
 use Rattle.wl_server.specs.Steps.{pending_of, ended_by_request, report_with, HasFreeId, HasRow, CanTake, IsEndedBy}
 use Rattle.wl_server.specs.Steps.{IsPendingOf, is_bad_bind, needs_delete_id}
 
-abbrev pub read_by : Core → Header → List ℕ → ℕ → Result Received Fault
-read_by core h body waiting = received core.tables request_side (reader_in core request_side) h body waiting
-
-pub found_is : (core : Core) (h : Header) (body : List ℕ) (waiting : ℕ) → IsFrame core h body waiting
-    → (r : Result Received Fault) → r ≡ read_by core h body waiting
-    → found core request_side ≡ found_in h.size h.opcode r
-found_is core h body waiting s r e = found_frame core request_side h body waiting s
-    ∙ ap (found_in h.size h.opcode) (sym e)
-
-abbrev the_found : Header → Received → Found
-the_found h m = record { size = h.size; opcode = h.opcode; message = m }
-
 -- ---- the result of reading
 
-request_is : (core : Core) (globals : List Global) (h : Header) (body : List ℕ) (waiting : ℕ)
-    → IsFrame core h body waiting → (r : Result Received Fault) → r ≡ read_by core h body waiting
-    → request (server_state core globals) ≡ unless_bad_bind (server_state core globals) (found_in h.size h.opcode r)
-request_is core globals h body waiting s r e = ap (unless_bad_bind (server_state core globals))
-    (found_is core h body waiting s r e)
+request_is : (core : Core) (globals : List Global) (x : Result (Option Found) Fault) → found core request_side ≡ x
+    → request (server_state core globals) ≡ unless_bad_bind (server_state core globals) x
+request_is core globals x e = ap (unless_bad_bind (server_state core globals)) e
 
 abbrev pub Answers : Core → List Global → Result (Option Step) NextError → Type 0
 Answers core globals result = result ≡ front_step (server_state core globals)
@@ -81,38 +65,26 @@ answers_as : (core : Core) (globals : List Global) (x : Result (Option Found) Fa
     → Answers core globals result
 answers_as core globals x result e h = h ∙ sym (ap (step_found core) e)
 
-pub answers_fault : (core : Core) (globals : List Global) (h : Header) (body : List ℕ) (waiting : ℕ) (fault : Fault)
-    → IsFrame core h body waiting → Err fault ≡ read_by core h body waiting
-    → Answers core globals (Err (errors.Fault fault core.read))
-answers_fault core globals h body waiting fault s e =
-    answers_as core globals (Err fault) _ (request_is core globals h body waiting s (Err fault) e) refl
+answers_bad : (core : Core) (globals : List Global) (f : Found) → found core request_side ≡ Ok (Some f)
+    → is_bad_bind core.tables globals f.opcode f.message ≡ true
+    → Answers core globals (Err (errors.Fault faults.BadBind core.read))
+answers_bad core globals f e b =
+    answers_as core globals (Err faults.BadBind) _ (request_is core globals (Ok (Some f)) e ∙ rw b refl) refl
 
-pub answers_bad : (core : Core) (globals : List Global) (h : Header) (body : List ℕ) (waiting : ℕ) (m : Received)
-    → IsFrame core h body waiting → Ok m ≡ read_by core h body waiting
-    → is_bad_bind core.tables globals h.opcode m ≡ true → Answers core globals (Err (errors.Fault faults.BadBind core.read))
-answers_bad core globals h body waiting m s e b =
-    answers_as core globals (Err faults.BadBind) _ (request_is core globals h body waiting s (Ok m) e ∙ rw b refl) refl
+request_some : (core : Core) (globals : List Global) (f : Found) → found core request_side ≡ Ok (Some f)
+    → is_bad_bind core.tables globals f.opcode f.message ≡ false → request (server_state core globals) ≡ Ok (Some f)
+request_some core globals f e b = request_is core globals (Ok (Some f)) e ∙ rw b refl
 
-request_some : (core : Core) (globals : List Global) (h : Header) (body : List ℕ) (waiting : ℕ) (m : Received)
-    → IsFrame core h body waiting → Ok m ≡ read_by core h body waiting
-    → is_bad_bind core.tables globals h.opcode m ≡ false → request (server_state core globals) ≡ Ok (Some (the_found h m))
-request_some core globals h body waiting m s e b = request_is core globals h body waiting s (Ok m) e ∙ rw b refl
-
-pub answers_full : (core : Core) (globals : List Global) (h : Header) (body : List ℕ) (waiting : ℕ) (m : Received)
-    → IsFrame core h body waiting → Ok m ≡ read_by core h body waiting
-    → is_bad_bind core.tables globals h.opcode m ≡ false
-    → is_out_full core (the_found h m) ≡ true
+answers_full : (core : Core) (globals : List Global) (f : Found) → found core request_side ≡ Ok (Some f)
+    → is_bad_bind core.tables globals f.opcode f.message ≡ false → is_out_full core f ≡ true
     → Answers core globals (Err errors.OutFull)
-answers_full core globals h body waiting m s e b f =
-    answers_as core globals (Ok (Some (the_found h m))) _ (request_some core globals h body waiting m s e b) (rw f refl)
+answers_full core globals f e b full =
+    answers_as core globals (Ok (Some f)) _ (request_some core globals f e b) (rw full refl)
 
-front_ok : (core : Core) (globals : List Global) (h : Header) (body : List ℕ) (waiting : ℕ) (m : Received)
-    → IsFrame core h body waiting → Ok m ≡ read_by core h body waiting
-    → is_bad_bind core.tables globals h.opcode m ≡ false
-    → is_out_full core (the_found h m) ≡ false
-    → front_step (server_state core globals) ≡ Ok (Some (step_of core (the_found h m)))
-front_ok core globals h body waiting m s e b f = ap (step_found core) (request_some core globals h body waiting m s e b)
-    ∙ rw f refl
+front_ok : (core : Core) (globals : List Global) (f : Found) → found core request_side ≡ Ok (Some f)
+    → is_bad_bind core.tables globals f.opcode f.message ≡ false → is_out_full core f ≡ false
+    → front_step (server_state core globals) ≡ Ok (Some (step_of core f))
+front_ok core globals f e b fits = ap (step_found core) (request_some core globals f e b) ∙ rw fits refl
 
 -- ---- facts about a request that was read
 
@@ -158,14 +130,31 @@ record IsEnded (core : Core) (object : Object) : Type 0 where
   row : HasRow core.view object
   other : object.id ≢ 1
 
-ended_target : (core : Core) (h : Header) (body : List ℕ) (waiting : ℕ) (m : Received) → Valid core.tables
-    → HasDisplay core.view → Ok m ≡ read_by core h body waiting → m.signature.destroys ≡ Target → IsEnded core m.target
-ended_target core h body waiting m v d e t =
-    let r = is_received core.tables request_side (reader_in core request_side) h body waiting m (sym e) in
-    let row : look core.view m.target.id ≡ Some m.entry = ap (look core.view) r.id ∙ r.row in
+-- the first message, as it was received
+abbrev header_in : Core → Header
+header_in core = header_of core.inbox.bytes
+
+received_first : (core : Core) (f : Found) → found core request_side ≡ Ok (Some f)
+    → IsReceived core.tables request_side (reader_in core request_side) (header_in core) (length core.inbox.tokens)
+    f.message
+received_first core f e =
+    is_received core.tables request_side (reader_in core request_side) (header_in core) (body_of core f.size)
+    (length core.inbox.tokens) f.message (read_at_front core request_side f e).2
+
+target_row : (core : Core) (f : Found) → found core request_side ≡ Ok (Some f)
+    → look core.view f.message.target.id ≡ Some f.message.entry
+target_row core f e = let r = received_first core f e in ap (look core.view) r.id ∙ r.row
+
+ended_target : (core : Core) (f : Found) → Valid core.tables → HasDisplay core.view
+    → found core request_side ≡ Ok (Some f) → f.message.signature.destroys ≡ Target → IsEnded core f.message.target
+ended_target core f v d e t =
+    let m = f.message in
+    let r = received_first core f e in
+    let row = target_row core f e in
     record {
       row = record { entry = m.entry; row = row; birth = sym r.birth };
-      other = display_lasts core.tables v core.view d m.target.id h.opcode m.entry m.signature row r.signature t;
+      other = display_lasts core.tables v core.view d m.target.id (header_in core).opcode m.entry m.signature row
+          r.signature t;
     }
 
 -- a registry is not wl_display
@@ -177,11 +166,13 @@ registry_lasts view id entry d row is e =
     let no : 1 ≡ 0 = sym is ∙ ap (λ (i : Iface). i.0) iface in
     cc no
 
-ended_argument : (core : Core) (h : Header) (body : List ℕ) (waiting : ℕ) (m : Received) (k : ℕ) → Valid core.tables
-    → HasDisplay core.view → Ok m ≡ read_by core h body waiting → m.signature.destroys ≡ Arg k
-    → IsEnded core (reported_object (slice_get (reports_of (reader_in core request_side) core.inbox.tokens m.values) k))
-ended_argument core h body waiting m k v d e t =
-    let a = argument_received core.tables (reader_in core request_side) h body waiting m k v (sym e) t in
+ended_argument : (core : Core) (f : Found) (k : ℕ) → Valid core.tables → HasDisplay core.view
+    → found core request_side ≡ Ok (Some f) → f.message.signature.destroys ≡ Arg k
+    → IsEnded core (reported_object (slice_get (reported core request_side f.message) k))
+ended_argument core f k v d e t =
+    let m = f.message in
+    let a = argument_received core.tables (reader_in core request_side) (header_in core) (body_of core f.size)
+    (length core.inbox.tokens) m k v (read_at_front core request_side f e).2 t in
     let n = a.1 in
     let object : Object = record { id = n.id; birth = n.entry.birth } in
     let same : reported_object (slice_get (reports_of (reader_in core request_side) core.inbox.tokens m.values) k) ≡ object =
@@ -195,17 +186,17 @@ ended_argument core h body waiting m k v d e t =
 inside : {x y : Object} → Some x ≡ Some y → x ≡ y
 inside e = cc e
 
-ended_there : (core : Core) (h : Header) (body : List ℕ) (waiting : ℕ) (m : Received) → Valid core.tables
-    → HasDisplay core.view → Ok m ≡ read_by core h body waiting
-    → (object : Object) → ended_by_request m.signature.destroys (report core (the_found h m)) ≡ Some object
+ended_there : (core : Core) (f : Found) → Valid core.tables → HasDisplay core.view
+    → found core request_side ≡ Ok (Some f)
+    → (object : Object) → ended_by_request f.message.signature.destroys (report core f) ≡ Some object
     → IsEnded core object
-ended_there core h body waiting m v d e object is = by_what m.signature.destroys refl is
+ended_there core f v d e object is = by_what f.message.signature.destroys refl is
   where
-    by_what : (what : Destroys) → m.signature.destroys ≡ what
-        → ended_by_request what (report core (the_found h m)) ≡ Some object → IsEnded core object
+    by_what : (what : Destroys) → f.message.signature.destroys ≡ what
+        → ended_by_request what (report core f) ≡ Some object → IsEnded core object
     by_what Nothing t k = absurd (cc k)
-    by_what Target t k = subst (IsEnded core) (inside k) (ended_target core h body waiting m v d e t)
-    by_what (Arg place) t k = subst (IsEnded core) (inside k) (ended_argument core h body waiting m place v d e t)
+    by_what Target t k = subst (IsEnded core) (inside k) (ended_target core f v d e t)
+    by_what (Arg place) t k = subst (IsEnded core) (inside k) (ended_argument core f place v d e t)
 
 -- whether a delete_id must follow the request
 owes_is : (what : Destroys) (report : Report) → needs_delete_id (ended_by_request what report)
@@ -221,23 +212,24 @@ owes_one : (core : Core) (f : Found) (object : Object)
 owes_one core f object is client =
     sym (owes_is f.message.signature.destroys (report core f)) ∙ (ap needs_delete_id is ∙ ap not client)
 
-ended_is : (core : Core) (h : Header) (body : List ℕ) (m : Received) (args : List ParsedArg) (ended : Option Object)
-    → AreParsed (reader_in core request_side) body args m.values → IsEndedBy m args ended
-    → ended ≡ ended_by_request m.signature.destroys (report core (the_found h m))
-ended_is core h body m args ended a k =
-    k h.opcode core.view.client.births body core.inbox.tokens
-    ∙ ap (λ (l : List Reported). ended_by_request m.signature.destroys (report_with m.target h.opcode l))
-    (a.reported core.inbox.tokens)
+ended_is : (core : Core) (args : List ParsedArg) (f : Found) (ended : Option Object)
+    → HasParsed request_side core args f → IsEndedBy f.message args ended
+    → ended ≡ ended_by_request f.message.signature.destroys (report core f)
+ended_is core args f ended a k =
+    k f.opcode core.view.client.births (body_of core f.size) core.inbox.tokens
+    ∙ ap (λ (l : List Reported). ended_by_request f.message.signature.destroys
+    (report_with f.message.target f.opcode l))
+    (a.parsed.reported core.inbox.tokens)
 
 -- whether there is room for the delete_id
-pub full_by : (core : Core) (h : Header) (body : List ℕ) (m : Received) (args : List ParsedArg) (ended : Option Object)
-    (b : Bool) → AreParsed (reader_in core request_side) body args m.values → IsEndedBy m args ended
+full_by : (core : Core) (args : List ParsedArg) (f : Found) (ended : Option Object) (b : Bool)
+    → HasParsed request_side core args f → IsEndedBy f.message args ended
     → (needs_delete_id ended && nat_lt (room_of core.outbox) delete_id_len) ≡ b
-    → is_out_full core (the_found h m) ≡ b
-full_by core h body m args ended b a k e =
+    → is_out_full core f ≡ b
+full_by core args f ended b a k e =
     ap (λ (x : Bool). x && nat_lt (room_of core.outbox) delete_id_len)
-    (sym (ap needs_delete_id (ended_is core h body m args ended a k)
-    ∙ owes_is m.signature.destroys (report core (the_found h m)))) ∙ e
+    (sym (ap needs_delete_id (ended_is core args f ended a k)
+    ∙ owes_is f.message.signature.destroys (report core f))) ∙ e
 
 -- the object that a request makes can be opened
 has_free : (view : Objects) (o : Option NewObject)
@@ -246,31 +238,32 @@ has_free : (view : Objects) (o : Option NewObject)
 has_free view None h = tt
 has_free view (Some new) h = h new refl
 
-can_take_found : (core : Core) (h : Header) (body : List ℕ) (waiting : ℕ) (m : Received) → Valid core.tables
-    → HasDisplay core.view → IsFrame core h body waiting → Ok m ≡ read_by core h body waiting
-    → is_out_full core (the_found h m) ≡ false
-    → CanTake core (step_of core (the_found h m))
-can_take_found core h body waiting m v d s e f =
-    let r = is_received core.tables request_side (reader_in core request_side) h body waiting m (sym e) in
+can_take_found : (core : Core) (f : Found) → Valid core.tables → HasDisplay core.view
+    → found core request_side ≡ Ok (Some f) → is_out_full core f ≡ false
+    → CanTake core (step_of core f)
+can_take_found core f v d e fits =
+    let z = read_at_front core request_side f e in
+    let r = received_first core f e in
+    let m = f.message in
     record {
-      whole = s.whole;
-      tokens = omega (arith, r.tokens, s.tokens);
+      whole = z.0;
+      tokens = r.tokens;
       few = omega (
         arith,
         descriptors-le m.signature.kinds,
-        few_kinds core.tables v m.entry.iface.0 h.opcode m.signature
+        few_kinds core.tables v m.entry.iface.0 (header_in core).opcode m.signature
             r.signature,
       );
       birth = refl;
       made = has_free core.view (made_by_request core m)
-          (λ new is. new_free_at_server core.tables core.view h body waiting m new v (sym e) is);
+          (λ new is. new_free_at_server core.tables core.view (header_in core) (body_of core f.size)
+          (length core.inbox.tokens) m new v z.2 is);
       ended = λ object is.
-          let there = ended_there core h body waiting m v d e object is in
+          let there = ended_there core f v d e object is in
           record {
             row = there.row;
             not_display = there.other;
-            room = λ client. room_for core (owes_delete_id core (the_found h m)) f
-                (owes_one core (the_found h m) object is client);
+            room = λ client. room_for core (owes_delete_id core f) fits (owes_one core f object is client);
           };
     }
 
@@ -289,93 +282,78 @@ tokens_enough core f e =
     sym (reports_stay (reader_in core request_side) (take n tokens) (drop n tokens) f.message.values enough)
     ∙ ap (λ (l : List ℕ). reports_of (reader_in core request_side) l f.message.values) (take-append-drop n tokens)
 
-same_step : (core : Core) (h : Header) (body : List ℕ) (waiting : ℕ) (m : Received) (args : List ParsedArg)
-    (ended : Option Object) → IsFrame core h body waiting → Ok m ≡ read_by core h body waiting
-    → AreParsed (reader_in core request_side) body args m.values → IsEndedBy m args ended
-    → pending_in core args (pending_of core.tables core.view.client.births ended h m) ≡ step_of core (the_found h m)
-same_step core h body waiting m args ended s e a k =
-    let rest : drop 8 (take h.size core.inbox.bytes) ≡ body = ap (drop 8) s.parts in
-    let tokens = take (takes m) core.inbox.tokens in
-    let f = the_found h m in
-    let same : reported_in (drop 8 (take h.size core.inbox.bytes)) core.view.client.births tokens args ≡ reported core request_side m =
-    ap (λ (b : List ℕ). reported_in b core.view.client.births tokens args) rest
-    ∙ (a.reported tokens ∙ tokens_enough core f (found_is core h body waiting s (Ok m) e)) in
-    let ends = ended_is core h body m args ended a k in
+same_step : (core : Core) (args : List ParsedArg) (f : Found) (ended : Option Object)
+    → HasParsed request_side core args f → IsEndedBy f.message args ended
+    → pending_in core args (pending_of core.tables core.view.client.births ended f) ≡ step_of core f
+same_step core args f ended a k =
+    let tokens = take (takes f.message) core.inbox.tokens in
+    let same : reported_in (body_of core f.size) core.view.client.births tokens args
+    ≡ reported core request_side f.message =
+    a.parsed.reported tokens ∙ tokens_enough core f a.is_found in
+    let ends = ended_is core args f ended a k in
     (λ i. let step = step_of core f in let next : Step =
     record step { report = record step.report { args = same i }; ended = ends i } in next)
 
-pub can_take : (core : Core) (h : Header) (body : List ℕ) (waiting : ℕ) (m : Received) (args : List ParsedArg)
-    (ended : Option Object) → Valid core.tables → HasDisplay core.view → IsFrame core h body waiting
-    → Ok m ≡ read_by core h body waiting
-    → AreParsed (reader_in core request_side) body args m.values → IsEndedBy m args ended
-    → (needs_delete_id ended && nat_lt (room_of core.outbox) delete_id_len) ≡ false
-    → CanTake core (pending_in core args (pending_of core.tables core.view.client.births ended h m))
-can_take core h body waiting m args ended v d s e a k f =
-    subst (CanTake core) (sym (same_step core h body waiting m args ended s e a k))
-    (can_take_found core h body waiting m v d s e (full_by core h body m args ended false a k f))
+-- ---- what `find` returns
 
-pub answers_ok : (core : Core) (globals : List Global) (h : Header) (body : List ℕ) (waiting : ℕ) (m : Received)
-    (args : List ParsedArg) (ended : Option Object) → IsFrame core h body waiting → Ok m ≡ read_by core h body waiting
-    → is_bad_bind core.tables globals h.opcode m ≡ false
-    → (needs_delete_id ended && nat_lt (room_of core.outbox) delete_id_len) ≡ false
-    → AreParsed (reader_in core request_side) body args m.values → IsEndedBy m args ended
-    → Answers core globals (Ok (Some (pending_in core args (pending_of core.tables core.view.client.births ended h m))))
-answers_ok core globals h body waiting m args ended s e b f a k =
-    ap (λ (x : Step). let answer : Result (Option Step) NextError = Ok (Some x) in answer)
-    (same_step core h body waiting m args ended s e a k)
-    ∙ sym (front_ok core globals h body waiting m s e b (full_by core h body m args ended false a k f))
-
--- ---- with the values that the code has
+-- whether there is too little room for the delete_id of what a pending request destroys
+abbrev pub is_full_for : Core → PendingRequest → Bool
+is_full_for core p = needs_delete_id p.change.ended && nat_lt (room_of core.outbox) delete_id_len
 
 -- a fault of the first message
-pub fault_told : (core before : Core) (globals : List Global) (args : List ParsedArg) (o : Option Frame) (f : Frame)
-    (fault : Fault) → core ≡ before → o ≡ Some f → TellsFront core.inbox (Ok o) → IsHeader f.header
-    → IsPendingOf core.tables core.view globals f.header f.body.now args (read_by core f.header f.body.now f.tokens)
-    (Err fault)
-    → Answers before globals (Err (errors.Fault fault core.read))
-fault_told core before globals args o f fault same e t h (inl r) =
-    subst (λ (k : Core). Answers k globals (Err (errors.Fault fault core.read))) same
-    (answers_fault core globals f.header f.body.now f.tokens fault (framed core o f e t h) (sym r))
-fault_told core before globals args o f fault same e t h (inr r) =
-    subst (λ (k : Core). Answers k globals (Err (errors.Fault fault core.read))) same
-    (subst (λ (x : Fault). Answers core globals (Err (errors.Fault x core.read))) (sym r.0)
-    (answers_bad core globals f.header f.body.now f.tokens r.1 (framed core o f e t h) (sym r.2) r.3))
+pub fault_told : (core : Core) (globals : List Global) (args : List ParsedArg) (fault : Fault)
+    → IsFrontMeaning request_side (IsPendingOf globals) core args (Err fault)
+    → Answers core globals (Err (errors.Fault fault core.read))
+fault_told core globals args fault (inl e) =
+    answers_as core globals (Err fault) _ (request_is core globals (Err fault) e) refl
+fault_told core globals args fault (inr w) =
+    subst (λ (x : Fault). Answers core globals (Err (errors.Fault x core.read))) (sym w.2.0)
+    (answers_bad core globals w.0 w.1.is_found w.2.1)
+
+-- the meaning of the first message, if there is one
+abbrev pub Meant : Core → List Global → List ParsedArg → Option PendingRequest → Type 0
+Meant core globals args request = IsFrontMeaning request_side (IsPendingOf globals) core args (Ok request)
+
+pub none_told : (core : Core) (globals : List Global) → found core request_side ≡ Ok None
+    → Answers core globals (Ok None)
+none_told core globals e = answers_as core globals (Ok None) _ (request_is core globals (Ok None) e) refl
 
 -- a request that destroys an object, but there is no room for its delete_id
-pub full_told : (core before : Core) (globals : List Global) (args : List ParsedArg) (o : Option Frame) (f : Frame)
-    (p : PendingRequest) → core ≡ before → o ≡ Some f → TellsFront core.inbox (Ok o) → IsHeader f.header
-    → IsPendingOf core.tables core.view globals f.header f.body.now args (read_by core f.header f.body.now f.tokens)
-    (Ok p)
-    → (needs_delete_id p.change.ended && nat_lt (room_of core.outbox) delete_id_len) ≡ true
-    → Answers before globals (Err errors.OutFull)
-full_told core before globals args o f p same e t h s full =
-    subst (λ (k : Core). Answers k globals (Err errors.OutFull)) same
-    (answers_full core globals f.header f.body.now f.tokens s.0 (framed core o f e t h) (sym s.1) s.2
-    (full_by core f.header f.body.now s.0 args p.change.ended true s.3.parsed s.3.ended full))
+pub full_told : (core : Core) (globals : List Global) (args : List ParsedArg) (p : PendingRequest)
+    → IsFrontMeaning request_side (IsPendingOf globals) core args (Ok (Some p)) → is_full_for core p ≡ true
+    → Answers core globals (Err errors.OutFull)
+full_told core globals args p s full =
+    answers_full core globals s.0 s.1.is_found s.2.0
+    (full_by core args s.0 p.change.ended true s.1 s.2.1.ended full)
 
--- a request that can be taken
-pub request_told : (core before : Core) (globals : List Global) (args : List ParsedArg) (o : Option Frame) (f : Frame)
-    (p : PendingRequest) → core ≡ before → o ≡ Some f → TellsFront core.inbox (Ok o) → IsHeader f.header
-    → IsPendingOf core.tables core.view globals f.header f.body.now args (read_by core f.header f.body.now f.tokens)
-    (Ok p)
-    → (needs_delete_id p.change.ended && nat_lt (room_of core.outbox) delete_id_len) ≡ false
-    → Answers before globals (Ok (Some (pending_in before args p)))
-request_told core before globals args o f p same e t h s fits =
-    subst (λ (k : Core). Answers k globals (Ok (Some (pending_in k args p)))) same
-    (subst (λ (q : PendingRequest). Answers core globals (Ok (Some (pending_in core args q)))) (sym s.3.same)
-    (answers_ok core globals f.header f.body.now f.tokens s.0 args p.change.ended (framed core o f e t h)
-    (sym s.1) s.2 fits s.3.parsed s.3.ended))
+-- the step of a request that can be taken
+step_told : (core : Core) (globals : List Global) (args : List ParsedArg) (p : PendingRequest)
+    → (s : IsFrontMeaning request_side (IsPendingOf globals) core args (Ok (Some p)))
+    → pending_in core args p ≡ step_of core s.0
+step_told core globals args p s =
+    ap (pending_in core args) s.2.1.same ∙ same_step core args s.0 p.change.ended s.1 s.2.1.ended
 
-pub can_take_told : (core before : Core) (globals : List Global) (args : List ParsedArg) (o : Option Frame) (f : Frame)
-    (p : PendingRequest) → core ≡ before → o ≡ Some f → TellsFront core.inbox (Ok o) → IsHeader f.header
-    → Valid core.tables
+pub request_told : (core : Core) (globals : List Global) (args : List ParsedArg) (p : PendingRequest)
+    → IsFrontMeaning request_side (IsPendingOf globals) core args (Ok (Some p)) → is_full_for core p ≡ false
+    → Answers core globals (Ok (Some (pending_in core args p)))
+request_told core globals args p s fits =
+    ap (λ (x : Step). let answer : Result (Option Step) NextError = Ok (Some x) in answer)
+    (step_told core globals args p s)
+    ∙ sym (front_ok core globals s.0 s.1.is_found s.2.0
+    (full_by core args s.0 p.change.ended false s.1 s.2.1.ended fits))
+
+pub can_take_told : (core : Core) (globals : List Global) (args : List ParsedArg) (p : PendingRequest)
     → HasDisplay core.view
-    → IsPendingOf core.tables core.view globals f.header f.body.now args (read_by core f.header f.body.now f.tokens)
-    (Ok p)
-    → (needs_delete_id p.change.ended && nat_lt (room_of core.outbox) delete_id_len) ≡ false
-    → CanTake before (pending_in before args p)
-can_take_told core before globals args o f p same e t h v d s fits =
-    subst (λ (k : Core). CanTake k (pending_in k args p)) same
-    (subst (λ (q : PendingRequest). CanTake core (pending_in core args q)) (sym s.3.same)
-    (can_take core f.header f.body.now f.tokens s.0 args p.change.ended v d (framed core o f e t h)
-    (sym s.1) s.3.parsed s.3.ended fits))
+    → IsFrontMeaning request_side (IsPendingOf globals) core args (Ok (Some p)) → is_full_for core p ≡ false
+    → CanTake core (pending_in core args p)
+can_take_told core globals args p d s fits =
+    subst (CanTake core) (sym (step_told core globals args p s))
+    (can_take_found core s.0 s.1.valid d s.1.is_found
+    (full_by core args s.0 p.change.ended false s.1 s.2.1.ended fits))
+
+pub entry_told : (core : Core) (globals : List Global) (args : List ParsedArg) (p : PendingRequest)
+    → IsFrontMeaning request_side (IsPendingOf globals) core args (Ok (Some p))
+    → look core.view p.outline.target.id ≡ Some p.entry
+entry_told core globals args p s =
+    subst (λ (q : PendingRequest). look core.view q.outline.target.id ≡ Some q.entry) (sym s.2.1.same)
+    (target_row core s.0 s.1.is_found)

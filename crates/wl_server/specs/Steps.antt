@@ -1,12 +1,12 @@
 -- How a server reads a request: what it finds at the front, and the state that the reading leaves.
-use Rattle.std.specs.Prelude.{◌≡◌, ◌≢◌, ◌⊎◌, ◌&&◌, not, ℕ, ◌≤◌, Bool, true, false, List, []}
+use Rattle.std.specs.Prelude.{◌≡◌, ◌≢◌, ◌&&◌, not, ℕ, ◌≤◌, Bool, true, false, List, []}
 use Rattle.std.specs.Prelude.{if◌then◌else◌, length, take, drop, Option, Some, None, IsTrue}
 use Rattle.std.specs.declared.result.Result.{Result}
 use Rattle.std.specs.declared.result.Result.TheVariants.{Ok, Err}
 use Rattle.wl_sigs.specs.Destroys.{Destroys}
 use Rattle.wl_sigs.specs.Destroys.TheVariants.{Nothing, Target, Arg}
 use Rattle.wl_sigs.specs.Side.TheVariants.{Request as request_side}
-use Rattle.wl_sigs.specs.Tables.{Interface, max_args, descriptors}
+use Rattle.wl_sigs.specs.Tables.{Interface, max_args}
 use Rattle.wl_message.specs.Arrived.{in_front}
 use Rattle.wl_message.specs.Cut.{Whole}
 use Rattle.wl_object_map.specs.declared.object.Entry.{Entry}
@@ -18,11 +18,10 @@ use Rattle.wl_object_map.specs.declared.object.Object.{Object}
 use Rattle.wl_object_map.specs.View.{free_or_next, has_room}
 use Rattle.wl_object_map.specs.Objects.{Objects, look, closed}
 use Rattle.wl_object_map.specs.Ranges.{is_of_server}
-use Rattle.wl_wire.specs.declared.header.Header.{Header}
 use Rattle.wl_objects.specs.Reading.{Reported}
 use Rattle.wl_objects.specs.declared.parsed.ParsedArg.{ParsedArg}
-use Rattle.wl_objects.specs.Parsed.{AreParsed, reported_in}
-use Rattle.wl_objects.specs.Messages.{NewObject, Received, is_bind, made, opens, reader_of}
+use Rattle.wl_objects.specs.Parsed.{reported_in}
+use Rattle.wl_objects.specs.Messages.{NewObject, Received, is_bind, made, opens}
 use Rattle.wl_connection.specs.Core.{Core, past, with_view}
 use Rattle.wl_connection.specs.Receiving.{Found, takes}
 use Rattle.wl_connection.specs.Sending.{with_following, with_error_event, fits, delete_id_len}
@@ -97,25 +96,24 @@ IsEndedBy m args ended =
     (report_with m.target opcode (reported_in body birth tokens args))
 
 -- the meaning of a message that destroys this object, given the birth of a new one
-abbrev pub pending_of : List Interface → ℕ → Option Object → Header → Received → PendingRequest
-pending_of tables birth ended header message = record {
-  outline = record { target = message.target; opcode = header.opcode; birth = birth };
+abbrev pub pending_of : List Interface → ℕ → Option Object → Found → PendingRequest
+pending_of tables birth ended f = record {
+  outline = record { target = f.message.target; opcode = f.opcode; birth = birth };
   change = record {
-    made = made tables message.entry.version message.signature.kinds message.values;
+    made = made tables f.message.entry.version f.message.signature.kinds f.message.values;
     ended = ended;
   };
-  entry = message.entry;
-  size = header.size;
-  tokens = descriptors message.signature.kinds;
+  entry = f.message.entry;
+  size = f.size;
+  tokens = takes f.message;
 }
 
--- A pending request describes what this message, with this body and these parsed arguments, means
--- and does, given these tables and objects.
-pub record IsPending (tables : List Interface) (view : Objects) (header : Header) (body : List ℕ)
-    (args : List ParsedArg) (message : Received) (p : PendingRequest) : Type 0 where
-  pub parsed : AreParsed (reader_of tables request_side view) body args message.values
-  pub ended : IsEndedBy message args p.change.ended
-  pub same : p ≡ pending_of tables view.client.births p.change.ended header message
+-- A pending request describes what this message, with these parsed arguments, means and does, given
+-- these tables and objects.
+pub record IsPending (tables : List Interface) (view : Objects) (args : List ParsedArg) (f : Found)
+    (p : PendingRequest) : Type 0 where
+  pub ended : IsEndedBy f.message args p.change.ended
+  pub same : p ≡ pending_of tables view.client.births p.change.ended f
 
 -- whether a message is a bind that names no global that was ever advertised in this way
 abbrev pub is_bad_bind : List Interface → List Global → ℕ → Received → Bool
@@ -123,19 +121,13 @@ is_bad_bind tables globals opcode message =
     is_bind request_side message.entry.iface opcode
     && not (is_good_bind_of tables globals message.values)
 
--- The result for a message at the front that its reader reads in this way: a request, or the
--- message's fault.
-abbrev pub IsPendingOf : List Interface → Objects → List Global → Header → List ℕ → List ParsedArg
-    → Result Received Fault → Result PendingRequest Fault → Type 0
-IsPendingOf tables view globals header body args r (Err fault) =
-    (r ≡ Err fault)
-    ⊎ ((fault ≡ faults.BadBind)
-    × (message : Received) × (r ≡ Ok message)
-    × (is_bad_bind tables globals header.opcode message ≡ true))
-IsPendingOf tables view globals header body args r (Ok p) =
-    (message : Received) × (r ≡ Ok message)
-    × (is_bad_bind tables globals header.opcode message ≡ false)
-    × IsPending tables view header body args message p
+-- What a message means: a request, or a fault if it is a bad bind.
+abbrev pub IsPendingOf : List Global → List Interface → Objects → List ℕ → List ParsedArg → Found
+    → Result PendingRequest Fault → Type 0
+IsPendingOf globals tables view body args f (Err fault) =
+    (fault ≡ faults.BadBind) × (is_bad_bind tables globals f.opcode f.message ≡ true)
+IsPendingOf globals tables view body args f (Ok p) =
+    (is_bad_bind tables globals f.opcode f.message ≡ false) × IsPending tables view args f p
 
 -- the report of a request at the front
 abbrev pub front_report : Core → List ParsedArg → PendingRequest → Report

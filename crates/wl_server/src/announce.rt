@@ -139,7 +139,7 @@ impl<'t, T: Table> Server<'t, T> {
             return Err(SendError::Failed);
         }
         let core = &mut self.end.core;
-        let told = self.kept.registries.announce(core, &self.kept.globals);
+        let told = self.role.registries.announce(core, &self.role.globals);
         Ok(told.count)
     }
 }

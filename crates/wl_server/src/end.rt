@@ -74,7 +74,7 @@ impl<'t, T: Table> Receiver for Server<'t, T> {
     ghost is_last = { is_last };
 
     fn has_report(&mut self) -> bool {
-        match find(&mut self.end, &self.kept.globals) {
+        match find(&mut self.end, &self.role) {
             Ok(Some(_)) => true,
             _ => false,
         }

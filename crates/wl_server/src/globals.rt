@@ -86,7 +86,7 @@ impl<'t, T: Table> Server<'t, T> {
         if !can_be_global(self.end.core.tables, iface, version) {
             return Err(GlobalError::BadGlobal);
         }
-        let count = self.kept.globals.len();
+        let count = self.role.globals.len();
         if count >= MAX_GLOBALS {
             return Err(GlobalError::TooMany);
         }
@@ -95,9 +95,9 @@ impl<'t, T: Table> Server<'t, T> {
             version,
             present: true,
         };
-        match self.kept.globals.push(global) {
+        match self.role.globals.push(global) {
             Ok(()) => {
-                self.kept.registries.unsettle();
+                self.role.registries.unsettle();
                 Ok(count as u32 + 1)
             }
             Err(_) => Err(GlobalError::Memory),
@@ -114,10 +114,10 @@ impl<'t, T: Table> Server<'t, T> {
         if self.end.core.failed {
             return Err(GlobalError::Failed);
         }
-        match global_of(&self.kept.globals, name) {
+        match global_of(&self.role.globals, name) {
             Some(global) if global.present => {
-                self.kept.registries.unsettle();
-                self.kept.globals[name as usize - 1] = Advertised {
+                self.role.registries.unsettle();
+                self.role.globals[name as usize - 1] = Advertised {
                     present: false,
                     ..global
                 };

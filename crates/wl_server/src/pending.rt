@@ -1,29 +1,23 @@
 //! The message at the front of a server's inbox: a request that was read and not yet taken.
 ghost use Rattle.std.specs.Prelude.{◌≡◌, ◌&&◌, ℕ, List, Some, IfOk, IfSome, nat_lt};
-ghost use Rattle.wl_wire.specs.Word.{IsHeader};
-ghost use Rattle.wl_sigs.specs.Side.TheVariants.{Request as request_side};
-ghost use Rattle.wl_sigs.specs.Valid.{Valid};
 ghost use Rattle.wl_object_map.specs.Objects.{look};
-ghost use Rattle.wl_objects.specs.Messages.{made, reader_of, received};
+ghost use Rattle.wl_objects.specs.Messages.{made};
 ghost use Rattle.wl_objects.specs.Parsed.{reported_in};
 ghost use Rattle.wl_objects.specs.Seen.{received_of};
 ghost use Rattle.wl_connection.specs.Sending.{delete_id_len};
-ghost use Rattle.wl_server.specs.Steps.{CanTake, IsEndedBy, IsPendingOf, ended_by_request};
+ghost use Rattle.wl_server.specs.Steps.{CanTake, IsEndedBy, ended_by_request};
 ghost use Rattle.wl_server.specs.Steps.{front_step, needs_delete_id, pending_in, pendings_in};
 ghost use Rattle.wl_server.specs.Steps.{report_with, server_state};
 
-use crate::bind::is_bad_bind;
 use crate::changes::Change;
-use crate::globals::Advertised;
 use crate::outline::Outline;
-use wl_connection::{DELETE_ID_LEN, Endpoint};
-use wl_message::Frame;
+use crate::role::ServerRole;
+use wl_connection::{DELETE_ID_LEN, Endpoint, first_message};
 use wl_object_map::FIRST_SERVER_ID;
 use wl_objects::{
-    Entry, Fault, NextError, Object, Objects, ObjectsLookup, ParsedArg, ParsedArgs, Received,
-    Table, made_by_message, receive,
+    Entry, NextError, Object, ParsedArg, ParsedArgs, Received, Table, made_by_message,
 };
-use wl_sigs::{Destroys, Side, Tables};
+use wl_sigs::{Destroys, Tables};
 
 /// A request that was read and not yet taken: its report and its changes. It borrows nothing; its
 /// arguments are at the end that read it.
@@ -62,29 +56,21 @@ fn ended_by(destroys: Destroys, target: Object, args: &ParsedArgs) -> Option<Obj
 /// The first request, if it is whole and can be taken. Only the parsed arguments change.
 pub(crate) fn find<T: Table>(
     end: &mut Endpoint<'_, T>,
-    globals: &[Advertised],
+    role: &ServerRole<T::Alloc>,
 ) -> Result<Option<PendingRequest>, NextError>
     ensures answer { pendings_in end.old.core end.new.args result
-        ≡ front_step (server_state end.old.core globals.now) }
+        ≡ front_step (server_state end.old.core role.now.globals.items) }
     ensures can { IfOk result (λ found. IfSome found
         (λ request. CanTake end.old.core (pending_in end.old.core end.new.args request))) }
     ensures same { end.new.core ≡ end.old.core }
     ensures entry { IfOk result (λ found. IfSome found (λ request.
         look end.old.core.view request.outline.target.id ≡ Some request.entry)) }
 {
-    let Endpoint { core, args } = end;
-    let offset = core.read;
-    let room = core.outbox.room();
-    let frame = match core.inbox.frame() {
-        Ok(Some(frame)) => frame,
+    let offset = end.core.read;
+    let room = end.core.outbox.room();
+    let request = match first_message(end, role) {
+        Ok(Some(request)) => request,
         Ok(None) => return Ok(None),
-        Err(_) => return Err(NextError::Fault {
-            fault: Fault::BadSize,
-            offset,
-        }),
-    };
-    let request = match pending_of(args, core.tables, &core.objects, globals, frame) {
-        Ok(request) => request,
         Err(fault) => return Err(NextError::Fault { fault, offset }),
     };
     if lacks_room(room, request.change.ended) {
@@ -93,52 +79,8 @@ pub(crate) fn find<T: Table>(
     Ok(Some(request))
 }
 
-/// The meaning and the changes of a message, with its arguments parsed.
-fn pending_of<T: Table>(
-    args: &mut ParsedArgs,
-    tables: &Tables,
-    objects: &Objects<T>,
-    globals: &[Advertised],
-    frame: Frame<'_>,
-) -> Result<PendingRequest, Fault>
-    ensures header { IsHeader frame.entry.header }
-    ensures valid { IfOk result (λ _. Valid tables.now) }
-    ensures comes { IsPendingOf tables.now objects.now globals.now
-        frame.entry.header frame.entry.body.now args.new
-        (received tables.now request_side (reader_of tables.now request_side objects.now)
-        frame.entry.header frame.entry.body.now frame.entry.tokens) result }
-    ensures entry { IfOk result (λ request.
-        look objects.now request.outline.target.id ≡ Some request.entry) }
-{
-    let header = frame.header;
-    let lookup = ObjectsLookup {
-        tables,
-        side: Side::Request,
-        objects,
-    };
-    let received = receive(args, &lookup, header, frame.body, frame.tokens);
-    let message = match received {
-        Ok(message) => message,
-        Err(fault) => return Err(fault),
-    };
-    if is_bad_bind(tables, globals, header.opcode, &message) {
-        return Err(Fault::BadBind);
-    }
-    Ok(PendingRequest {
-        outline: Outline {
-            target: message.target,
-            opcode: header.opcode,
-            birth: objects.client().births(),
-        },
-        change: change_of(tables, &message),
-        entry: message.entry,
-        size: header.size,
-        tokens: message.tokens,
-    })
-}
-
 /// How a message changes the objects.
-fn change_of(tables: &Tables, message: &Received<'_, '_>) -> Change
+pub(crate) fn change_of(tables: &Tables, message: &Received<'_, '_>) -> Change
     ensures made { result.made ≡ made tables.now message.now.entry.version
         message.now.signature.now.kinds (received_of message.now).values }
     ensures ended { IsEndedBy (received_of message.now) message.now.args.now result.ended }

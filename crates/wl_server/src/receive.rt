@@ -33,7 +33,7 @@ impl<'t, T: Table> Server<'t, T> {
             (λ server. server ≡ unless_memory self.old (after_next self.old) (lent_in result))) }
         ensures answer { IsLentNext server_role self.old (lent_in result) }
     {
-        match read(&mut self.end, &mut self.kept)? {
+        match read(&mut self.end, &mut self.role)? {
             Some(request) => Ok(Some(lend(&self.end, request))),
             None => Ok(None),
         }
@@ -50,7 +50,7 @@ impl<'t, T: Table> Server<'t, T> {
         ensures entry { IfOk result (λ read. IfSome read (λ told.
             look self.old.core.view told.request.target.id ≡ Some told.entry)) }
     {
-        match read(&mut self.end, &mut self.kept)? {
+        match read(&mut self.end, &mut self.role)? {
             Some(request) => Ok(Some(RequestWithEntry {
                 request: lend(&self.end, request),
                 entry: request.entry,
@@ -83,7 +83,7 @@ impl<'t, T: Table> Server<'t, T> {
         ensures entry { IfOk result (λ read. IfSome read (λ told.
             look self.old.core.view told.request.target.id ≡ Some told.entry)) }
     {
-        match read_owned(&mut self.end, &mut self.kept, &self.alloc)? {
+        match read_owned(&mut self.end, &mut self.role, &self.alloc)? {
             Some((report, request)) => Ok(Some(OwnedRequestWithEntry {
                 request: report,
                 entry: request.entry,

@@ -1,32 +1,72 @@
 //! What a server keeps besides its endpoint, and how it reads a request with it.
 
+use crate::bind::is_bad_bind;
 use crate::changes::{Change, close_object, open_new_object};
 use crate::faults::report_fault;
 use crate::globals::Advertised;
 use crate::open_registries::OpenRegistries;
-use crate::pending::{PendingRequest, find};
+use crate::outline::Outline;
+use crate::pending::{PendingRequest, change_of, find};
 use crate::report::OwnedRequest;
 use std::alloc::{AllocError, Allocator};
-use wl_connection::{Endpoint, Role};
-use wl_objects::{NextError, Table};
+use wl_connection::{Endpoint, Meaning, Role};
+use wl_objects::{Fault, NextError, Objects, Received, Table};
+use wl_sigs::{Side, Tables};
+use wl_wire::Header;
 
 /// What a server keeps besides its endpoint.
 #[derive(Drop)]
-pub(crate) struct Kept<A: Allocator> {
+pub(crate) struct ServerRole<A: Allocator> {
     /// The globals that it added, in the order of their names.
     pub(crate) globals: Vec<Advertised, A>,
     pub(crate) registries: OpenRegistries<A>,
 }
 
-impl<T: Table> Role<T> for Kept<T::Alloc> {
+impl<T: Table> Meaning<T> for ServerRole<T::Alloc> {
+    ghost use Rattle.wl_sigs.specs.Side.TheVariants.{Request as request_side};
+    ghost use Rattle.wl_server.specs.Steps.{IsPendingOf};
+
+    type Pending = PendingRequest;
+
+    ghost reads = { request_side };
+
+    ghost Means = { λ kept. IsPendingOf kept.globals.items };
+
+    fn side(&self) -> Side {
+        Side::Request
+    }
+
+    fn pending_of(
+        &self,
+        tables: &Tables,
+        objects: &Objects<T>,
+        header: Header,
+        message: &Received<'_, '_>,
+    ) -> Result<PendingRequest, Fault> {
+        if is_bad_bind(tables, &self.globals, header.opcode, message) {
+            return Err(Fault::BadBind);
+        }
+        Ok(PendingRequest {
+            outline: Outline {
+                target: message.target,
+                opcode: header.opcode,
+                birth: objects.client().births(),
+            },
+            change: change_of(tables, message),
+            entry: message.entry,
+            size: header.size,
+            tokens: message.tokens,
+        })
+    }
+}
+
+impl<T: Table> Role<T> for ServerRole<T::Alloc> {
     ghost use Rattle.wl_server.specs.State.{State as ServerState};
     ghost use Rattle.wl_server.specs.Requests.{Report as ServerReport, server_role};
     ghost use Rattle.wl_server.specs.Seen.{report_of};
     ghost use Rattle.wl_server.specs.Slots.{IsSound as IsSoundServer};
     ghost use Rattle.wl_server.specs.Steps.{IsNextRequest, front_report, taken_report};
     ghost use Rattle.wl_server.specs.Steps.{whole_state};
-
-    type Pending = PendingRequest;
 
     type Owned = OwnedRequest<T::Alloc>;
 
@@ -53,7 +93,7 @@ impl<T: Table> Role<T> for Kept<T::Alloc> {
         if end.core.failed {
             return Err(NextError::Failed);
         }
-        match find(end, &self.globals) {
+        match find(end, self) {
             Ok(request) => Ok(request),
             Err(why) => {
                 // Writes the error event for a fault.

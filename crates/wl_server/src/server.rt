@@ -4,7 +4,7 @@ ghost use Rattle.wl_message.specs.Arrived.{AreSizes};
 ghost use Rattle.wl_server.specs.State.{new_state};
 
 use crate::open_registries::OpenRegistries;
-use crate::role::Kept;
+use crate::role::ServerRole;
 use std::alloc::AllocError;
 use std::marker::Model;
 use wl_connection::{Core, Endpoint};
@@ -19,7 +19,7 @@ pub struct Server<'t, T: Table> {
     pub(crate) end: Endpoint<'t, T>,
     /// Allocates owned reports.
     pub(crate) alloc: T::Alloc,
-    pub(crate) kept: Kept<T::Alloc>,
+    pub(crate) role: ServerRole<T::Alloc>,
 }
 
 impl<'t, T: Table> Model for Server<'t, T> {
@@ -34,11 +34,11 @@ impl<'t, T: Table> Model for Server<'t, T> {
 
     ghost view = { λ s. record {
       core = s.end.core;
-      globals = s.kept.globals.items;
-      registries = s.kept.registries.list;
+      globals = s.role.globals.items;
+      registries = s.role.registries.list;
     } };
 
-    ghost invariant = { λ s. IsSound s.end.core s.kept.globals.items s.kept.registries };
+    ghost invariant = { λ s. IsSound s.end.core s.role.globals.items s.role.registries };
 }
 
 impl<'t, T: Table> Server<'t, T> {
@@ -53,7 +53,7 @@ impl<'t, T: Table> Server<'t, T> {
         Ok(Server {
             end: Endpoint::new(core),
             alloc,
-            kept: Kept {
+            role: ServerRole {
                 globals,
                 registries,
             },

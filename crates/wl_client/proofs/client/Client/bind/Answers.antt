@@ -45,15 +45,15 @@ pub returns-clause-ok : goal.returns-clause-ok
 returns-clause-ok g c =
     let state : State = record {
       core = c.self.inside.end.core;
-      globals = c.self.inside.kept.globals;
-      made = c.self.inside.kept.made;
-      replaced = c.self.inside.kept.replaced;
+      globals = c.self.inside.role.globals;
+      made = c.self.inside.role.made;
+      replaced = c.self.inside.role.replaced;
     } in
     let target = c.args.registry in
     let iface = c.args.iface.now in
     let made : c.in-Some-get.global.iface ≡ iface_or (global_of state.globals c.args.name) =
     ap iface_or c.in-Some-get.ensures
-    ∙ ap (λ (i : Inside g.row.T.Denot g.row.T-Alloc.Denot). iface_or (global_of i.kept.globals c.args.name))
+    ∙ ap (λ (i : Inside g.row.T.Denot g.row.T-Alloc.Denot). iface_or (global_of i.role.globals c.args.name))
     c.self-inside.view_is in
     ap (λ (core : Core). record state { core = core })
     (c.write_bind.ensures
@@ -68,9 +68,9 @@ pub returns-clause-answer : goal.returns-clause-answer
 returns-clause-answer g c =
     let state : State = record {
       core = c.self.inside.end.core;
-      globals = c.self.inside.kept.globals;
-      made = c.self.inside.kept.made;
-      replaced = c.self.inside.kept.replaced;
+      globals = c.self.inside.role.globals;
+      made = c.self.inside.role.made;
+      replaced = c.self.inside.role.replaced;
     } in
     let opens = bind_opens state c.args.registry c.args.name c.args.iface.now c.args.version c.in-Some.entry
     c.in-Some-get.global (search rules) (search rules) (sym c.if-ne.ensures) (search rules) (search rules)

@@ -45,9 +45,9 @@ pub returns-clause-ok : goal.returns-clause-ok
 returns-clause-ok g c =
     let state : State = record {
       core = c.self.inside.end.core;
-      globals = c.self.inside.kept.globals;
-      made = c.self.inside.kept.made;
-      replaced = c.self.inside.kept.replaced;
+      globals = c.self.inside.role.globals;
+      made = c.self.inside.role.made;
+      replaced = c.self.inside.role.replaced;
     } in
     let target = c.args.registry in
     let iface = c.args.iface.now in
@@ -68,9 +68,9 @@ pub returns-clause-answer : goal.returns-clause-answer
 returns-clause-answer g c =
     let state : State = record {
       core = c.self.inside.end.core;
-      globals = c.self.inside.kept.globals;
-      made = c.self.inside.kept.made;
-      replaced = c.self.inside.kept.replaced;
+      globals = c.self.inside.role.globals;
+      made = c.self.inside.role.made;
+      replaced = c.self.inside.role.replaced;
     } in
     let opens = unannounced_opens state c.args.registry c.args.name c.args.iface.now c.args.version c.in-Some.entry
     c.in-Some-any_global.global (search rules) (search rules) (sym c.if-ne.ensures) (search rules) (search rules)
@@ -85,9 +85,9 @@ pub returns-in_err-object-clause-answer : goal.returns-in_err-object-clause-answ
 returns-in_err-object-clause-answer g c =
     let state : State = record {
       core = c.self.inside.end.core;
-      globals = c.self.inside.kept.globals;
-      made = c.self.inside.kept.made;
-      replaced = c.self.inside.kept.replaced;
+      globals = c.self.inside.role.globals;
+      made = c.self.inside.role.made;
+      replaced = c.self.inside.role.replaced;
     } in
     let opens = unannounced_opens state c.args.registry c.args.name c.args.iface.now c.args.version c.in-Some.entry
     c.in-Some-any_global.global (search rules) (search rules) (sym c.if-ne.ensures) (search rules) (search rules)

@@ -10,15 +10,15 @@ pub returns-clause-yes : goal.returns-clause-yes
 returns-clause-yes g c t =
     let state : State = record {
       core = c.self.inside.end.core;
-      globals = c.self.inside.kept.globals;
-      made = c.self.inside.kept.made;
-      replaced = c.self.inside.kept.replaced;
+      globals = c.self.inside.role.globals;
+      made = c.self.inside.role.made;
+      replaced = c.self.inside.role.replaced;
     } in
-    elim c.match-find.branch [
+    elim c.match-first_message.branch [
       | in-Ok-Some w ↦
           let front = rw w.in-Ok-Some.field-0-is at w.in-Ok-Some.ensures.comes in
           subst (HasReport client_reading) c.self.view_is
-          (has_one state front.0 (ap (λ (s : State). s.core.failed) c.self.view_is ∙ c.requires) front.1)
+          (has_one state front.0 (ap (λ (s : State). s.core.failed) c.self.view_is ∙ c.requires) front.1.is_found)
       | in_default w ↦ absurd (let r = w.result-is in cc)
       | in_default-2 w ↦ absurd (let r = w.result-is in cc)
     ]

@@ -1,4 +1,4 @@
-use Rattle.std.proofs.Common.{◌≡◌, false, ap, sym, subst, ◌∙◌}
+use Rattle.std.proofs.Common.{◌≡◌, false, refl, ap, sym, subst, ◌∙◌}
 use Rattle.std.specs.declared.option.Option.TheVariants.{Some}
 use Rattle.std.specs.declared.result.Result.TheVariants.{Ok as ok}
 use Rattle.wl_connection.specs.Reads.{HasReport}
@@ -13,14 +13,14 @@ pub returns-clause-yes : goal.returns-clause-yes
 returns-clause-yes g c t =
     let state : State = record {
       core = c.self.inside.end.core;
-      globals = c.self.inside.kept.globals.items;
-      registries = c.self.inside.kept.registries.list;
+      globals = c.self.inside.role.globals.items;
+      registries = c.self.inside.role.registries.list;
     } in
     let lives : state.core.failed ≡ false = ap (λ (s : State). s.core.failed) c.self.view_is ∙ c.requires in
     elim c.match-find.branch [
       | in-Ok-Some w ↦
           let step = pending_in state.core c.find.new.end.args w.in-Ok-Some.field-0-0 in
-          let answer = seen-by state c.deref.result.now (ok (Some step)) lives c.deref.ensures.value
+          let answer = seen-by state state.globals (ok (Some step)) lives refl
           (rw w.in-Ok-Some.field-0-is at w.in-Ok-Some.ensures.answer) in
           subst (HasReport server_reading) c.self.view_is (step.report, sym (answer-is state (ok (Some step)) answer))
       | in_default w ↦ absurd (let r = w.result-is in cc)

@@ -12,13 +12,13 @@ use Rattle.wl_server.proofs.server.Server.announce.Goals as goal
 
 pub announce-told-requires-clause-settled : goal.announce-told-requires-clause-settled
 announce-told-requires-clause-settled g c =
-    ap (λ (gs : List Global). owed_in gs (settled_in c.self.inside.kept.registries)) c.deref.ensures.value
+    ap (λ (gs : List Global). owed_in gs (settled_in c.self.inside.role.registries)) c.deref.ensures.value
     ∙ c.self.invariant.settled
 
 pub invariant_of-self : goal.invariant_of-self
 invariant_of-self g c =
     let core = c.self.inside.end.core in
-    let registries = c.self.inside.kept.registries.list in
+    let registries = c.self.inside.role.registries.list in
     let now = c.announce-told.new.core in
     let left = c.announce-told.new.self in
     let told = c.announce-told.ensures.told in
@@ -36,8 +36,8 @@ pub returns : goal.returns
 returns g c =
     let state : State = record {
       core = c.self.inside.end.core;
-      globals = c.self.inside.kept.globals.items;
-      registries = c.self.inside.kept.registries.list;
+      globals = c.self.inside.role.globals.items;
+      registries = c.self.inside.role.registries.list;
     } in
     let ordinary : IsOrdinary state.core.outbox =
     subst (λ (core : Core). IsOrdinary core.outbox) (λ i. (c.self-inside.view_is i).end.core)

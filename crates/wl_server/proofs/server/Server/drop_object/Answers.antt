@@ -35,9 +35,9 @@ invariant_of-self g c =
     let e = c.close_dropped.ensures in
     record {
       few = c.self.invariant.few;
-      registries = has_by c.self.inside.kept.registries.list c.args.object c.close_dropped.result c.self.inside.end.core
+      registries = has_by c.self.inside.role.registries.list c.args.object c.close_dropped.result c.self.inside.end.core
           c.close_dropped.new.core e.answer e.ok e.err e.valid c.self.invariant.registries;
-      past = past_by c.self.inside.kept.registries.past c.args.object c.close_dropped.result c.self.inside.end.core
+      past = past_by c.self.inside.role.registries.past c.args.object c.close_dropped.result c.self.inside.end.core
           c.close_dropped.new.core e.ok e.err c.self.invariant.past;
       settled = c.self.invariant.settled;
       lasting = lasting_drop c.self.inside.end.core c.close_dropped.new.core c.args.object c.close_dropped.result e.ok e.err

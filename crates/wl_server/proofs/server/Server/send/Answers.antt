@@ -28,13 +28,13 @@ invariant_of-self g c =
     let e = c.send.ensures in
     record {
       few = c.self.invariant.few;
-      registries = by_result (λ (k : Core). HasRegistries k.view c.self.inside.kept.registries.list) c.send.result core now
+      registries = by_result (λ (k : Core). HasRegistries k.view c.self.inside.role.registries.list) c.send.result core now
           sent e.ok e.err e.valid e.sound
-          (λ v s is. has_sent core now c.self.inside.kept.registries.list c.args.target c.args.opcode list v s is
+          (λ v s is. has_sent core now c.self.inside.role.registries.list c.args.target c.args.opcode list v s is
           c.self.invariant.registries) c.self.invariant.registries;
-      past = by_result (λ (k : Core). c.self.inside.kept.registries.past ≤ k.view.client.births) c.send.result core now sent e.ok
+      past = by_result (λ (k : Core). c.self.inside.role.registries.past ≤ k.view.client.births) c.send.result core now sent e.ok
           e.err e.valid e.sound
-          (λ v s is. past_sent core now c.self.inside.kept.registries.past c.args.target c.args.opcode list v is
+          (λ v s is. past_sent core now c.self.inside.role.registries.past c.args.target c.args.opcode list v is
           c.self.invariant.past) c.self.invariant.past;
       settled = c.self.invariant.settled;
       lasting = lasting_send core now c.args.target c.args.opcode c.args.args.now c.send.result e.ok e.err e.valid e.sound

@@ -3,7 +3,7 @@ use Rattle.std.specs.Prelude.{IfOk, OnErr}
 use Rattle.wl_client.specs.Reports.{Report, needs_memory}
 use Rattle.wl_client.specs.Seen.{report_of}
 use Rattle.wl_client.proofs.Fronts.{front_told}
-use Rattle.wl_client.proofs.role.KeptAllocRole.copy.Goals as goal
+use Rattle.wl_client.proofs.role.ClientRoleAllocRole.copy.Goals as goal
 
 pub returns-clause-ok : goal.returns-clause-ok
 returns-clause-ok g c =

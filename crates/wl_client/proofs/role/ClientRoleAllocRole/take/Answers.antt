@@ -5,7 +5,7 @@ use Rattle.wl_connection.specs.Core.{Core}
 use Rattle.wl_client.specs.State.{IsSound}
 use Rattle.wl_client.specs.Steps.{CanChange}
 use Rattle.wl_client.proofs.SoundClients.{sound_by, sound_changed, sound_opened}
-use Rattle.wl_client.proofs.role.KeptAllocRole.take.Goals as goal
+use Rattle.wl_client.proofs.role.ClientRoleAllocRole.take.Goals as goal
 
 pub returns-clause-sound : goal.returns-clause-sound
 returns-clause-sound g c =

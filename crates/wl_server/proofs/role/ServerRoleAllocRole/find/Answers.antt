@@ -1,10 +1,10 @@
-use Rattle.std.proofs.Common.{◌≡◌, false, ap, ◌∙◌, rules}
+use Rattle.std.proofs.Common.{◌≡◌, false, refl, ap, ◌∙◌, rules}
 use Rattle.std.specs.declared.result.Result.TheVariants.{Err as err}
 use Rattle.wl_connection.specs.Core.{Core}
 use Rattle.wl_server.specs.State.{State}
 use Rattle.wl_server.specs.Steps.{core_told, whole_state}
 use Rattle.wl_server.proofs.AfterRequest.{after-is, answer-is, seen-by}
-use Rattle.wl_server.proofs.role.KeptAllocRole.find.Goals as goal
+use Rattle.wl_server.proofs.role.ServerRoleAllocRole.find.Goals as goal
 
 pub returns-in-Err-clause-answer : goal.returns-in-Err-clause-answer
 returns-in-Err-clause-answer g c =
@@ -12,7 +12,7 @@ returns-in-Err-clause-answer g c =
     let state : State = whole_state c.args.end.now.core kept.globals.items kept.registries.list in
     let lives : state.core.failed ≡ false = search rules in
     answer-is state (err c.in-Err.why)
-    (seen-by state c.deref.result.now (err c.in-Err.why) lives c.deref.ensures.value c.in-Err.ensures.answer)
+    (seen-by state state.globals (err c.in-Err.why) lives refl c.in-Err.ensures.answer)
 
 pub returns-in-Err-clause-fails : goal.returns-in-Err-clause-fails
 returns-in-Err-clause-fails g c =
@@ -23,4 +23,4 @@ returns-in-Err-clause-fails g c =
     c.report_fault.ensures ∙ ap (λ (k : Core). core_told k c.in-Err.why) c.in-Err.ensures.same in
     ap (λ (k : Core). whole_state k kept.globals.items kept.registries.list) now
     ∙ after-is state (err c.in-Err.why)
-    (seen-by state c.deref.result.now (err c.in-Err.why) lives c.deref.ensures.value c.in-Err.ensures.answer)
+    (seen-by state state.globals (err c.in-Err.why) lives refl c.in-Err.ensures.answer)

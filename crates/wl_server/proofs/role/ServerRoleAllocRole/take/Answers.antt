@@ -9,7 +9,7 @@ use Rattle.wl_server.proofs.AfterRequest.{taken-is, taken-left}
 use Rattle.wl_server.proofs.Closings.{registries_opened, row_opened}
 use Rattle.wl_server.proofs.LastingObjects.{lasting_step}
 use Rattle.wl_server.proofs.Registries.{births_left, has_now}
-use Rattle.wl_server.proofs.role.KeptAllocRole.take.Goals as goal
+use Rattle.wl_server.proofs.role.ServerRoleAllocRole.take.Goals as goal
 
 pub open_new_object-requires-clause-free : goal.open_new_object-requires-clause-free
 open_new_object-requires-clause-free g c = c.requires.ahead.can_take.made

@@ -5,7 +5,7 @@ use Rattle.std.specs.Prelude.{IfOk}
 use Rattle.wl_server.specs.Requests.{Report}
 use Rattle.wl_server.specs.Seen.{report_of}
 use Rattle.wl_server.proofs.AfterRequest.{copy-wants, front-told}
-use Rattle.wl_server.proofs.role.KeptAllocRole.copy.Goals as goal
+use Rattle.wl_server.proofs.role.ServerRoleAllocRole.copy.Goals as goal
 
 pub returns-clause-ok : goal.returns-clause-ok
 returns-clause-ok g c =
