@@ -1,6 +1,5 @@
 //! The moves of the session.
-ghost use Rattle.std.specs.Prelude.{◌≡◌, IfOk, List, [], ◌∷◌, map, Some, unwrap_or};
-ghost use Rattle.wl_sigs.specs.Tables.{place_of};
+ghost use Rattle.std.specs.Prelude.{◌≡◌, IfOk, [], ◌∷◌, unwrap_or};
 ghost use Rattle.wl_session.specs.Meaning.{args_of, move_of, moves_of};
 ghost use Rattle.theory_connection.specs.Pair.{AddGlobal, ClientBind, ClientSend, ServerSend};
 ghost use Rattle.program_demo.specs.Moves as session;

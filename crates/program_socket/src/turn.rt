@@ -3,7 +3,6 @@
 ghost use Rattle.std.specs.Prelude.{◌≡◌, ◌+◌, [], length, IfOk, OnOk, OnErr, List, None};
 ghost use Rattle.std.specs.Io.KnownBytes.{Consumes};
 ghost use Rattle.wl_message.specs.Outgoing.{waiting_bytes};
-ghost use Rattle.wl_connection.specs.Core.{with_gone};
 ghost use Rattle.wl_connection.specs.Reads.{Reads, with_arrivals, reading_of};
 ghost use Rattle.program_socket.specs.Streams.{CountsRead, Sends};
 

@@ -13,7 +13,7 @@ use Rattle.wl_object_map.specs.Objects.{Objects, look}
 use Rattle.wl_client.specs.Reports.{Report, next_answer, after_next, object_made, object_replaced}
 use Rattle.theory_connection.specs.Meant.{Born, Known, Message, Coming, Event, Delete, recoming}
 use Rattle.theory_connection.specs.Meant.{born_of, birth_of, made_in, live_entry, born_of_entry}
-use Rattle.theory_connection.specs.World.{World, Open, IfThere}
+use Rattle.theory_connection.specs.World.{World, IfThere}
 use Rattle.theory_connection.specs.World as world
 use Rattle.theory_connection.specs.Pair.{PairState}
 use Rattle.theory_connection.specs.Answers.{birth_at}

@@ -29,7 +29,7 @@ use Rattle.theory_connection.proofs.Flight.{counts_after, counts_tied, held_some
 use Rattle.theory_connection.proofs.WholeInFlight.{all_asks_both}
 use Rattle.theory_connection.proofs.RowsAfterMessage.{map_some, made_map, objects_map}
 use Rattle.theory_connection.proofs.Plain as plain
-use Rattle.theory_connection.proofs.OfServer.{mades, makes, birth_known}
+use Rattle.theory_connection.proofs.OfServer.{makes, birth_known}
 use Rattle.theory_connection.proofs.OfServer as flight
 use Rattle.theory_connection.proofs.Worlds as worlds
 use Rattle.theory_connection.proofs.Worlds.{made_maker}

@@ -1,5 +1,5 @@
 //! Values as C has them: objects, arguments, numbers of bytes and tokens.
-ghost use Rattle.std.specs.Prelude.{◌≡◌, ◌≤◌, length, take, option_map, IfSome, None, Some};
+ghost use Rattle.std.specs.Prelude.{◌≡◌, ◌≤◌, length, take, IfSome, None, Some};
 ghost use Rattle.std.specs.Prelude.{MatchOption, cond};
 ghost use Rattle.wl_object_map.specs.declared.object.Maker.TheVariants.{Client, Server};
 ghost use Rattle.wl_message.specs.Arrived.{AreSizes};

@@ -9,7 +9,7 @@ ghost use Rattle.wl_sigs.specs.Tables.{Interface};
 ghost use Rattle.wl_sigs.specs.Valid.{Valid};
 ghost use Rattle.wl_check.specs.Held.{undone_by};
 ghost use Rattle.wl_check.specs.SessionState.{is_going, AllJudged, Along, CutFollows, IsAfter};
-ghost use Rattle.wl_check.specs.SessionState.{HasCome, IsReady, IsUnread, OthersStay};
+ghost use Rattle.wl_check.specs.SessionState.{HasCome, IsReady, OthersStay};
 ghost use Rattle.wl_check.specs.Passing.{piece_in};
 ghost use Rattle.wl_check.specs.Printed.{PrintsOn, PrintsPiece};
 ghost use Rattle.wl_check.specs.Session.{session_of, IsVerdictOf, Session};

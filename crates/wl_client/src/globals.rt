@@ -1,7 +1,7 @@
 //! The globals that were announced to a client.
-ghost use Rattle.std.specs.Prelude.{◌≡◌, ◌<◌, ◌≤◌, [], ◌∷◌, ◌++◌, IfOk, length, map, if◌then◌else◌};
+ghost use Rattle.std.specs.Prelude.{◌≡◌, ◌<◌, ◌≤◌, [], IfOk, length};
 ghost use Rattle.std.specs.Prelude.{is_some};
-ghost use Rattle.wl_client.specs.State.{global_of, is_named};
+ghost use Rattle.wl_client.specs.State.{global_of};
 ghost use Rattle.wl_client.specs.Reports.{forgotten, with_replaced, remembered};
 ghost use Rattle.wl_client.specs.Steps.{with_global_change};
 ghost use Rattle.wl_connection.specs.Core.{max_globals};

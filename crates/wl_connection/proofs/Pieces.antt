@@ -1,5 +1,5 @@
 -- Pieces, and how much of them was taken.
-use Rattle.std.proofs.Common.{◌≡◌, ℕ, get_or, map, ◌≤◌, zero, suc, ◌+◌, ◌<◌, ◌⊎◌, inl, inr, List}
+use Rattle.std.proofs.Common.{◌≡◌, ℕ, get_or, map, ◌≤◌, zero, suc, ◌+◌, ◌<◌, ◌⊎◌, inl, List}
 use Rattle.std.proofs.Common.{[], ◌∷◌, ◌++◌, length, take, drop, refl, sym, ap, subst, ◌∙◌, arith}
 use Rattle.std.proofs.lemmas.List.{append_assoc, append-nil}
 use Rattle.wl_message.specs.declared.amounts.Amounts.{Amounts}

@@ -50,7 +50,7 @@ impl<A: Allocator> Model for Outbox<A> {
 
     ghost Value = { Outgoing };
 
-    ghost use Rattle.wl_message.specs.Boundaries.{Kept, outgoing, IsKept};
+    ghost use Rattle.wl_message.specs.Boundaries.{outgoing, IsKept};
 
     ghost view = { λ o. outgoing (record {
       bytes = o.bytes.items;

@@ -1,8 +1,8 @@
 //! The arguments of a report, borrowed.
-ghost use Rattle.std.specs.Prelude.{◌≡◌, ◌≢◌, ◌↔◌, IsTrue, [], ◌∷◌, ◌++◌, IfOk, OnErr, MatchOption};
-ghost use Rattle.std.specs.Prelude.{length, take, drop};
+ghost use Rattle.std.specs.Prelude.{◌≡◌, ◌≢◌, ◌↔◌, IsTrue, [], ◌∷◌, IfOk, OnErr, MatchOption};
+ghost use Rattle.std.specs.Prelude.{length};
 ghost use Rattle.wl_objects.specs.Reading.{in_state};
-ghost use Rattle.wl_objects.specs.Seen.{got, got_values};
+ghost use Rattle.wl_objects.specs.Seen.{got};
 ghost use Rattle.wl_objects.specs.Parsed.{lent_got, reported_in, reported_of, seen_args, token_at};
 
 use crate::argument::{Got, GotRef, Named};

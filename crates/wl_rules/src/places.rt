@@ -1,6 +1,5 @@
 //! The first indices of names.
-ghost use Rattle.std.specs.Prelude.{◌≡◌, ℕ, List, Some, None, IfOk, OnOk, option_copied};
-ghost use Rattle.std.specs.Prelude.{if◌then◌else◌, is_some, bytes_eq};
+ghost use Rattle.std.specs.Prelude.{◌≡◌, ℕ, List, Some, IfOk};
 ghost use Rattle.wl_rules.specs.Joined.{first_place};
 ghost use Rattle.wl_rules.specs.Places.{place_in};
 

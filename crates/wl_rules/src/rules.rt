@@ -1,13 +1,13 @@
 //! The rules of valid tables, for the lines of a text.
 ghost use Rattle.std.specs.Prelude.{◌≡◌, ℕ, ◌+◌, ◌<◌, ◌≤◌, ◌&&◌, nat_le, not, List, map};
-ghost use Rattle.std.specs.Prelude.{length, Some, None, option_map, option_copied, is_some, IfOk};
+ghost use Rattle.std.specs.Prelude.{Some, None, option_map, IfOk};
 ghost use Rattle.std.specs.Prelude.{Option, bytes_eq, slice_get};
 ghost use Rattle.std.specs.List.{list_all, list_any, count_by};
 ghost use Rattle.wl_rules.specs.Broken.{is_first, is_object, makes_object, makes_unnamed};
 ghost use Rattle.wl_rules.specs.Broken.{takes_any, takes_ended, names_missing};
 ghost use Rattle.wl_rules.specs.Broken.{interface_rule, message_rule};
 ghost use Rattle.wl_rules.specs.Broken.{names_objects, is_race_free, most_new, earlier, broken_at};
-ghost use Rattle.wl_rules.specs.Broken.{messages_broken, side_broken, interface_broken};
+ghost use Rattle.wl_rules.specs.Broken.{side_broken, interface_broken};
 ghost use Rattle.wl_rules.specs.Broken.{interfaces_broken, is_ended, is_forbidden};
 ghost use Rattle.wl_rules.specs.Broken.{makes_forbidden, makes_server_object, most_by_server};
 ghost use Rattle.wl_rules.specs.Broken.{later_rule, comes_first};

@@ -3,7 +3,7 @@ ghost use Rattle.std.specs.Prelude.{◌≡◌, ◌≤◌, OnOk, OnErr, true, len
 ghost use Rattle.wl_connection.specs.Core.{max_globals};
 ghost use Rattle.wl_connection.specs.Outcomes.{AnswersOrMemory, refusal_in};
 ghost use Rattle.wl_server.specs.State.{global_of};
-ghost use Rattle.wl_server.specs.Calls.{add_answer, after_withdraw, can_be_global, version_in};
+ghost use Rattle.wl_server.specs.Calls.{add_answer, after_withdraw, can_be_global};
 ghost use Rattle.wl_server.specs.Calls.{with_global, withdraw_refusal};
 ghost use Rattle.wl_server.specs.Words.{AreWithdrawn};
 

@@ -7,7 +7,7 @@ ghost use Rattle.wl_connection.specs.Outcomes.{unless_memory};
 ghost use Rattle.wl_connection.specs.Roles.{IsLentNext};
 ghost use Rattle.wl_server.specs.Requests.{after_next, server_role, IsServerNext};
 ghost use Rattle.wl_server.specs.Seen.{lent_in, lent_report, lent_request_in, report_in};
-ghost use Rattle.wl_server.specs.Seen.{report_of, request_in};
+ghost use Rattle.wl_server.specs.Seen.{request_in};
 ghost use Rattle.wl_server.specs.Steps.{taken_report};
 ghost use Rattle.wl_server.specs.Lent.{server_row};
 

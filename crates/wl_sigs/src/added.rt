@@ -1,5 +1,5 @@
 //! The rules of valid tables, for the lines that add messages to interfaces of the tables.
-ghost use Rattle.std.specs.Prelude.{◌≡◌, ℕ, ◌≤◌, ◌++◌, List, length, map, IfOk, option_map, Some};
+ghost use Rattle.std.specs.Prelude.{◌≡◌, ℕ, ◌≤◌, ◌++◌, length, map, IfOk, option_map, Some};
 ghost use Rattle.std.specs.Prelude.{option_copied};
 ghost use Rattle.wl_sigs.specs.BrokenLines.{IsOwner, broken, added_here};
 ghost use Rattle.wl_sigs.specs.FirstBroken.{written_of};

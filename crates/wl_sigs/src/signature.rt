@@ -1,5 +1,5 @@
 //! What the tables say about one message.
-ghost use Rattle.std.specs.Prelude.{◌≡◌, ℕ, ◌<◌, ◌&&◌, List, IfOk, nat_le, unwrap_or};
+ghost use Rattle.std.specs.Prelude.{◌≡◌, ◌<◌, ◌&&◌, IfOk, nat_le};
 ghost use Rattle.wl_sigs.specs.Joined.{destroys_of, message_placed};
 ghost use Rattle.std.specs.List.{list_any};
 ghost use Rattle.wl_sigs.specs.Extending.{is_object_of, is_server_object_of};

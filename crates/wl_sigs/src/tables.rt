@@ -1,6 +1,6 @@
 //! Interfaces in order.
 ghost use Rattle.std.specs.Prelude.{◌≡◌, ◌⊎◌, ◌↔◌, ℕ, [], true, Err, Some, None, IfOk, map};
-ghost use Rattle.std.specs.Prelude.{slice_get, option_copied};
+ghost use Rattle.std.specs.Prelude.{option_copied};
 ghost use Rattle.std.specs.Prelude.{option_map, position, bytes_eq, length, IfSome, ◌<◌};
 ghost use Rattle.wl_sigs.specs.Core.{core_tables};
 ghost use Rattle.wl_sigs.specs.ByName.{opcode_of};

@@ -1,6 +1,5 @@
 //! Numbers in texts.
-ghost use Rattle.std.specs.Prelude.{◌≡◌, ℕ, ◌≤◌, length, IfSome, MatchOption};
-ghost use Rattle.std.specs.Str.Parse.{AllDigits, digits_value};
+ghost use Rattle.std.specs.Prelude.{◌≡◌, ◌≤◌, length};
 ghost use Rattle.wl_text.specs.Number.{number_of, digits_number};
 
 /// The value of 1 to 10 decimal digits. `None` if there are more or fewer, if a byte is no digit,

@@ -1,7 +1,7 @@
 //! The value of one argument, owned or borrowed.
 ghost use Rattle.std.specs.Prelude.{◌≡◌, ◌↔◌, IsTrue};
 ghost use Rattle.wl_wire.specs.Argument.{lent, plain};
-ghost use Rattle.wl_wire.specs.Spelling.{Fits, IsText, padded, spelled_len};
+ghost use Rattle.wl_wire.specs.Spelling.{Fits, IsText, spelled_len};
 
 use crate::bytes::Bytes;
 use crate::fixed::Fixed;

@@ -1,5 +1,5 @@
-use Rattle.std.proofs.Common.{◌≡◌, ◌⊎◌, ℕ, List, [], Option, Some, None, IfOk, IfErr, inl, inr, sym, subst, refl}
-use Rattle.std.specs.Prelude.{Ok, Err, Result, string_bytes, IsErrAnd}
+use Rattle.std.proofs.Common.{◌≡◌, ◌⊎◌, ℕ, List, [], Option, Some, None, IfOk, IfErr, inl, inr, sym, subst}
+use Rattle.std.specs.Prelude.{Ok, Err, Result}
 use Rattle.clap.specs.Words.{HasKind, IsAmong, Text, fault_of, kind_of, subcommand_of}
 use Rattle.clap.specs.declared.error.Error.{Error}
 use Rattle.clap.specs.declared.error.kind.ErrorKind.{ErrorKind}

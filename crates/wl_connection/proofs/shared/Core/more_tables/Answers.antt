@@ -1,4 +1,4 @@
-use Rattle.std.proofs.Common.{◌≡◌, true, false, inl, inr, sym, subst, ◌∙◌, rules}
+use Rattle.std.proofs.Common.{◌≡◌, false, inl, inr, sym, subst, ◌∙◌, rules}
 use Rattle.std.proofs.lemmas.Bool.{cases_Bool}
 use Rattle.wl_sigs.specs.Rules.{has_server_objects}
 use Rattle.wl_connection.specs.Core.{Core}
