@@ -311,6 +311,39 @@ class Columns(unittest.TestCase):
         self.assertEqual(found, [], "\n".join(found))
 
 
+class Imports(unittest.TestCase):
+    """The names that the definitions, the proofs and the contracts import."""
+
+    line = re.compile(r"(?m)^ *(?:ghost )?use [^\s{]+\.\{([^}]*)\};?$")
+    word = re.compile(r"[\w-]+'?")
+
+    def unused(self, text):
+        """The names that a file imports and does not use, a name with `◌` if one of its parts does
+        not occur."""
+        rest = self.line.sub("", text)
+        words = {*self.word.findall(rest)}
+        names = [name for it in self.line.findall(text) for name in it.split(",") if name.strip()]
+        for name in names:
+            own = name.split(" as ")[-1].strip()
+            parts = own.replace("◌", " ").split()
+            if not all(it in words if self.word.fullmatch(it) else it in rest for it in parts):
+                yield own
+
+    def test_each_is_used(self):
+        paths = [
+            it
+            for pattern in ("src/**/*.rt", "specs/**/*.antt", "proofs/**/*.antt")
+            for it in glob.glob(f"crates/*/{pattern}", root_dir=TOP, recursive=True)
+        ]
+        found = [f"{it}: {name}" for it in sorted(paths) for name in self.unused(read(it))]
+        self.assertGreater(len(paths), 1000)
+        self.assertEqual(found, [], "\n".join(found))
+
+    def test_what_is_unused_is_found(self):
+        text = "use A.{◌+◌, ◌∷◌, one, two as both, if◌then◌else◌}\nx = if one then 1 + 1 else 0\n"
+        self.assertEqual([*self.unused(text)], ["◌∷◌", "both"])
+
+
 class Functions(unittest.TestCase):
     """The functions in src/ of the crates."""
 
