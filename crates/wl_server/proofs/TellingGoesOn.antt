@@ -5,7 +5,7 @@ use Rattle.std.proofs.Common.{append_assoc, length-append}
 use Rattle.std.specs.Bool.{MatchBool}
 use Rattle.std.proofs.Common.{inl, inr}
 use Rattle.std.proofs.lemmas.Bool.{cases_lt}
-use Rattle.std.proofs.lemmas.List.{drop_all, drop-set-lt, take_at}
+use Rattle.std.proofs.lemmas.List.{drop-set-lt, take_at}
 use Rattle.wl_message.specs.Outgoing.{room_of}
 use Rattle.wl_object_map.specs.Objects.{Objects}
 use Rattle.wl_objects.specs.Writing.{message_len}
@@ -220,17 +220,6 @@ pub told-none : (core : Core) (rs : List Registry) (all : List Due) (count : ℕ
 told-none core rs all count now xs globals i s p l e is =
     subst (λ (ms : List Registry). Progress core rs all count now (open_in xs) (owed_in globals ms))
     (drop-closed xs i s l e is) p
-
-pub told-end : (core : Core) (rs : List Registry) (all : List Due) (count : ℕ) (now : Core) (xs : List RegistrySlot)
-    (globals : List Global) (i : ℕ)
-    → Progress core rs all count now (open_in xs) (owed_in globals (open_in (drop i xs))) → length xs ≤ i
-    → IsAnnounced core rs all (record { count = count; all = true }) now (open_in xs)
-told-end core rs all count now xs globals i p l = record {
-  rest = [];
-  progress = subst (λ (list : List RegistrySlot). Progress core rs all count now (open_in xs) (owed_in globals (open_in list)))
-      (drop_all i xs l) p;
-  end = refl;
-}
 
 -- the registries' births still rise
 pub rising-told : (core : Core) (rs : List Registry) (all : List Due) (told : Announced) (now : Core)

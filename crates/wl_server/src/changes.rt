@@ -1,22 +1,29 @@
 //! The changes that a request makes at a server: to its objects, and to its open registries.
-ghost use Rattle.std.specs.Prelude.{◌≡◌, ◌≢◌, ◌≤◌, Some, None, IsTrue, OnOk, false, OnErr};
+ghost use Rattle.std.specs.Prelude.{◌≡◌, ◌≢◌, ◌≤◌, ℕ, List, Some, None, IsTrue, OnOk, false, OnErr};
 ghost use Rattle.std.specs.Option.{option_map_or};
 ghost use Rattle.wl_sigs.specs.Fixed.{registry};
 ghost use Rattle.wl_object_map.specs.Objects.{look};
 ghost use Rattle.wl_object_map.specs.Ranges.{is_of_server};
-ghost use Rattle.wl_objects.specs.Messages.{opens, same_iface};
+ghost use Rattle.wl_objects.specs.Messages.{made, opens, same_iface};
+ghost use Rattle.wl_objects.specs.Parsed.{reported_in};
+ghost use Rattle.wl_objects.specs.Seen.{received_of};
 ghost use Rattle.wl_connection.specs.Core.{with_view};
 ghost use Rattle.wl_connection.specs.Sending.{delete_id_len, fits};
 ghost use Rattle.wl_server.specs.Requests.{registries_after};
 ghost use Rattle.wl_server.specs.Slots.{KeepsSettled};
 ghost use Rattle.wl_server.specs.Registries.{HasRegistries, IsFreshId};
-ghost use Rattle.wl_server.specs.Steps.{HasFreeId, HasRow, core_without, registries_without};
+ghost use Rattle.wl_server.specs.Steps.{HasFreeId, HasRow, IsEndedBy, core_without};
+ghost use Rattle.wl_server.specs.Steps.{ended_by_request, registries_without, report_with};
 
 use crate::open_registries::OpenRegistries;
 use std::alloc::AllocError;
 use wl_connection::Core;
 use wl_object_map::Maker;
-use wl_objects::{NewObject, Object, REGISTRY, Table, TableError};
+use wl_objects::{
+    NewObject, Object, ParsedArg, ParsedArgs, REGISTRY, Received, Table, TableError,
+    made_by_message,
+};
+use wl_sigs::{Destroys, Tables};
 
 /// What a request changes at a server.
 #[derive(Clone, Copy, Debug)]
@@ -25,6 +32,39 @@ pub(crate) struct Change {
     pub(crate) made: Option<NewObject>,
     /// The object that it destroys.
     pub(crate) ended: Option<Object>,
+}
+
+/// How a message changes the objects.
+pub(crate) fn change_of(tables: &Tables, message: &Received<'_, '_>) -> Change
+    ensures made { result.made ≡ made tables.now message.now.entry.version
+        message.now.signature.now.kinds (received_of message.now).values }
+    ensures ended { IsEndedBy (received_of message.now) message.now.args.now result.ended }
+{
+    let signature = message.signature;
+    Change {
+        made: made_by_message(tables, message.entry.version, signature, &message.values()),
+        ended: ended_by(signature.destroys(), message.target, message.args),
+    }
+}
+
+/// The object that a request destroys, if it destroys one: its target, or the object that an
+/// argument names.
+fn ended_by(destroys: Destroys, target: Object, args: &ParsedArgs) -> Option<Object>
+    ensures { (opcode birth : ℕ) (body tokens : List ℕ)
+        → result ≡ ended_by_request destroys
+        (report_with target opcode (reported_in body birth tokens args.now)) }
+{
+    match destroys {
+        Destroys::Nothing => None,
+        Destroys::Target => Some(target),
+        Destroys::Arg(place) => match args.as_slice().get(place) {
+            Some(ParsedArg::Object { id, birth, .. }) => Some(Object {
+                id: *id,
+                birth: *birth,
+            }),
+            _ => Some(Object { id: 0, birth: 0 }),
+        },
+    }
 }
 
 /// Opens the object that a request makes, if it makes one, with this birth.

@@ -1,6 +1,6 @@
 //! The calls of the server that both ends have.
-use crate::pending::find;
 use crate::report::OwnedRequest;
+use crate::role::first_request;
 use crate::server::Server;
 use std::io::{Read, Write};
 use wl_connection::{Core, End, Receiver};
@@ -74,7 +74,7 @@ impl<'t, T: Table> Receiver for Server<'t, T> {
     ghost is_last = { is_last };
 
     fn has_report(&mut self) -> bool {
-        match find(&mut self.end, &self.role) {
+        match first_request(&mut self.end, &self.role) {
             Ok(Some(_)) => true,
             _ => false,
         }

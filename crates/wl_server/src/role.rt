@@ -1,16 +1,22 @@
 //! What a server keeps besides its endpoint, and how it reads a request with it.
+ghost use Rattle.std.specs.Prelude.{◌≡◌, ◌&&◌, Some, IfOk, IfSome, nat_lt};
+ghost use Rattle.wl_object_map.specs.Objects.{look};
+ghost use Rattle.wl_connection.specs.Sending.{delete_id_len};
+ghost use Rattle.wl_server.specs.Steps.{CanTake, front_step, needs_delete_id, pending_in};
+ghost use Rattle.wl_server.specs.Steps.{pendings_in, server_state};
 
 use crate::bind::is_bad_bind;
-use crate::changes::{Change, close_object, open_new_object};
+use crate::changes::{Change, change_of, close_object, open_new_object};
 use crate::faults::report_fault;
 use crate::globals::Advertised;
 use crate::open_registries::OpenRegistries;
 use crate::outline::Outline;
-use crate::pending::{PendingRequest, change_of, find};
+use crate::pending::PendingRequest;
 use crate::report::OwnedRequest;
 use std::alloc::{AllocError, Allocator};
-use wl_connection::{Endpoint, Meaning, Role};
-use wl_objects::{Fault, NextError, Objects, Received, Table};
+use wl_connection::{DELETE_ID_LEN, Endpoint, Meaning, Role, first_message};
+use wl_object_map::FIRST_SERVER_ID;
+use wl_objects::{Fault, NextError, Object, Objects, Received, Table};
 use wl_sigs::{Side, Tables};
 use wl_wire::Header;
 
@@ -93,7 +99,7 @@ impl<T: Table> Role<T> for ServerRole<T::Alloc> {
         if end.core.failed {
             return Err(NextError::Failed);
         }
-        match find(end, self) {
+        match first_request(end, self) {
             Ok(request) => Ok(request),
             Err(why) => {
                 // Writes the error event for a fault.
@@ -129,5 +135,42 @@ impl<T: Table> Role<T> for ServerRole<T::Alloc> {
             close_object(&mut end.core, &mut self.registries, object);
         }
         Ok(())
+    }
+}
+
+/// The first request, if it is whole and can be taken. Only the parsed arguments change.
+pub(crate) fn first_request<T: Table>(
+    end: &mut Endpoint<'_, T>,
+    role: &ServerRole<T::Alloc>,
+) -> Result<Option<PendingRequest>, NextError>
+    ensures answer { pendings_in end.old.core end.new.args result
+        ≡ front_step (server_state end.old.core role.now.globals.items) }
+    ensures can { IfOk result (λ found. IfSome found
+        (λ request. CanTake end.old.core (pending_in end.old.core end.new.args request))) }
+    ensures same { end.new.core ≡ end.old.core }
+    ensures entry { IfOk result (λ found. IfSome found (λ request.
+        look end.old.core.view request.outline.target.id ≡ Some request.entry)) }
+{
+    let offset = end.core.read;
+    let room = end.core.outbox.room();
+    let request = match first_message(end, role) {
+        Ok(Some(request)) => request,
+        Ok(None) => return Ok(None),
+        Err(fault) => return Err(NextError::Fault { fault, offset }),
+    };
+    if lacks_room(room, request.change.ended) {
+        return Err(NextError::OutFull);
+    }
+    Ok(Some(request))
+}
+
+/// Whether there is too little room for the delete_id of a destroyed object. An object that the
+/// server made needs none.
+fn lacks_room(room: usize, ended: Option<Object>) -> bool
+    ensures { result ≡ (needs_delete_id ended && nat_lt room delete_id_len) }
+{
+    match ended {
+        Some(object) => object.id < FIRST_SERVER_ID && room < DELETE_ID_LEN,
+        None => false,
     }
 }

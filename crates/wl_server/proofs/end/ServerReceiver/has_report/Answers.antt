@@ -17,9 +17,9 @@ returns-clause-yes g c t =
       registries = c.self.inside.role.registries.list;
     } in
     let lives : state.core.failed ≡ false = ap (λ (s : State). s.core.failed) c.self.view_is ∙ c.requires in
-    elim c.match-find.branch [
+    elim c.match-first_request.branch [
       | in-Ok-Some w ↦
-          let step = pending_in state.core c.find.new.end.args w.in-Ok-Some.field-0-0 in
+          let step = pending_in state.core c.first_request.new.end.args w.in-Ok-Some.field-0-0 in
           let answer = seen-by state state.globals (ok (Some step)) lives refl
           (rw w.in-Ok-Some.field-0-is at w.in-Ok-Some.ensures.answer) in
           subst (HasReport server_reading) c.self.view_is (step.report, sym (answer-is state (ok (Some step)) answer))

@@ -7,7 +7,7 @@ use Rattle.wl_connection.specs.Sending.{delete_id_len}
 use Rattle.wl_server.specs.Steps.{needs_delete_id}
 use Rattle.wl_server.proofs.Fronts.{Answers, Meant, can_take_told, entry_told, fault_told, full_told}
 use Rattle.wl_server.proofs.Fronts.{is_full_for, none_told, request_told}
-use Rattle.wl_server.proofs.pending.find.Goals as goal
+use Rattle.wl_server.proofs.role.first_request.Goals as goal
 
 pub returns-in-Ok-None-clause-answer : goal.returns-in-Ok-None-clause-answer
 returns-in-Ok-None-clause-answer g c =
