@@ -154,12 +154,6 @@ pub all_counted : {E X : Type 0} (core : E → Core) (with_core : E → Core →
 all_counted core with_core first held end holds (Ok count) w = w.as_many
 all_counted core with_core first held end holds (Err why) w = tt
 
-pub all_others : {E X : Type 0} (core : E → Core) (with_core : E → Core → E) (first : E) (held : Option (List ℕ))
-    (end : E) (holds : Option (List ℕ)) (result : Result ℕ X)
-    → IsAll core with_core first held result end holds → OnOk result (end ≡ with_core first (core end))
-all_others core with_core first held end holds (Ok count) w = w.others
-all_others core with_core first held end holds (Err why) w = tt
-
 -- ---- bytes given to an end are read
 
 abbrev pub not_read : ReadAll

@@ -2,12 +2,11 @@
 use Rattle.std.proofs.Common.{◌≡◌, ◌≢◌, ℕ, suc, ◌+◌, ◌<◌, ◌≤◌, ◌^◌, Bool, true, false, cond, List, []}
 use Rattle.std.proofs.Common.{◌∷◌, map, length, ◌⊎◌, inl, inr, refl, sym, ap, subst, ◌∙◌, arith}
 use Rattle.std.specs.Prelude.{nat_eq, nat_lt}
-use Rattle.std.specs.List.{All, list_any}
+use Rattle.std.specs.List.{All}
 use Rattle.std.specs.declared.option.Option.{Option}
 use Rattle.std.specs.declared.option.Option.TheVariants.{None, Some}
 use Rattle.std.specs.declared.result.Result.TheVariants.{Ok, Err}
-use Rattle.std.proofs.lemmas.Bool.{both_ways, eqb-true, eq-eqb, ltb-false, and_parts, not-true}
-use Rattle.std.proofs.lemmas.List.Folds.{list_any_at}
+use Rattle.std.proofs.lemmas.Bool.{eqb-true, ltb-false, and_parts}
 use Rattle.std.proofs.lemmas.List.Elements.{All-tail}
 use Rattle.wl_wire.specs.declared.kind.Kind.{Kind}
 use Rattle.wl_wire.specs.declared.kind.Kind.TheVariants as kinds
@@ -26,10 +25,11 @@ use Rattle.wl_object_map.specs.declared.object.Maker.{Maker}
 use Rattle.wl_object_map.specs.Objects.{Objects, ObjectsAreSound, look, next_id, next_birth}
 use Rattle.wl_objects.specs.Reading.{is_of}
 use Rattle.wl_message.specs.Cut.{greatest_limit}
-use Rattle.wl_objects.specs.Writing.{Given, suits, has_no_nul, wrong_place, lost_place}
+use Rattle.wl_objects.specs.Writing.{Given, suits, wrong_place, lost_place}
 use Rattle.wl_objects.specs.Writing.{is_live_as, row_is_of, can_name, wired, tokens_of, message_len}
 use Rattle.wl_objects.specs.Messages.{NewObject, made, live_row, checked, checked_by, checked_as}
 use Rattle.wl_objects.specs.Messages.{unless_hidden, unless_wrong, is_hidden}
+use Rattle.wl_objects.proofs.WrittenArrives.{no_nul}
 use Rattle.theory_connection.specs.Meant.{Birth, client_birth, Born, Known, Arg, rearg, born_of, birth_of, wire}
 use Rattle.theory_connection.specs.Meant.{tokens, new_object_in, made_in, objects, born_of_entry, live_entry}
 use Rattle.theory_connection.specs.World.{Each, IfThere}
@@ -331,11 +331,6 @@ matches tables maker view version id (kinds.NewByServer iface ∷ ks) (New x ∷
 matches tables maker view version id (_ ∷ ks) (_ ∷ given) r h u = absurd (cc r.0.suit)
 
 -- ---- the message fits its signature
-
-no_nul : (text : List ℕ) → has_no_nul text ≡ true → All (λ b. b ≢ 0) text
-no_nul text e k d h z =
-    let f : list_any (λ b. nat_eq b 0) text ≡ false = not-true (list_any (λ b. nat_eq b 0) text) e in
-    both_ways _ f (list_any_at (λ (b : ℕ). nat_eq b 0) text k d h (eq-eqb _ 0 z))
 
 fit_one : (tables : List Interface) (view : Objects) (new : Known) (version : ℕ) (k : Kind) (a : Given) → ObjectsAreSound view
     → new.id < 2 ^ 32 → Right view k a → Matches new version k → FitsWords a → spelled_len (wired 0 a) ≤ greatest_limit

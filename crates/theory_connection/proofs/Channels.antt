@@ -1,5 +1,5 @@
 -- What a write, a carry and a read do to the messages in flight.
-use Rattle.std.proofs.Common.{◌≡◌, ℕ, zero, suc, ◌-◌, ◌≤◌, List, [], ◌∷◌, ◌++◌, length}
+use Rattle.std.proofs.Common.{◌≡◌, ℕ, ◌-◌, ◌≤◌, List, [], ◌∷◌, ◌++◌, length}
 use Rattle.std.proofs.Common.{length-append, take, drop, refl, sym, ◌∙◌, ap, subst, arith}
 use Rattle.std.proofs.lemmas.List.{append_assoc, append-nil, take-append-le, drop-append-le}
 use Rattle.std.proofs.lemmas.List.{take_all, drop_all, take-append-drop, take_at}
@@ -9,6 +9,7 @@ use Rattle.wl_message.specs.Outgoing.{QueuedMessage, Outgoing, all_bytes, all_to
 use Rattle.wl_message.specs.Outgoing.{waiting_tokens, newly_begun, begun, after_taking, goes}
 use Rattle.wl_message.proofs.Cuts.{front_message, whole_stays, bad_stays, front_none}
 use Rattle.wl_message.proofs.Fronts.{front_stands}
+use Rattle.wl_message.proofs.TakenInStep.{begun_enough}
 use Rattle.wl_message.proofs.WhatGoes.{begun_front, going_there}
 use Rattle.theory_connection.specs.World.{Each}
 use Rattle.theory_connection.specs.Stands.{InFlight}
@@ -36,15 +37,6 @@ pushed o p i ms more f l e w = record {
   tokens = f.tokens;
   whole = each_more (λ (m : QueuedMessage). IsMessage i.limit.bytes m.bytes) ms more f.whole w;
 }
-
--- the messages that n bytes begin have at least n bytes
-enough : (n : ℕ) (ms : List QueuedMessage) → n ≤ length (all_bytes ms) → n ≤ length (all_bytes (begun n ms))
-enough n [] h = h
-enough zero (m ∷ ms) h = omega arith
-enough (suc n) (m ∷ ms) h =
-    let k : suc n - length m.bytes ≤ length (all_bytes ms) = omega (arith, length-append m.bytes (all_bytes ms)) in
-    let r = enough (suc n - length m.bytes) ms k in
-    omega (arith, r, length-append m.bytes (all_bytes (begun (suc n - length m.bytes) ms)))
 
 -- what is carried, and what is left
 pub record Gone (o : Outgoing) (n : ℕ) : Type 0 where
@@ -78,7 +70,7 @@ gone o n h =
     ∙ ap (λ (x : List QueuedMessage). x ++ rest) (sym (begun_front (n - length o.left) o.messages)) in
     let k : n - length o.left ≤ length (all_bytes o.messages) =
     omega (arith, length-append o.left (all_bytes o.messages)) in
-    let r = enough (n - length o.left) o.messages k in
+    let r = begun_enough (n - length o.left) o.messages k in
     let g = gone_at o n b o.messages rest e refl (omega (arith, r, length-append o.left (all_bytes b))) in
     record { messages = e; bytes = g.0; tokens = g.1 }
 

@@ -1,13 +1,12 @@
 -- A message in its canonical spelling is read as it was meant.
 use Rattle.std.proofs.Common.{◌≡◌, ℕ, suc, ◌+◌, ◌<◌, ◌≤◌, ◌^◌, true, false, cond, List, [], ◌∷◌}
 use Rattle.std.proofs.Common.{◌++◌, length, length-append, drop, map, refl, sym, ap, ◌∙◌, arith}
-use Rattle.std.specs.Prelude.{nat_eq, nat_lt, option_map, if◌then◌else◌}
+use Rattle.std.specs.Prelude.{nat_eq, nat_lt, option_map}
 use Rattle.std.specs.declared.option.Option.{Option}
 use Rattle.std.specs.declared.option.Option.TheVariants.{None, Some}
 use Rattle.std.specs.declared.result.Result.TheVariants.{Ok}
 use Rattle.std.proofs.lemmas.Bool.{ne_eqb, le-ltb}
 use Rattle.std.proofs.lemmas.List.{append_assoc, drop_at}
-use Rattle.std.proofs.lemmas.List.Sums.{sum_by-cons}
 use Rattle.wl_wire.specs.declared.kind.Kind.{Kind}
 use Rattle.wl_wire.specs.declared.kind.Kind.TheVariants as kinds
 use Rattle.wl_wire.specs.declared.kind.Iface.{Iface}
@@ -34,6 +33,7 @@ use Rattle.wl_objects.specs.Reading.{reports_of, head_or, tokens_after, new_faul
 use Rattle.wl_objects.specs.Writing.{spelled as spelled_values, message_len, message_bytes}
 use Rattle.wl_objects.specs.Messages.{reader_of, maker_by, received, is_error, NewObject, made_by, made}
 use Rattle.wl_objects.specs.Messages.{or_else as made_or_else}
+use Rattle.wl_connection.proofs.Descriptors.{count_more}
 use Rattle.theory_connection.specs.Meant.{Birth, Born, Known, Message, Arg, rearg, born_of}
 use Rattle.theory_connection.specs.Meant.{birth_of, wire, tokens, token_in, new_object_in, made_in}
 use Rattle.theory_connection.specs.Meant.{born_of_entry, live_entry}
@@ -153,10 +153,6 @@ values_read tables version place side r (kind ∷ ks) (a ∷ args) n f m =
     (values_read tables version (suc place) side r ks args n.1 f.1 m.1)
 
 -- ---- tokens
-
-count_more : (kind : Kind) (ks : List Kind) → descriptors (kind ∷ ks)
-    ≡ cond (is_descriptor_kind kind) 1 0 + descriptors ks
-count_more kind ks = sum_by-cons (λ (k : Kind). if is_descriptor_kind k then 1 else 0) kind ks
 
 tokens_one : (kind : Kind) (a : Arg Known) → Suits kind (wire a)
     → length (token_in a) ≡ cond (is_descriptor_kind kind) 1 0

@@ -29,8 +29,9 @@ use Rattle.wl_object_map.specs.Objects.{Objects, ObjectsAreSound, next_id, next_
 use Rattle.wl_object_map.specs.Views.{free_is as free_in, free_or_next-next_id}
 use Rattle.wl_objects.specs.Writing.{Given, wired, message_len}
 use Rattle.wl_objects.specs.Messages.{id_named, id_at, ended_id, NewObject, made, maker_by, checked}
-use Rattle.wl_objects.specs.Messages.{is_hidden, is_error, is_delete_id, same_iface}
+use Rattle.wl_objects.specs.Messages.{is_hidden, is_delete_id, same_iface}
 use Rattle.wl_objects.proofs.Calls.{len-any}
+use Rattle.wl_objects.proofs.Wholes.{shown-error}
 use Rattle.wl_connection.specs.Core.{Core}
 use Rattle.wl_connection.specs.Sending.{opening_answer, answer_of, send_answer, made_at}
 use Rattle.theory_connection.specs.Meant.{Known, Message, Arg, wire, made_in, objects}
@@ -89,12 +90,6 @@ next_low Client view s =
 next_low Server view s =
     let f = free_in view.server (table.next_id view.server) s.server (free_or_next-next_id view.server) in
     omega (arith, f.at_most_next, s.server.ids_end)
-
-no_error : (side : Side) (iface : Iface) (opcode : ℕ) → is_hidden side iface opcode ≡ false
-    → is_error side iface opcode ≡ false
-no_error Request iface opcode h = refl
-no_error Event iface opcode h = and_left (same_iface iface display) (nat_eq opcode 0)
-    (or_parts (same_iface iface display) (same_iface iface registry) h).0
 
 -- a message that a call can write is no delete_id
 pub no_delete : (side : Side) (iface : Iface) (opcode : ℕ) → is_hidden side iface opcode ≡ false
@@ -161,7 +156,7 @@ call_is core side target opcode given signature v s g c =
             (λ h. (let e = version_of core.view new c.entry.version signature.kinds given r m h
             in omega (arith, e, since, c.old_enough)));
         new_is = one_new new args n;
-        no_error = no_error side c.entry.iface opcode c.hidden;
+        no_error = shown-error side c.entry.iface opcode c.hidden;
       };
       made_is = ap (made core.tables c.entry.version signature.kinds) (sym w)
           ∙ made_read core.tables c.entry.version signature.kinds args a;

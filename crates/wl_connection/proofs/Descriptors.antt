@@ -99,7 +99,7 @@ abbrev pub HasAll : List Kind → Result (List Argument × List ℕ) Fault → T
 HasAll ks (Err fault) = Unit {0}
 HasAll ks (Ok found) = fds found.0 ≡ descriptors ks
 
-count_more : (kind : Kind) (ks : List Kind) → descriptors (kind ∷ ks)
+pub count_more : (kind : Kind) (ks : List Kind) → descriptors (kind ∷ ks)
     ≡ cond (is_descriptor_kind kind) 1 0 + descriptors ks
 count_more kind ks = sum_by-cons (λ (k : Kind). if is_descriptor_kind k then 1 else 0) kind ks
 

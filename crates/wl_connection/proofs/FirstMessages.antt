@@ -7,42 +7,19 @@ use Rattle.std.specs.declared.result.Result.TheVariants.{Ok, Err}
 use Rattle.wl_wire.specs.declared.header.Header.{Header}
 use Rattle.wl_wire.specs.Word.{IsHeader}
 use Rattle.wl_sigs.specs.Side.{Side}
-use Rattle.wl_sigs.specs.Tables.{Interface, descriptors}
+use Rattle.wl_sigs.specs.Tables.{Interface}
 use Rattle.wl_sigs.specs.Valid.{Valid}
 use Rattle.wl_message.specs.declared.inbox.Frame.{Frame}
 use Rattle.wl_message.specs.Arrived.{TellsFront}
 use Rattle.wl_object_map.specs.Objects.{Objects}
 use Rattle.wl_objects.specs.declared.error.Fault.{Fault}
 use Rattle.wl_objects.specs.declared.parsed.ParsedArg.{ParsedArg}
-use Rattle.wl_objects.specs.declared.reading.Received.{Received as Read}
-use Rattle.wl_objects.specs.Messages.{Received, is_error, received, reader_of}
+use Rattle.wl_objects.specs.Messages.{Received, received}
 use Rattle.wl_objects.specs.Parsed.{AreParsed}
-use Rattle.wl_objects.specs.Seen.{received_of}
-use Rattle.wl_connection.specs.Core.{Core, HasDisplay}
+use Rattle.wl_connection.specs.Core.{Core}
 use Rattle.wl_connection.specs.Receiving.{Found, found, found_in, reader_in}
-use Rattle.wl_connection.specs.FirstMessage.{HasParsed, IsFrontMeaning, IsMeaningOf, IsWellFormed, body_of, headed}
+use Rattle.wl_connection.specs.FirstMessage.{HasParsed, IsFrontMeaning, IsMeaningOf, body_of, headed}
 use Rattle.wl_connection.proofs.Frames.{IsFrame, found_frame, framed}
-
--- ---- a message that was read
-
--- `reads` is the side whose messages the end reads, `side` what its role returned for it
-pub well_formed : (side reads : Side) (tables : List Interface) (view : Objects) (h : Header) (body : List ℕ)
-    (waiting : ℕ) (m : Read) → side ≡ reads → m.body.now ≡ body → Valid tables → HasDisplay view
-    → Ok (received_of m) ≡ received tables side (reader_of tables side view) h body waiting
-    → AreParsed (reader_of tables side view) body m.args.now (received_of m).values
-    → m.tokens ≡ descriptors m.signature.now.kinds → m.is_error ≡ is_error side m.entry.iface h.opcode
-    → IsWellFormed reads tables view h m
-well_formed side reads tables view h body waiting m same at valid display e parsed tokens error =
-    let reader = reader_of tables side view in
-    subst (λ (s : Side). IsWellFormed s tables view h m) same (record {
-      valid = valid;
-      display = display;
-      waiting = waiting;
-      is_read = ap (λ (b : List ℕ). received tables side reader h b waiting) at ∙ sym e;
-      parsed = subst (λ (b : List ℕ). AreParsed reader b m.args.now (received_of m).values) (sym at) parsed;
-      tokens = tokens;
-      error = error;
-    })
 
 -- the message in the frame is the first
 parsed_in : (side : Side) (core : Core) (args : List ParsedArg) (h : Header) (body : List ℕ) (waiting : ℕ)
@@ -63,37 +40,6 @@ parsed_in side core args h body waiting m fr e valid parsed =
 
 module _ {P : Type 0}
     (means : List Interface → Objects → List ℕ → List ParsedArg → Found → Result P Fault → Type 0) where
-  -- what a message means that was read
-  pub meant : (side reads : Side) (tables : List Interface) (view : Objects) (h : Header) (body : List ℕ)
-      (waiting : ℕ) (args : List ParsedArg) (m : Read) (result : Result P Fault) → side ≡ reads → m.body.now ≡ body
-      → args ≡ m.args.now → Valid tables
-      → Ok (received_of m) ≡ received tables side (reader_of tables side view) h body waiting
-      → AreParsed (reader_of tables side view) body m.args.now (received_of m).values
-      → means tables view m.body.now m.args.now (headed h (received_of m)) result
-      → IsMeaningOf reads means tables view h body args
-      (received tables reads (reader_of tables reads view) h body waiting) result
-  meant side reads tables view h body waiting args m result same at kept valid e parsed s =
-      let f = headed h (received_of m) in
-      let reader = reader_of tables side view in
-      let own = subst (λ (a : List ParsedArg). AreParsed reader body a (received_of m).values) (sym kept) parsed in
-      let there = subst (λ (a : List ParsedArg). means tables view body a f result) (sym kept)
-      (subst (λ (b : List ℕ). means tables view b m.args.now f result) at s) in
-      subst (λ (x : Side). IsMeaningOf x means tables view h body args
-      (received tables x (reader_of tables x view) h body waiting) result) same
-      (subst (λ (r : Result Received Fault). IsMeaningOf side means tables view h body args r result) e
-      (valid, own, there))
-
-  -- a message with a fault of its own
-  pub fault_meant : (side reads : Side) (tables : List Interface) (view : Objects) (h : Header) (body : List ℕ)
-      (waiting : ℕ) (args : List ParsedArg) (fault : Fault) → side ≡ reads
-      → Err fault ≡ received tables side (reader_of tables side view) h body waiting
-      → IsMeaningOf reads means tables view h body args
-      (received tables reads (reader_of tables reads view) h body waiting) (Err fault)
-  fault_meant side reads tables view h body waiting args fault same e =
-      subst (λ (x : Side). IsMeaningOf x means tables view h body args
-      (received tables x (reader_of tables x view) h body waiting) (Err fault)) same
-      (subst (λ (r : Result Received Fault). IsMeaningOf side means tables view h body args r (Err fault)) e refl)
-
   pending_is : (side : Side) (core : Core) (args : List ParsedArg) (h : Header) (body : List ℕ) (waiting : ℕ)
       (pending : P) → IsFrame core h body waiting
       → (r : Result Received Fault) → received core.tables side (reader_in core side) h body waiting ≡ r

@@ -41,8 +41,8 @@ pub record IsWellFormed (side : Side) (tables : List Interface) (view : Objects)
   pub tokens : message.tokens ≡ descriptors message.signature.now.kinds
   pub error : message.is_error ≡ is_error side message.entry.iface header.opcode
 
--- The result for a message that its reader reads in this way: what it means (`means`), which may be
--- a fault too, or the message's own fault.
+-- The result for a message, given what its reader returned: the reader's fault, or what the message
+-- means (`means`), which may be a fault too.
 abbrev pub IsMeaningOf : {P : Type 0} → Side
     → (List Interface → Objects → List ℕ → List ParsedArg → Found → Result P Fault → Type 0)
     → List Interface → Objects → Header → List ℕ → List ParsedArg → Result Received Fault
@@ -59,8 +59,8 @@ pub record HasParsed (side : Side) (core : Core) (args : List ParsedArg) (f : Fo
   pub parsed : AreParsed (reader_in core side) (body_of core f.size) args f.message.values
   pub valid : Valid core.tables
 
--- The result for the first message at an end: nothing if it is not whole; what it means, with its
--- arguments parsed; or a fault, its own or one that it means.
+-- The result for the first message at an end: none if it is not whole; else what it means, with its
+-- arguments parsed, or a fault: its own, or one that is its meaning.
 abbrev pub IsFrontMeaning : {P : Type 0} → Side
     → (List Interface → Objects → List ℕ → List ParsedArg → Found → Result P Fault → Type 0)
     → Core → List ParsedArg → Result (Option P) Fault → Type 0

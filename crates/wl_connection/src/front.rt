@@ -33,7 +33,7 @@ pub fn first_message<T: Table, R: Meaning<T>>(
     }
 }
 
-/// Parses the arguments of a message, and returns what it means to a role.
+/// Parses the arguments of a message, and returns what it means to a role, or its fault.
 fn read_frame<T: Table, R: Meaning<T>>(
     args: &mut ParsedArgs,
     role: &R,
@@ -42,6 +42,7 @@ fn read_frame<T: Table, R: Meaning<T>>(
     frame: Frame<'_>,
 ) -> Result<R::Pending, Fault>
     requires display { HasDisplay objects.now }
+    // Always true; known here because the header was read.
     ensures header { IsHeader frame.entry.header }
     ensures comes { IsMeaningOf R.reads (R.Means role.now) tables.now objects.now
         frame.entry.header frame.entry.body.now args.new

@@ -28,8 +28,8 @@ pub trait Meaning<T: Table>: Drop {
     // The side whose messages arrive.
     ghost reads: { SideOf };
 
-    // A message with this body and these parsed arguments means this, or is this fault, given these
-    // tables and objects.
+    // Given these tables and objects, a message with this body and these parsed arguments means
+    // this, or is this fault.
     ghost Means: { Self → List Interface → ObjectsView → List ℕ → List ParsedArg → Found
         → Result Self.Pending FaultState → Type 0 };
 
@@ -37,7 +37,7 @@ pub trait Meaning<T: Table>: Drop {
     fn side(&self) -> Side
         ensures { result ≡ reads };
 
-    /// What a message means that was read, or its fault.
+    /// What a message that was read means, or the fault that it is.
     fn pending_of(
         &self,
         tables: &Tables,

@@ -11,7 +11,7 @@ use Rattle.wl_message.specs.declared.amounts.Amounts.{Amounts}
 use Rattle.wl_message.specs.declared.streams.FlushError.TheVariants.{Io, NeedsTokens}
 use Rattle.wl_message.specs.Outgoing.{QueuedMessage, Outgoing, all_bytes, all_tokens, begun, newly_begun}
 use Rattle.wl_message.specs.Outgoing.{MayGo, Goes, goes, waiting_bytes, after_taking}
-use Rattle.wl_message.specs.Boundaries.{Kept, outgoing, IsKept}
+use Rattle.wl_message.specs.Boundaries.{StoredMessages, outgoing, AreStored}
 use Rattle.wl_message.specs.Streams.{Flushes, FirstHasTokens, NextHasTokens}
 use Rattle.wl_message.proofs.WhatGoes.{begun_none, begun_some, goes_goes}
 use Rattle.wl_message.proofs.PartedQueue.{some_messages}
@@ -229,7 +229,7 @@ rest_waits (b ∷ left) ms some more =
     absurd (omega (arith, t, none))
 
 -- once everything that may go is gone, nothing waits or the next message has tokens
-pub stops : (h : Kept) (o : Outgoing) (taken : Amounts) → IsKept h → outgoing h ≡ o
+pub stops : (h : StoredMessages) (o : Outgoing) (taken : Amounts) → AreStored h → outgoing h ≡ o
     → Goes o (length (waiting_bytes o)) 0 taken
     → (waiting_bytes (after_taking o taken.bytes) ≡ []) ⊎ NextHasTokens (after_taking o taken.bytes)
 stops h o taken i e g =

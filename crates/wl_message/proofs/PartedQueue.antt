@@ -12,7 +12,7 @@ use Rattle.wl_message.specs.declared.boundaries.Reach.{Reach}
 use Rattle.wl_message.specs.Outgoing.{QueuedMessage, queued, Outgoing, all_bytes, all_tokens, begun}
 use Rattle.wl_message.specs.Outgoing.{newly_begun, going_bytes, goes, waiting_bytes, waiting_tokens}
 use Rattle.wl_message.specs.Outgoing.{with_message, with_error, after_taking}
-use Rattle.wl_message.specs.Boundaries.{reach, parted, lens, token_counts, Kept, outgoing, IsKept, IsLeaving}
+use Rattle.wl_message.specs.Boundaries.{reach, parted, lens, token_counts, StoredMessages, outgoing, AreStored, IsLeaving}
 use Rattle.wl_message.proofs.WhatGoes.{begun_front, boundaries_of, goes_goes, reaches, ReachesRoom}
 
 -- ---- boundaries
@@ -99,7 +99,7 @@ some-parted (k ∷ ks) bs ts h e = (
 )
 
 -- each message of an outbox has bytes
-pub some_messages : (h : Kept) → IsKept h → AllByRecursion (λ (m : QueuedMessage). 0 < length m.bytes)
+pub some_messages : (h : StoredMessages) → AreStored h → AllByRecursion (λ (m : QueuedMessage). 0 < length m.bytes)
     (outgoing h).messages
 some_messages h i = some-parted h.boundaries _ _ (record {
   bytes = omega (arith, i.bytes, length-drop h.left h.bytes);
@@ -152,39 +152,39 @@ split (suc n) (k ∷ ks) bs ts h =
 
 -- ---- an outbox
 
-kept_parts : (h : Kept) → IsKept h → Parts h.boundaries (drop h.left h.bytes) h.tokens
+kept_parts : (h : StoredMessages) → AreStored h → Parts h.boundaries (drop h.left h.bytes) h.tokens
 kept_parts h i = record { bytes = omega (arith, i.bytes, length-drop h.left h.bytes); tokens = i.tokens }
 
-pub bytes_wait : (h : Kept) → IsKept h → waiting_bytes (outgoing h) ≡ h.bytes
+pub bytes_wait : (h : StoredMessages) → AreStored h → waiting_bytes (outgoing h) ≡ h.bytes
 bytes_wait h i =
     ap (λ (x : List ℕ). take h.left h.bytes ++ x) (bytes-parted h.boundaries _ _ (kept_parts h i))
     ∙ take-append-drop h.left h.bytes
 
-pub tokens_wait : (h : Kept) → IsKept h → waiting_tokens (outgoing h) ≡ h.tokens
+pub tokens_wait : (h : StoredMessages) → AreStored h → waiting_tokens (outgoing h) ≡ h.tokens
 tokens_wait h i = tokens-parted h.boundaries _ _ (kept_parts h i)
 
-pub left_len : (h : Kept) → IsKept h → length (take h.left h.bytes) ≡ h.left
+pub left_len : (h : StoredMessages) → AreStored h → length (take h.left h.bytes) ≡ h.left
 left_len h i = omega (arith, i.bytes, length-take h.left h.bytes)
 
 -- an outbox with one more message
-abbrev pub kept_with : Kept → List ℕ → List ℕ → Kept
+abbrev pub kept_with : StoredMessages → List ℕ → List ℕ → StoredMessages
 kept_with h m t = record h {
   bytes = h.bytes ++ m;
   tokens = h.tokens ++ t;
   boundaries = h.boundaries ++ record { len = length m; tokens = length t } ∷ [];
 }
 
-same_left : (h : Kept) (m : List ℕ) → IsKept h → take h.left (h.bytes ++ m) ≡ take h.left h.bytes
+same_left : (h : StoredMessages) (m : List ℕ) → AreStored h → take h.left (h.bytes ++ m) ≡ take h.left h.bytes
 same_left h m i = let p : h.left ≤ length h.bytes = omega (arith, i.bytes) in take-append-le h.left h.bytes m p
 
-more_behind : (h : Kept) (m t : List ℕ) → IsKept h
+more_behind : (h : StoredMessages) (m t : List ℕ) → AreStored h
     → parted (h.boundaries ++ record { len = length m; tokens = length t } ∷ []) (drop h.left (h.bytes ++ m)) (h.tokens ++ t)
     ≡ parted h.boundaries (drop h.left h.bytes) h.tokens ++ queued m t ∷ []
 more_behind h m t i =
     let p : h.left ≤ length h.bytes = omega (arith, i.bytes) in
     rw (drop-append-le h.left h.bytes m p) (parted-append h.boundaries (drop h.left h.bytes) h.tokens m t (kept_parts h i))
 
-pub pushed : (h : Kept) (m t : List ℕ) → IsKept h → outgoing (kept_with h m t) ≡ with_message (outgoing h) m t
+pub pushed : (h : StoredMessages) (m t : List ℕ) → AreStored h → outgoing (kept_with h m t) ≡ with_message (outgoing h) m t
 pushed h m t i = λ d. record {
   left = same_left h m i d;
   messages = more_behind h m t i d;
@@ -196,9 +196,9 @@ pushed h m t i = λ d. record {
   error_to = h.error_to;
 }
 
-pub pushed_kept : (h : Kept) (m t : List ℕ) → IsKept h → 8 ≤ length m
+pub pushed_kept : (h : StoredMessages) (m t : List ℕ) → AreStored h → 8 ≤ length m
     → length h.bytes + length m + h.error_from ≤ h.capacity + h.error_to → length h.tokens + length t ≤ h.token_capacity
-    → IsKept (kept_with h m t)
+    → AreStored (kept_with h m t)
 pushed_kept h m t i low room token_room = record {
   bytes = omega (
     arith,
@@ -224,7 +224,7 @@ pushed_kept h m t i low room token_room = record {
 }
 
 -- an outbox with the error event
-abbrev pub kept_with_error : Kept → List ℕ → Kept
+abbrev pub kept_with_error : StoredMessages → List ℕ → StoredMessages
 kept_with_error h m = record h {
   bytes = h.bytes ++ m;
   boundaries = h.boundaries ++ record { len = length m; tokens = 0 } ∷ [];
@@ -233,7 +233,7 @@ kept_with_error h m = record h {
   error_to = length h.bytes + length m;
 }
 
-pub pushed_error : (h : Kept) (m : List ℕ) → IsKept h → outgoing (kept_with_error h m) ≡ with_error (outgoing h) m
+pub pushed_error : (h : StoredMessages) (m : List ℕ) → AreStored h → outgoing (kept_with_error h m) ≡ with_error (outgoing h) m
 pushed_error h m i =
     let w : length h.bytes ≡ length (waiting_bytes (outgoing h)) =
     ap (λ (l : List ℕ). length l) (sym (bytes_wait h i)) in
@@ -251,8 +251,8 @@ pushed_error h m i =
       error_to = w d + length m;
     }
 
-pub error_kept : (h : Kept) (m : List ℕ) → IsKept h → h.has_error ≡ false → 8 ≤ length m → length m ≤ 64
-    → IsKept (kept_with_error h m)
+pub error_kept : (h : StoredMessages) (m : List ℕ) → AreStored h → h.has_error ≡ false → 8 ≤ length m → length m ≤ 64
+    → AreStored (kept_with_error h m)
 error_kept h m i first low high =
     let z = i.no_error first in
     record {
@@ -275,7 +275,7 @@ error_kept h m i first low high =
 
 -- ---- what goes
 
-pub reaches_kept : (h : Kept) (b t first : ℕ) (r : Reach) → IsKept h → first ≡ min b h.left
+pub reaches_kept : (h : StoredMessages) (b t first : ℕ) (r : Reach) → AreStored h → first ≡ min b h.left
     → r ≡ reach (b - first) t 0 h.boundaries
     → ReachesRoom (outgoing h) b t (record {
       bytes = r.bytes;
@@ -301,7 +301,7 @@ reaches_kept h b t first r i f e =
     (λ d. l d - sym f' d) g
 
 -- what leaves, computed from how far the messages that are not begun reach into the room
-abbrev pub leaving : Kept → ℕ → ℕ → ℕ → Reach → Leaving
+abbrev pub leaving : StoredMessages → ℕ → ℕ → ℕ → Reach → Leaving
 leaving h b t first r = record {
   taken = record { bytes = b - r.bytes; tokens = t - r.tokens };
   begun = r.begun;
@@ -313,7 +313,7 @@ pub record GoesOut (o : Outgoing) (b t : ℕ) (l : Leaving) : Type 0 where
   pub taken : l.taken ≡ goes o b t
   pub leaving : IsLeaving o l
 
-pub goes_out : (h : Kept) (b t first : ℕ) (r : Reach) → IsKept h → first ≡ min b h.left
+pub goes_out : (h : StoredMessages) (b t first : ℕ) (r : Reach) → AreStored h → first ≡ min b h.left
     → r ≡ reach (b - first) t 0 h.boundaries → GoesOut (outgoing h) b t (leaving h b t first r)
 unfolding goes
 goes_out h b t first r i f e =
@@ -333,7 +333,7 @@ goes_out h b t first r i f e =
     }
 
 -- the outbox after n bytes and k tokens are gone
-abbrev pub kept_after : Kept → ℕ → ℕ → ℕ → ℕ → Kept
+abbrev pub kept_after : StoredMessages → ℕ → ℕ → ℕ → ℕ → StoredMessages
 kept_after h n k begun left = record h {
   bytes = drop n h.bytes;
   tokens = drop k h.tokens;
@@ -344,15 +344,15 @@ kept_after h n k begun left = record h {
 }
 
 -- how much leaves, and what is left after it
-pub record Leaves (h : Kept) (l : Leaving) : Type 0 where
+pub record Leaves (h : StoredMessages) (l : Leaving) : Type 0 where
   pub bytes : l.taken.bytes ≤ length h.bytes
   pub tokens : l.taken.tokens ≤ length h.tokens
   pub boundaries : l.begun ≤ length h.boundaries
   pub after : outgoing (kept_after h l.taken.bytes l.taken.tokens l.begun l.left)
       ≡ after_taking (outgoing h) l.taken.bytes
-  pub kept : IsKept (kept_after h l.taken.bytes l.taken.tokens l.begun l.left)
+  pub kept : AreStored (kept_after h l.taken.bytes l.taken.tokens l.begun l.left)
 
-pub leaves : (h : Kept) (r : Leaving) → IsKept h → IsLeaving (outgoing h) r → Leaves h r
+pub leaves : (h : StoredMessages) (r : Leaving) → AreStored h → IsLeaving (outgoing h) r → Leaves h r
 leaves h r i g =
     let p = kept_parts h i in
     let o = outgoing h in
@@ -436,14 +436,14 @@ no_boundaries : (ks : List Boundary) → length ks ≡ 0 → ks ≡ []
 no_boundaries [] h = refl
 no_boundaries (k ∷ ks) h = absurd (omega arith)
 
-kept_none : (h : Kept) → IsKept h → length h.bytes ≡ 0 → h.boundaries ≡ []
+kept_none : (h : StoredMessages) → AreStored h → length h.bytes ≡ 0 → h.boundaries ≡ []
 kept_none h i z = no_boundaries h.boundaries (omega (arith, boundaries_fit h.boundaries i.each, i.bytes))
 
 nothing : (xs : List ℕ) → length xs ≡ 0 → xs ≡ []
 nothing [] h = refl
 nothing (x ∷ xs) h = absurd (omega arith)
 
-pub nothing_waits : (h : Kept) → IsKept h → length h.bytes ≡ 0
+pub nothing_waits : (h : StoredMessages) → AreStored h → length h.bytes ≡ 0
     → (waiting_bytes (outgoing h) ≡ []) × (waiting_tokens (outgoing h) ≡ [])
 nothing_waits h i z = (
   bytes_wait h i ∙ nothing h.bytes z,
@@ -451,15 +451,15 @@ nothing_waits h i z = (
       ∙ nothing h.tokens (omega (arith, i.tokens, ap (λ (k : List Boundary). token_counts k) (kept_none h i z))),
 )
 
-pub nothing_left : (h : Kept) → IsKept h → length h.bytes ≡ 0 → ((outgoing h).left ≡ []) × ((outgoing h).messages ≡ [])
+pub nothing_left : (h : StoredMessages) → AreStored h → length h.bytes ≡ 0 → ((outgoing h).left ≡ []) × ((outgoing h).messages ≡ [])
 nothing_left h i z = (
   nothing (take h.left h.bytes) (omega (arith, length-take h.left h.bytes)),
   ap
       (λ (k : List Boundary). parted k (drop h.left h.bytes) h.tokens) (kept_none h i z),
 )
 
-pub no_bytes : (h : Kept) → IsKept h → waiting_bytes (outgoing h) ≡ [] → length h.bytes ≡ 0
+pub no_bytes : (h : StoredMessages) → AreStored h → waiting_bytes (outgoing h) ≡ [] → length h.bytes ≡ 0
 no_bytes h i e = ap (λ (l : List ℕ). length l) (sym (bytes_wait h i) ∙ e)
 
-pub no_messages_bytes : (h : Kept) → IsKept h → (outgoing h).left ≡ [] → (outgoing h).messages ≡ [] → length h.bytes ≡ 0
+pub no_messages_bytes : (h : StoredMessages) → AreStored h → (outgoing h).left ≡ [] → (outgoing h).messages ≡ [] → length h.bytes ≡ 0
 no_messages_bytes h i p q = no_bytes h i (λ d. p d ++ all_bytes (q d))

@@ -22,7 +22,7 @@ tokens_append (x ∷ xs) ys = ap (λ (l : List ℕ). x.tokens ++ l) (tokens_appe
     ∙ sym (append_assoc x.tokens (all_tokens xs) (all_tokens ys))
 
 -- the messages that n bytes begin have at least n bytes in all, if so many wait
-begun_enough : (n : ℕ) (ms : List QueuedMessage) → n ≤ length (all_bytes ms) → n ≤ length (all_bytes (begun n ms))
+pub begun_enough : (n : ℕ) (ms : List QueuedMessage) → n ≤ length (all_bytes ms) → n ≤ length (all_bytes (begun n ms))
 begun_enough n [] h = h
 begun_enough zero (m ∷ ms) h = omega arith
 begun_enough (suc n) (m ∷ ms) h =

@@ -31,7 +31,7 @@ token_counts [] = 0
 token_counts (k ∷ ks) = k.tokens + token_counts ks
 
 -- an outbox's lists and numbers
-pub record Kept : Type 0 where
+pub record StoredMessages : Type 0 where
   pub bytes : List ℕ
   pub tokens : List ℕ
   pub boundaries : List Boundary
@@ -43,7 +43,7 @@ pub record Kept : Type 0 where
   pub error_from : ℕ
   pub error_to : ℕ
 
-abbrev pub outgoing : Kept → Outgoing
+abbrev pub outgoing : StoredMessages → Outgoing
 outgoing h = record {
   left = take h.left h.bytes;
   messages = parted h.boundaries (drop h.left h.bytes) h.tokens;
@@ -57,7 +57,7 @@ outgoing h = record {
 
 -- the boundaries cover all bytes and tokens, the error event is among the bytes, and all other
 -- bytes are within the capacity
-pub record IsKept (h : Kept) : Type 0 where
+pub record AreStored (h : StoredMessages) : Type 0 where
   pub bytes : h.left + lens h.boundaries ≡ length h.bytes
   pub tokens : token_counts h.boundaries ≡ length h.tokens
   pub each : AllByRecursion (λ k. 8 ≤ k.len) h.boundaries

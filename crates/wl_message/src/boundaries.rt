@@ -14,7 +14,7 @@ use std::marker::Model;
 /// A boundary is one word: `len / 4 * TOKENS_END + tokens`.
 const TOKENS_END: u32 = 131_072;
 
-/// How many bytes and tokens a message has.
+/// A message's boundary: how many bytes and tokens it has.
 #[derive(Clone, Copy, Debug)]
 pub(crate) struct Boundary {
     pub len: usize,

@@ -30,7 +30,7 @@ pub struct Outbox<A: Allocator = Global> {
     // Its capacity includes room for the error event beyond the ordinary messages.
     bytes: HeapCircularBuffer<u8, A>,
     tokens: HeapCircularBuffer<u32, A>,
-    // The messages that are not begun.
+    // The boundaries of the messages that are not begun.
     boundaries: Boundaries<A>,
     // How many bytes are left of the message that was begun last.
     left: usize,
@@ -50,7 +50,7 @@ impl<A: Allocator> Model for Outbox<A> {
 
     ghost Value = { Outgoing };
 
-    ghost use Rattle.wl_message.specs.Boundaries.{outgoing, IsKept};
+    ghost use Rattle.wl_message.specs.Boundaries.{outgoing, AreStored};
 
     ghost view = { λ o. outgoing (record {
       bytes = o.bytes.items;
@@ -66,7 +66,7 @@ impl<A: Allocator> Model for Outbox<A> {
     }) };
 
     ghost invariant = { λ o. record {
-      kept : IsKept (record {
+      kept : AreStored (record {
         bytes = o.bytes.items;
         tokens = o.tokens.items;
         boundaries = o.boundaries.items;

@@ -148,8 +148,8 @@ pub(crate) fn move_first<T: Copy + Drop, A: Allocator>(
     }
 }
 
-/// Moves the first n items into a store, replacing its contents. Most messages have no token, and
-/// then only the store is cleared.
+/// Moves the first n items into a store, replacing its contents. If n is 0, as it is for the tokens
+/// of most messages, only the store is cleared.
 #[inline(always)]
 pub(crate) fn move_to_store<T: Copy + Drop, A: Allocator>(
     ring: &mut HeapCircularBuffer<T, A>,

@@ -221,7 +221,8 @@ passed limit tables side view target opcode list found p =
 
 -- ---- a whole message
 
-shown-error : (side : Side) (iface : Iface) (opcode : ℕ) → is_hidden side iface opcode ≡ false
+-- a message that a call can write is no wl_display.error
+pub shown-error : (side : Side) (iface : Iface) (opcode : ℕ) → is_hidden side iface opcode ≡ false
     → is_error side iface opcode ≡ false
 shown-error Request iface opcode e = refl
 shown-error Event iface opcode e = and_left (same_iface iface display) (nat_eq opcode 0)

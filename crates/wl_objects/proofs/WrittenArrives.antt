@@ -24,7 +24,7 @@ use Rattle.wl_objects.specs.Writing.{Given, wired, spelled, suits, has_no_nul, c
 use Rattle.wl_objects.specs.Writing.{wrong_place, lost_place, tokens_of}
 use Rattle.wl_objects.specs.Carried.{InRange, ReaderHolds, IsExpected, AreExpected, arrived_value, Arrive}
 
-no_nul : (text : List ℕ) → has_no_nul text ≡ true → All (λ b. b ≢ 0) text
+pub no_nul : (text : List ℕ) → has_no_nul text ≡ true → All (λ b. b ≢ 0) text
 no_nul text e k d h z =
     let f : list_any (λ b. nat_eq b 0) text ≡ false = not-true (list_any (λ b. nat_eq b 0) text) e in
     both_ways _ f (list_any_at (λ (b : ℕ). nat_eq b 0) text k d h (eq-eqb _ 0 z))

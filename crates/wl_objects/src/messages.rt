@@ -1,4 +1,4 @@
-//! The messages of a side, and those with a meaning of their own.
+//! The tables and the side of a writer, and the messages with a meaning of their own.
 ghost use Rattle.std.specs.Prelude.{◌≡◌};
 ghost use Rattle.wl_objects.specs.Messages.{is_error, is_delete_id, is_bind, is_hidden, maker_by};
 
@@ -6,7 +6,7 @@ use wl_object_map::Maker;
 use wl_sigs::{Side, Tables, event, request};
 use wl_wire::Iface;
 
-/// The tables, and the side that writes messages by them.
+/// The tables, and the side that writes.
 #[derive(Clone, Copy)]
 pub struct SideTables<'t> {
     pub tables: &'t Tables,

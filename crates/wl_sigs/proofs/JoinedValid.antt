@@ -31,7 +31,7 @@ use Rattle.wl_sigs.specs.Broken.{is_first, ended_of, first_broken}
 use Rattle.wl_sigs.proofs.RulesDecide.{decides_name}
 use Rattle.wl_rules.proofs.FirstBrokenLine.{each_interface_keeps}
 use Rattle.wl_sigs.specs.FirstBroken.{written_of}
-use Rattle.wl_sigs.proofs.Kept.{Keeps, MessageKeeps, kept}
+use Rattle.wl_sigs.proofs.KeptRules.{Keeps, MessageKeeps, kept}
 use Rattle.wl_sigs.proofs.JoinedLookup.{in_front, Brought, either_interface, placing}
 use Rattle.wl_sigs.proofs.JoinedLookup.{placing_message, each_interface, each_message}
 use Rattle.wl_sigs.proofs.JoinedLookup.{length_joined, length_names, placed_messages}

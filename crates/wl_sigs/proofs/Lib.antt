@@ -1,7 +1,7 @@
 pub mod Lookups
 mod MessagesNamed
 mod Got
-mod Kept
+mod KeptRules
 mod JoinedLookup
 mod PlacedKinds
 pub mod JoinedValid

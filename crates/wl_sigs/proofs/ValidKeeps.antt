@@ -24,7 +24,7 @@ use Rattle.wl_sigs.specs.Broken.{makes_server_object, most_by_server, makes_forb
 use Rattle.wl_sigs.proofs.RulesDecide.{decides_name}
 use Rattle.wl_sigs.proofs.Lookups.{signature_from}
 use Rattle.wl_sigs.specs.FirstBroken.{written_of}
-use Rattle.wl_sigs.proofs.Kept.{InterfaceKeeps, MessageKeeps}
+use Rattle.wl_sigs.proofs.KeptRules.{InterfaceKeeps, MessageKeeps}
 use Rattle.wl_rules.proofs.FirstPlaces.{first_place-of, first_place-within}
 use Rattle.wl_sigs.proofs.JoinedLookup.{mapped_at, placing, placing_message, placed_messages}
 use Rattle.wl_sigs.proofs.JoinedLookup.{length_joined, length_names, names_joined}

@@ -1,14 +1,13 @@
 //! An interface and its messages.
+ghost use Rattle.std.specs.Prelude.{◌≡◌, ◌<◌, ◌++◌, ◌||◌, false, IfOk, map};
+ghost use Rattle.std.specs.Prelude.{option_copied, position, bytes_eq};
+ghost use Rattle.std.specs.List.{list_any};
+ghost use Rattle.std.specs.Option.{option_map_or};
+ghost use Rattle.wl_sigs.specs.Extended.{grown_by, unsaid};
+ghost use Rattle.wl_sigs.specs.Extending.{is_object_of, is_server_object_of};
 ghost use Rattle.wl_sigs.specs.Joined.{message_placed, interface_placed};
 ghost use Rattle.wl_sigs.specs.NameHash.{name_hash};
 ghost use Rattle.wl_sigs.specs.Places.{PlacesFit, place_in};
-ghost use Rattle.wl_sigs.specs.Extended.{grown_by, unsaid};
-ghost use Rattle.std.specs.Prelude.{◌||◌, false};
-ghost use Rattle.std.specs.Option.{option_map_or};
-ghost use Rattle.wl_sigs.specs.Extending.{is_object_of, is_server_object_of};
-ghost use Rattle.std.specs.Prelude.{◌≡◌, ◌<◌, ◌++◌, IfOk, map};
-ghost use Rattle.std.specs.Prelude.{option_copied, position, bytes_eq};
-ghost use Rattle.std.specs.List.{list_any};
 ghost use Rattle.wl_sigs.specs.Tables.{has_destroying_event, has_destroying_request};
 ghost use Rattle.wl_sigs.specs.Tables.{has_server_object, message_of, messages_of};
 ghost use Rattle.wl_sigs.specs.Written.{message_written, interface_written};
