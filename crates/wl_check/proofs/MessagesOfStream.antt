@@ -43,12 +43,22 @@ front_long limit bytes z e h good long = ap size_of
     (subst (λ (n : ℕ). is_size limit n ≡ true) e good)
     (lt-ltb (length bytes) (told_size bytes) (omega (arith, e, long)))))
 
-pub front_good : (limit : ℕ) (bytes : List ℕ) (z : ℕ) → z ≡ told_size bytes → 8 ≤ length bytes → is_size limit z ≡ true
+front_good : (limit : ℕ) (bytes : List ℕ) (z : ℕ) → z ≡ told_size bytes → 8 ≤ length bytes → is_size limit z ≡ true
     → z ≤ length bytes → Some z ≡ size_of (front limit bytes)
 front_good limit bytes z e h good there = rw e (ap size_of
     (sym (front_tests limit bytes false true false (le-ltb (length bytes) 8 h)
     (subst (λ (n : ℕ). is_size limit n ≡ true) e good)
     (le-ltb (length bytes) (told_size bytes) (omega (arith, e, there))))))
+
+front_by : (limit : ℕ) (bytes : List ℕ) (z : ℕ) (good : Bool) → is_size limit z ≡ good → z ≡ told_size bytes
+    → 8 ≤ length bytes → z ≤ length bytes → Some z ≡ size_of (front limit bytes)
+front_by limit bytes z true good e h there = front_good limit bytes z e h good there
+front_by limit bytes z false bad e h there = front_bad limit bytes z e h bad
+
+-- all bytes of a message are there, whether or not its size is a good one
+pub front_there : (limit : ℕ) (bytes : List ℕ) (z : ℕ) → z ≡ told_size bytes → 8 ≤ length bytes
+    → z ≤ length bytes → Some z ≡ size_of (front limit bytes)
+front_there limit bytes z e h there = front_by limit bytes z (is_size limit z) refl e h there
 
 -- ---- one step of the cutting
 

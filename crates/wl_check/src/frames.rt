@@ -78,10 +78,7 @@ pub(crate) fn size_in_front(bytes: &[u8], limit: Limit) -> Option<u16>
         return None;
     }
     let size = Header::at_front_of(bytes).size;
-    if !limit.allows(size) {
-        return Some(size);
-    }
-    if bytes.len() < size as usize {
+    if bytes.len() < size as usize && limit.allows(size) {
         return None;
     }
     Some(size)

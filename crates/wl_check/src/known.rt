@@ -3,8 +3,7 @@ ghost use Rattle.std.specs.Prelude.{◌≡◌, ◌+◌, ◌^◌, ◌<◌, OnOk, 
 ghost use Rattle.wl_sigs.specs.Valid.{Valid};
 ghost use Rattle.wl_check.specs.Changes.{side_of};
 ghost use Rattle.wl_check.specs.Held.{HasFewSlots, undone_by};
-ghost use Rattle.wl_check.specs.Places.{server_used_after, used_after};
-ghost use Rattle.wl_check.specs.Places.{IsFirst, IsKnownBehind};
+ghost use Rattle.wl_check.specs.Places.{IsFirst, IsKnownBehind, server_used_by, used_by};
 ghost use Rattle.wl_check.specs.Rules.{is_free_id, is_free_server_id, reader_by};
 ghost use Rattle.wl_check.specs.Seen.{known_in, taken_of_direction};
 
@@ -13,8 +12,8 @@ use crate::holdings::Holdings;
 use crate::judging::side_of;
 use crate::overwritten::UndoList;
 use std::alloc::{AllocError, Allocator, Global};
-use wl_object_map::{DISPLAY_ID, FIRST_SERVER_ID, MAX_IDS, MAX_SERVER_ID};
-use wl_objects::{DISPLAY, Entry, Lookup, NewId, State, waits_for_request};
+use wl_object_map::{DISPLAY_ID, FIRST_SERVER_ID, MAX_IDS, MAX_SERVER_ID, Maker};
+use wl_objects::{DISPLAY, Entry, Lookup, NewId, NewObject, State, waits_for_request};
 use wl_recording::Direction;
 use wl_sigs::{Side, Tables};
 use wl_wire::Iface;
@@ -83,8 +82,7 @@ impl<A: Allocator + Clone> KnownState<A> {
         if let Some(global) = &changes.advertised {
             self.held.remember_global(global, undo)?;
         }
-        self.used = used_after(self.used, changes);
-        self.server_used = server_used_after(self.server_used, changes);
+        self.count_id_of(changes.made);
         match changes.direction {
             Direction::ToServer => self.taken_to_server += changes.tokens as u128,
             Direction::ToClient => self.taken_to_client += changes.tokens as u128,
@@ -93,26 +91,27 @@ impl<A: Allocator + Clone> KnownState<A> {
     }
 }
 
-fn used_after(used: u32, changes: &MessageChanges) -> u32
-    ensures { result ≡ used_after changes.now used }
-{
-    match changes.made {
-        Some(new) if new.id >= FIRST_SERVER_ID => used,
-        Some(new) => new.id.max(used),
-        None => used,
-    }
-}
-
-fn server_used_after(used: u32, changes: &MessageChanges) -> u32
-    ensures { result ≡ server_used_after changes.now used }
-{
-    match changes.made {
-        Some(new) if new.id >= FIRST_SERVER_ID => (new.id - FIRST_SERVER_ID + 1).max(used),
-        Some(_) | None => used,
-    }
-}
-
 impl<A: Allocator> KnownState<A> {
+    /// Counts the id of the object that a message makes, if it makes one, as used.
+    #[inline(always)]
+    fn count_id_of(&mut self, made: Option<NewObject>)
+        ensures used { self.new.used ≡ used_by made self.old.used }
+        ensures server_used { self.new.server_used ≡ server_used_by made self.old.server_used }
+        ensures held { self.new.held ≡ self.old.held }
+        ensures to_server { self.new.taken_to_server ≡ self.old.taken_to_server }
+        ensures to_client { self.new.taken_to_client ≡ self.old.taken_to_client }
+    {
+        let Some(new) = made else {
+            return;
+        };
+        match Maker::of(new.id) {
+            Maker::Client => self.used = new.id.max(self.used),
+            Maker::Server => {
+                self.server_used = (new.id - FIRST_SERVER_ID + 1).max(self.server_used);
+            }
+        }
+    }
+
     /// How many tokens the messages of a direction took.
     pub(crate) fn taken(&self, direction: Direction) -> u128
         ensures { result ≡ taken_of_direction self.now direction }
