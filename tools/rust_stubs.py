@@ -208,15 +208,15 @@ class Module:
         name = self.enums[interface.name, enum.name]
         what = "Bits that can be joined by `|`." if enum.bitfield else "A number that has no name here may come."
         self.say("", *documented([*sentence(enum.summary), what], "    "),
-                 "    #[derive(Clone, Copy, Debug, PartialEq, Eq, Hash)]",
+                 "    #[derive(Clone, Copy, PartialEq, Eq, Hash)]",
                  f"    pub struct {name}(#[doc = \"The number.\"] pub u32);", "",
                  f"    impl {name} {{")
-        taken = set()
+        taken = {}
         for it in enum.entries:
             entry = constant(it.name)
             while entry in taken:
                 entry += "_"
-            taken.add(entry)
+            taken[entry] = it.value
             since = [f"Since version {it.since}."] if it.since > 1 else []
             summary = sentence(it.summary) or [f"The value {plain(it.name)}."]
             self.say(*documented([" ".join([*summary, *since])], "        "),
@@ -230,6 +230,17 @@ class Module:
             self.say("", f"    impl std::ops::BitOr for {name} {{", f"        type Output = {name};", "",
                      f"        fn bitor(self, other: {name}) -> {name} {{",
                      f"            {name}(self.0 | other.0)", "        }", "    }")
+        self.prints(name, "bits" if enum.bitfield else "value", taken)
+
+    def prints(self, name, kind, values):
+        """How a value of an enum is printed for a programmer: by the names of its constants."""
+        pairs = [f'("{it}", {value})' for it, value in values.items()]
+        line = f"            let names = [{', '.join(pairs)}];"
+        lines = [line] if len(line) <= WIDTH else [
+            "            let names = [", *(f"                {it}," for it in pairs), "            ];"]
+        self.say("", f"    impl std::fmt::Debug for {name} {{",
+                 "        fn fmt(&self, f: &mut std::fmt::Formatter<'_>) -> std::fmt::Result {", *lines,
+                 f'            waywire::typed::write_{kind}(f, "{name}", self.0, &names)', "        }", "    }")
 
     def sends(self, interface, side, message, name):
         """A method that writes a message at an end."""

@@ -7,6 +7,7 @@ use crate::owned::{OwnedMessage, OwnedValue};
 use crate::report::Message;
 use crate::server::Server;
 use crate::tables::{Interface, Object, Tables};
+use std::fmt::{self, Formatter};
 use std::os::fd::OwnedFd;
 
 /// An object whose interface the compiler knows.
@@ -24,6 +25,46 @@ pub trait Handle: Copy {
 
     /// The object.
     fn object(self) -> Object;
+}
+
+/// Writes a value of an enum of a protocol: the name of its constant, or its type and number if it
+/// has none.
+pub fn write_value(
+    f: &mut Formatter<'_>,
+    of: &str,
+    value: u32,
+    names: &[(&str, u32)],
+) -> fmt::Result {
+    match names.iter().find(|(_, it)| *it == value) {
+        Some((name, _)) => f.write_str(name),
+        None => write!(f, "{of}({value})"),
+    }
+}
+
+/// Writes bits of a protocol: the names of the constants that they are joined of, and the bits that
+/// have none as `write_value` does.
+pub fn write_bits(
+    f: &mut Formatter<'_>,
+    of: &str,
+    value: u32,
+    names: &[(&str, u32)],
+) -> fmt::Result {
+    if value == 0 || names.iter().any(|(_, it)| *it == value) {
+        return write_value(f, of, value, names);
+    }
+    let (mut left, mut between) = (value, "");
+    for (name, bits) in names {
+        if *bits != 0 && left & bits == *bits {
+            write!(f, "{between}{name}")?;
+            left &= !bits;
+            between = " | ";
+        }
+    }
+    if left == 0 {
+        Ok(())
+    } else {
+        write!(f, "{between}{of}({left})")
+    }
 }
 
 /// A message that was read, whether its end lends it or it is owned.

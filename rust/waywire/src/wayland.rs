@@ -55,7 +55,7 @@ pub mod wl_display {
     }
 
     /// A number that has no name here may come.
-    #[derive(Clone, Copy, Debug, PartialEq, Eq, Hash)]
+    #[derive(Clone, Copy, PartialEq, Eq, Hash)]
     pub struct Error(#[doc = "The number."] pub u32);
 
     impl Error {
@@ -67,6 +67,18 @@ pub mod wl_display {
         pub const NO_MEMORY: Error = Error(2);
         /// The value implementation.
         pub const IMPLEMENTATION: Error = Error(3);
+    }
+
+    impl std::fmt::Debug for Error {
+        fn fmt(&self, f: &mut std::fmt::Formatter<'_>) -> std::fmt::Result {
+            let names = [
+                ("INVALID_OBJECT", 0),
+                ("INVALID_METHOD", 1),
+                ("NO_MEMORY", 2),
+                ("IMPLEMENTATION", 3),
+            ];
+            waywire::typed::write_value(f, "Error", self.0, &names)
+        }
     }
 
     impl WlDisplay {
@@ -530,7 +542,7 @@ pub mod wl_shm {
     }
 
     /// A number that has no name here may come.
-    #[derive(Clone, Copy, Debug, PartialEq, Eq, Hash)]
+    #[derive(Clone, Copy, PartialEq, Eq, Hash)]
     pub struct Error(#[doc = "The number."] pub u32);
 
     impl Error {
@@ -542,8 +554,15 @@ pub mod wl_shm {
         pub const INVALID_FD: Error = Error(2);
     }
 
+    impl std::fmt::Debug for Error {
+        fn fmt(&self, f: &mut std::fmt::Formatter<'_>) -> std::fmt::Result {
+            let names = [("INVALID_FORMAT", 0), ("INVALID_STRIDE", 1), ("INVALID_FD", 2)];
+            waywire::typed::write_value(f, "Error", self.0, &names)
+        }
+    }
+
     /// A number that has no name here may come.
-    #[derive(Clone, Copy, Debug, PartialEq, Eq, Hash)]
+    #[derive(Clone, Copy, PartialEq, Eq, Hash)]
     pub struct Format(#[doc = "The number."] pub u32);
 
     impl Format {
@@ -763,6 +782,122 @@ pub mod wl_shm {
         pub const ARGB16161616: Format = Format(942953025);
         /// The value abgr16161616.
         pub const ABGR16161616: Format = Format(942948929);
+    }
+
+    impl std::fmt::Debug for Format {
+        fn fmt(&self, f: &mut std::fmt::Formatter<'_>) -> std::fmt::Result {
+            let names = [
+                ("ARGB8888", 0),
+                ("XRGB8888", 1),
+                ("C8", 538982467),
+                ("RGB332", 943867730),
+                ("BGR233", 944916290),
+                ("XRGB4444", 842093144),
+                ("XBGR4444", 842089048),
+                ("RGBX4444", 842094674),
+                ("BGRX4444", 842094658),
+                ("ARGB4444", 842093121),
+                ("ABGR4444", 842089025),
+                ("RGBA4444", 842088786),
+                ("BGRA4444", 842088770),
+                ("XRGB1555", 892424792),
+                ("XBGR1555", 892420696),
+                ("RGBX5551", 892426322),
+                ("BGRX5551", 892426306),
+                ("ARGB1555", 892424769),
+                ("ABGR1555", 892420673),
+                ("RGBA5551", 892420434),
+                ("BGRA5551", 892420418),
+                ("RGB565", 909199186),
+                ("BGR565", 909199170),
+                ("RGB888", 875710290),
+                ("BGR888", 875710274),
+                ("XBGR8888", 875709016),
+                ("RGBX8888", 875714642),
+                ("BGRX8888", 875714626),
+                ("ABGR8888", 875708993),
+                ("RGBA8888", 875708754),
+                ("BGRA8888", 875708738),
+                ("XRGB2101010", 808669784),
+                ("XBGR2101010", 808665688),
+                ("RGBX1010102", 808671314),
+                ("BGRX1010102", 808671298),
+                ("ARGB2101010", 808669761),
+                ("ABGR2101010", 808665665),
+                ("RGBA1010102", 808665426),
+                ("BGRA1010102", 808665410),
+                ("YUYV", 1448695129),
+                ("YVYU", 1431918169),
+                ("UYVY", 1498831189),
+                ("VYUY", 1498765654),
+                ("AYUV", 1448433985),
+                ("NV12", 842094158),
+                ("NV21", 825382478),
+                ("NV16", 909203022),
+                ("NV61", 825644622),
+                ("YUV410", 961959257),
+                ("YVU410", 961893977),
+                ("YUV411", 825316697),
+                ("YVU411", 825316953),
+                ("YUV420", 842093913),
+                ("YVU420", 842094169),
+                ("YUV422", 909202777),
+                ("YVU422", 909203033),
+                ("YUV444", 875713881),
+                ("YVU444", 875714137),
+                ("R8", 538982482),
+                ("R16", 540422482),
+                ("RG88", 943212370),
+                ("GR88", 943215175),
+                ("RG1616", 842221394),
+                ("GR1616", 842224199),
+                ("XRGB16161616F", 1211388504),
+                ("XBGR16161616F", 1211384408),
+                ("ARGB16161616F", 1211388481),
+                ("ABGR16161616F", 1211384385),
+                ("XYUV8888", 1448434008),
+                ("VUY888", 875713878),
+                ("VUY101010", 808670550),
+                ("Y210", 808530521),
+                ("Y212", 842084953),
+                ("Y216", 909193817),
+                ("Y410", 808531033),
+                ("Y412", 842085465),
+                ("Y416", 909194329),
+                ("XVYU2101010", 808670808),
+                ("XVYU12_16161616", 909334104),
+                ("XVYU16161616", 942954072),
+                ("Y0L0", 810299481),
+                ("X0L0", 810299480),
+                ("Y0L2", 843853913),
+                ("X0L2", 843853912),
+                ("YUV420_8BIT", 942691673),
+                ("YUV420_10BIT", 808539481),
+                ("XRGB8888_A8", 943805016),
+                ("XBGR8888_A8", 943800920),
+                ("RGBX8888_A8", 943806546),
+                ("BGRX8888_A8", 943806530),
+                ("RGB888_A8", 943798354),
+                ("BGR888_A8", 943798338),
+                ("RGB565_A8", 943797586),
+                ("BGR565_A8", 943797570),
+                ("NV24", 875714126),
+                ("NV42", 842290766),
+                ("P210", 808530512),
+                ("P010", 808530000),
+                ("P012", 842084432),
+                ("P016", 909193296),
+                ("AXBXGXRX106106106106", 808534593),
+                ("NV15", 892425806),
+                ("Q410", 808531025),
+                ("Q401", 825242705),
+                ("XRGB16161616", 942953048),
+                ("XBGR16161616", 942948952),
+                ("ARGB16161616", 942953025),
+                ("ABGR16161616", 942948929),
+            ];
+            waywire::typed::write_value(f, "Format", self.0, &names)
+        }
     }
 
     impl WlShm {
@@ -1259,7 +1394,7 @@ pub mod wl_surface {
     }
 
     /// A number that has no name here may come.
-    #[derive(Clone, Copy, Debug, PartialEq, Eq, Hash)]
+    #[derive(Clone, Copy, PartialEq, Eq, Hash)]
     pub struct Error(#[doc = "The number."] pub u32);
 
     impl Error {
@@ -1271,6 +1406,18 @@ pub mod wl_surface {
         pub const INVALID_SIZE: Error = Error(2);
         /// The value invalid\_offset.
         pub const INVALID_OFFSET: Error = Error(3);
+    }
+
+    impl std::fmt::Debug for Error {
+        fn fmt(&self, f: &mut std::fmt::Formatter<'_>) -> std::fmt::Result {
+            let names = [
+                ("INVALID_SCALE", 0),
+                ("INVALID_TRANSFORM", 1),
+                ("INVALID_SIZE", 2),
+                ("INVALID_OFFSET", 3),
+            ];
+            waywire::typed::write_value(f, "Error", self.0, &names)
+        }
     }
 
     impl WlSurface {
@@ -1900,7 +2047,7 @@ pub mod wl_seat {
     }
 
     /// Bits that can be joined by `|`.
-    #[derive(Clone, Copy, Debug, PartialEq, Eq, Hash)]
+    #[derive(Clone, Copy, PartialEq, Eq, Hash)]
     pub struct Capability(#[doc = "The number."] pub u32);
 
     impl Capability {
@@ -1925,13 +2072,27 @@ pub mod wl_seat {
         }
     }
 
+    impl std::fmt::Debug for Capability {
+        fn fmt(&self, f: &mut std::fmt::Formatter<'_>) -> std::fmt::Result {
+            let names = [("POINTER", 1), ("KEYBOARD", 2), ("TOUCH", 4)];
+            waywire::typed::write_bits(f, "Capability", self.0, &names)
+        }
+    }
+
     /// A number that has no name here may come.
-    #[derive(Clone, Copy, Debug, PartialEq, Eq, Hash)]
+    #[derive(Clone, Copy, PartialEq, Eq, Hash)]
     pub struct Error(#[doc = "The number."] pub u32);
 
     impl Error {
         /// The value missing\_capability.
         pub const MISSING_CAPABILITY: Error = Error(0);
+    }
+
+    impl std::fmt::Debug for Error {
+        fn fmt(&self, f: &mut std::fmt::Formatter<'_>) -> std::fmt::Result {
+            let names = [("MISSING_CAPABILITY", 0)];
+            waywire::typed::write_value(f, "Error", self.0, &names)
+        }
     }
 
     impl WlSeat {
@@ -2186,7 +2347,7 @@ pub mod wl_pointer {
     }
 
     /// A number that has no name here may come.
-    #[derive(Clone, Copy, Debug, PartialEq, Eq, Hash)]
+    #[derive(Clone, Copy, PartialEq, Eq, Hash)]
     pub struct Error(#[doc = "The number."] pub u32);
 
     impl Error {
@@ -2194,8 +2355,15 @@ pub mod wl_pointer {
         pub const ROLE: Error = Error(0);
     }
 
+    impl std::fmt::Debug for Error {
+        fn fmt(&self, f: &mut std::fmt::Formatter<'_>) -> std::fmt::Result {
+            let names = [("ROLE", 0)];
+            waywire::typed::write_value(f, "Error", self.0, &names)
+        }
+    }
+
     /// A number that has no name here may come.
-    #[derive(Clone, Copy, Debug, PartialEq, Eq, Hash)]
+    #[derive(Clone, Copy, PartialEq, Eq, Hash)]
     pub struct ButtonState(#[doc = "The number."] pub u32);
 
     impl ButtonState {
@@ -2205,8 +2373,15 @@ pub mod wl_pointer {
         pub const PRESSED: ButtonState = ButtonState(1);
     }
 
+    impl std::fmt::Debug for ButtonState {
+        fn fmt(&self, f: &mut std::fmt::Formatter<'_>) -> std::fmt::Result {
+            let names = [("RELEASED", 0), ("PRESSED", 1)];
+            waywire::typed::write_value(f, "ButtonState", self.0, &names)
+        }
+    }
+
     /// A number that has no name here may come.
-    #[derive(Clone, Copy, Debug, PartialEq, Eq, Hash)]
+    #[derive(Clone, Copy, PartialEq, Eq, Hash)]
     pub struct Axis(#[doc = "The number."] pub u32);
 
     impl Axis {
@@ -2216,8 +2391,15 @@ pub mod wl_pointer {
         pub const HORIZONTAL_SCROLL: Axis = Axis(1);
     }
 
+    impl std::fmt::Debug for Axis {
+        fn fmt(&self, f: &mut std::fmt::Formatter<'_>) -> std::fmt::Result {
+            let names = [("VERTICAL_SCROLL", 0), ("HORIZONTAL_SCROLL", 1)];
+            waywire::typed::write_value(f, "Axis", self.0, &names)
+        }
+    }
+
     /// A number that has no name here may come.
-    #[derive(Clone, Copy, Debug, PartialEq, Eq, Hash)]
+    #[derive(Clone, Copy, PartialEq, Eq, Hash)]
     pub struct AxisSource(#[doc = "The number."] pub u32);
 
     impl AxisSource {
@@ -2229,6 +2411,13 @@ pub mod wl_pointer {
         pub const CONTINUOUS: AxisSource = AxisSource(2);
         /// The value wheel\_tilt. Since version 6.
         pub const WHEEL_TILT: AxisSource = AxisSource(3);
+    }
+
+    impl std::fmt::Debug for AxisSource {
+        fn fmt(&self, f: &mut std::fmt::Formatter<'_>) -> std::fmt::Result {
+            let names = [("WHEEL", 0), ("FINGER", 1), ("CONTINUOUS", 2), ("WHEEL_TILT", 3)];
+            waywire::typed::write_value(f, "AxisSource", self.0, &names)
+        }
     }
 
     impl WlPointer {
@@ -2700,7 +2889,7 @@ pub mod wl_keyboard {
     }
 
     /// A number that has no name here may come.
-    #[derive(Clone, Copy, Debug, PartialEq, Eq, Hash)]
+    #[derive(Clone, Copy, PartialEq, Eq, Hash)]
     pub struct KeymapFormat(#[doc = "The number."] pub u32);
 
     impl KeymapFormat {
@@ -2710,8 +2899,15 @@ pub mod wl_keyboard {
         pub const XKB_V1: KeymapFormat = KeymapFormat(1);
     }
 
+    impl std::fmt::Debug for KeymapFormat {
+        fn fmt(&self, f: &mut std::fmt::Formatter<'_>) -> std::fmt::Result {
+            let names = [("NO_KEYMAP", 0), ("XKB_V1", 1)];
+            waywire::typed::write_value(f, "KeymapFormat", self.0, &names)
+        }
+    }
+
     /// A number that has no name here may come.
-    #[derive(Clone, Copy, Debug, PartialEq, Eq, Hash)]
+    #[derive(Clone, Copy, PartialEq, Eq, Hash)]
     pub struct KeyState(#[doc = "The number."] pub u32);
 
     impl KeyState {
@@ -2719,6 +2915,13 @@ pub mod wl_keyboard {
         pub const RELEASED: KeyState = KeyState(0);
         /// The value pressed.
         pub const PRESSED: KeyState = KeyState(1);
+    }
+
+    impl std::fmt::Debug for KeyState {
+        fn fmt(&self, f: &mut std::fmt::Formatter<'_>) -> std::fmt::Result {
+            let names = [("RELEASED", 0), ("PRESSED", 1)];
+            waywire::typed::write_value(f, "KeyState", self.0, &names)
+        }
     }
 
     impl WlKeyboard {
@@ -3366,7 +3569,7 @@ pub mod wl_output {
     }
 
     /// A number that has no name here may come.
-    #[derive(Clone, Copy, Debug, PartialEq, Eq, Hash)]
+    #[derive(Clone, Copy, PartialEq, Eq, Hash)]
     pub struct Subpixel(#[doc = "The number."] pub u32);
 
     impl Subpixel {
@@ -3384,8 +3587,22 @@ pub mod wl_output {
         pub const VERTICAL_BGR: Subpixel = Subpixel(5);
     }
 
+    impl std::fmt::Debug for Subpixel {
+        fn fmt(&self, f: &mut std::fmt::Formatter<'_>) -> std::fmt::Result {
+            let names = [
+                ("UNKNOWN", 0),
+                ("NONE", 1),
+                ("HORIZONTAL_RGB", 2),
+                ("HORIZONTAL_BGR", 3),
+                ("VERTICAL_RGB", 4),
+                ("VERTICAL_BGR", 5),
+            ];
+            waywire::typed::write_value(f, "Subpixel", self.0, &names)
+        }
+    }
+
     /// A number that has no name here may come.
-    #[derive(Clone, Copy, Debug, PartialEq, Eq, Hash)]
+    #[derive(Clone, Copy, PartialEq, Eq, Hash)]
     pub struct Transform(#[doc = "The number."] pub u32);
 
     impl Transform {
@@ -3407,8 +3624,24 @@ pub mod wl_output {
         pub const FLIPPED_270: Transform = Transform(7);
     }
 
+    impl std::fmt::Debug for Transform {
+        fn fmt(&self, f: &mut std::fmt::Formatter<'_>) -> std::fmt::Result {
+            let names = [
+                ("NORMAL", 0),
+                ("_90", 1),
+                ("_180", 2),
+                ("_270", 3),
+                ("FLIPPED", 4),
+                ("FLIPPED_90", 5),
+                ("FLIPPED_180", 6),
+                ("FLIPPED_270", 7),
+            ];
+            waywire::typed::write_value(f, "Transform", self.0, &names)
+        }
+    }
+
     /// Bits that can be joined by `|`.
-    #[derive(Clone, Copy, Debug, PartialEq, Eq, Hash)]
+    #[derive(Clone, Copy, PartialEq, Eq, Hash)]
     pub struct Mode(#[doc = "The number."] pub u32);
 
     impl Mode {
@@ -3428,6 +3661,13 @@ pub mod wl_output {
 
         fn bitor(self, other: Mode) -> Mode {
             Mode(self.0 | other.0)
+        }
+    }
+
+    impl std::fmt::Debug for Mode {
+        fn fmt(&self, f: &mut std::fmt::Formatter<'_>) -> std::fmt::Result {
+            let names = [("CURRENT", 1), ("PREFERRED", 2)];
+            waywire::typed::write_bits(f, "Mode", self.0, &names)
         }
     }
 
@@ -3722,12 +3962,19 @@ pub mod wl_subcompositor {
     }
 
     /// A number that has no name here may come.
-    #[derive(Clone, Copy, Debug, PartialEq, Eq, Hash)]
+    #[derive(Clone, Copy, PartialEq, Eq, Hash)]
     pub struct Error(#[doc = "The number."] pub u32);
 
     impl Error {
         /// The value bad\_surface.
         pub const BAD_SURFACE: Error = Error(0);
+    }
+
+    impl std::fmt::Debug for Error {
+        fn fmt(&self, f: &mut std::fmt::Formatter<'_>) -> std::fmt::Result {
+            let names = [("BAD_SURFACE", 0)];
+            waywire::typed::write_value(f, "Error", self.0, &names)
+        }
     }
 
     impl WlSubcompositor {
@@ -3864,12 +4111,19 @@ pub mod wl_subsurface {
     }
 
     /// A number that has no name here may come.
-    #[derive(Clone, Copy, Debug, PartialEq, Eq, Hash)]
+    #[derive(Clone, Copy, PartialEq, Eq, Hash)]
     pub struct Error(#[doc = "The number."] pub u32);
 
     impl Error {
         /// The value bad\_surface.
         pub const BAD_SURFACE: Error = Error(0);
+    }
+
+    impl std::fmt::Debug for Error {
+        fn fmt(&self, f: &mut std::fmt::Formatter<'_>) -> std::fmt::Result {
+            let names = [("BAD_SURFACE", 0)];
+            waywire::typed::write_value(f, "Error", self.0, &names)
+        }
     }
 
     impl WlSubsurface {
@@ -4047,12 +4301,19 @@ pub mod wl_shell {
     }
 
     /// A number that has no name here may come.
-    #[derive(Clone, Copy, Debug, PartialEq, Eq, Hash)]
+    #[derive(Clone, Copy, PartialEq, Eq, Hash)]
     pub struct Error(#[doc = "The number."] pub u32);
 
     impl Error {
         /// The value role.
         pub const ROLE: Error = Error(0);
+    }
+
+    impl std::fmt::Debug for Error {
+        fn fmt(&self, f: &mut std::fmt::Formatter<'_>) -> std::fmt::Result {
+            let names = [("ROLE", 0)];
+            waywire::typed::write_value(f, "Error", self.0, &names)
+        }
     }
 
     impl WlShell {
@@ -4199,7 +4460,7 @@ pub mod wl_shell_surface {
     }
 
     /// Bits that can be joined by `|`.
-    #[derive(Clone, Copy, Debug, PartialEq, Eq, Hash)]
+    #[derive(Clone, Copy, PartialEq, Eq, Hash)]
     pub struct Resize(#[doc = "The number."] pub u32);
 
     impl Resize {
@@ -4236,8 +4497,25 @@ pub mod wl_shell_surface {
         }
     }
 
+    impl std::fmt::Debug for Resize {
+        fn fmt(&self, f: &mut std::fmt::Formatter<'_>) -> std::fmt::Result {
+            let names = [
+                ("NONE", 0),
+                ("TOP", 1),
+                ("BOTTOM", 2),
+                ("LEFT", 4),
+                ("TOP_LEFT", 5),
+                ("BOTTOM_LEFT", 6),
+                ("RIGHT", 8),
+                ("TOP_RIGHT", 9),
+                ("BOTTOM_RIGHT", 10),
+            ];
+            waywire::typed::write_bits(f, "Resize", self.0, &names)
+        }
+    }
+
     /// Bits that can be joined by `|`.
-    #[derive(Clone, Copy, Debug, PartialEq, Eq, Hash)]
+    #[derive(Clone, Copy, PartialEq, Eq, Hash)]
     pub struct Transient(#[doc = "The number."] pub u32);
 
     impl Transient {
@@ -4258,8 +4536,15 @@ pub mod wl_shell_surface {
         }
     }
 
+    impl std::fmt::Debug for Transient {
+        fn fmt(&self, f: &mut std::fmt::Formatter<'_>) -> std::fmt::Result {
+            let names = [("INACTIVE", 1)];
+            waywire::typed::write_bits(f, "Transient", self.0, &names)
+        }
+    }
+
     /// A number that has no name here may come.
-    #[derive(Clone, Copy, Debug, PartialEq, Eq, Hash)]
+    #[derive(Clone, Copy, PartialEq, Eq, Hash)]
     pub struct FullscreenMethod(#[doc = "The number."] pub u32);
 
     impl FullscreenMethod {
@@ -4271,6 +4556,13 @@ pub mod wl_shell_surface {
         pub const DRIVER: FullscreenMethod = FullscreenMethod(2);
         /// The value fill.
         pub const FILL: FullscreenMethod = FullscreenMethod(3);
+    }
+
+    impl std::fmt::Debug for FullscreenMethod {
+        fn fmt(&self, f: &mut std::fmt::Formatter<'_>) -> std::fmt::Result {
+            let names = [("DEFAULT", 0), ("SCALE", 1), ("DRIVER", 2), ("FILL", 3)];
+            waywire::typed::write_value(f, "FullscreenMethod", self.0, &names)
+        }
     }
 
     impl WlShellSurface {

@@ -177,3 +177,31 @@ fn bits_are_joined() {
     assert_eq!(both, Capability(3));
     assert!(both.contains(Capability::KEYBOARD) && !both.contains(Capability::TOUCH));
 }
+
+#[test]
+fn values_are_printed_by_name() {
+    use wl_seat::Capability;
+    use wl_shell_surface::Resize;
+    use wl_shm::Format;
+    let printed = [
+        format!("{:?}", Format::ARGB8888),
+        format!("{:?}", Format(5)),
+        format!("{:?}", Capability::POINTER | Capability::TOUCH),
+        format!("{:?}", Capability::KEYBOARD | Capability(72)),
+        format!("{:?}", Capability(8)),
+        format!("{:?}", Capability(0)),
+        format!("{:?}", Resize::TOP | Resize::LEFT),
+        format!("{:?}", Resize::NONE),
+    ];
+    let wanted = [
+        "ARGB8888",
+        "Format(5)",
+        "POINTER | TOUCH",
+        "KEYBOARD | Capability(72)",
+        "Capability(8)",
+        "Capability(0)",
+        "TOP_LEFT",
+        "NONE",
+    ];
+    assert_eq!(printed, wanted);
+}
