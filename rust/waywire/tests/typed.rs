@@ -2,7 +2,8 @@
 //! messages of other interfaces. And what goes from end to end without a buffer between.
 
 use waywire::wayland::{
-    wl_compositor, wl_display, wl_output, wl_registry, wl_seat, wl_shm, wl_surface,
+    wl_compositor, wl_display, wl_output, wl_registry, wl_seat, wl_shell_surface, wl_shm,
+    wl_surface,
 };
 use waywire::{
     Amounts, Client, Connection, EventHandler, Handle, Incoming, Object, RequestHandler, Server,
