@@ -4,8 +4,8 @@ use crate::Amount;
 use crate::dice::Dice;
 use crate::digest::Digest;
 use crate::talking::{
-    Client, Server, Wire, carry, carry_events_by_bytes, carry_requests_by_bytes, make, read_events,
-    read_requests,
+    Client, Server, Wire, carry_events, carry_events_by_bytes, carry_requests,
+    carry_requests_by_bytes, make, read_events, read_requests,
 };
 use std::alloc::Global;
 use wl::{Arg, End, Fixed, Limit, Object, Sizes, Tables, event, request};
@@ -115,7 +115,17 @@ struct Player<'a> {
     replies: Vec<Reply>,
 }
 
-impl Player<'_> {
+impl<'a> Player<'a> {
+    fn new(alloc: Global, dice: Dice, digest: &'a mut Digest) -> Option<Player<'a>> {
+        Some(Player {
+            dice,
+            time: 0,
+            wire: Wire::new(alloc).ok()?,
+            digest,
+            replies: Vec::new(alloc),
+        })
+    }
+
     fn next_time(&mut self) -> u32 {
         self.time = self.time.wrapping_add(self.dice.between(1, 16));
         self.time
@@ -158,10 +168,10 @@ fn advertise(
         request::wl_display::GET_REGISTRY,
         &[Arg::New],
     )?;
-    carry(client, server, &mut play.wire, play.digest)?;
+    carry_requests(client, server, &mut play.wire, play.digest)?;
     read_requests(server, 1, play.digest)?;
     play.digest.number(server.announce().ok()? as u64);
-    carry(server, client, &mut play.wire, play.digest)?;
+    carry_events(server, client, &mut play.wire, play.digest)?;
     read_events(client, 100, play.digest)?;
     Some(registry)
 }
@@ -414,7 +424,7 @@ fn turns(
     if course.by_bytes {
         carry_requests_by_bytes(client, server, &mut play.wire, play.digest)?;
     } else {
-        carry(client, server, &mut play.wire, play.digest)?;
+        carry_requests(client, server, &mut play.wire, play.digest)?;
         read_requests(server, u32::MAX, play.digest)?;
     }
     for place in 0..play.replies.len() {
@@ -424,7 +434,7 @@ fn turns(
     if course.by_bytes {
         return carry_events_by_bytes(server, client, &mut play.wire, play.digest);
     }
-    carry(server, client, &mut play.wire, play.digest)?;
+    carry_events(server, client, &mut play.wire, play.digest)?;
     read_events(client, u32::MAX, play.digest)?;
     Some(())
 }
@@ -445,11 +455,11 @@ fn open_many(
             &[Arg::New],
         )?;
         if place % 1000 == 999 {
-            carry(client, server, &mut play.wire, play.digest)?;
+            carry_requests(client, server, &mut play.wire, play.digest)?;
             read_requests(server, u32::MAX, play.digest)?;
         }
     }
-    carry(client, server, &mut play.wire, play.digest)?;
+    carry_requests(client, server, &mut play.wire, play.digest)?;
     read_requests(server, u32::MAX, play.digest)?;
     Some(())
 }
@@ -464,9 +474,9 @@ fn late_turn(
 ) -> Option<()> {
     buffer(client, desk, play)?;
     title(client, desk, course, play)?;
-    carry(client, server, &mut play.wire, play.digest)?;
+    carry_requests(client, server, &mut play.wire, play.digest)?;
     motion(server, desk, play)?;
-    carry(server, client, &mut play.wire, play.digest)?;
+    carry_events(server, client, &mut play.wire, play.digest)?;
     read_events(client, u32::MAX, play.digest)?;
     Some(())
 }
@@ -523,21 +533,31 @@ fn play_course(
     amount: Amount,
     digest: &mut Digest,
 ) -> Option<()> {
-    let mut bytes = Vec::new(alloc);
-    bytes.resize(65_536, 0).ok()?;
-    let mut tokens = Vec::new(alloc);
-    tokens.resize(64, 0).ok()?;
-    let wire = Wire { bytes, tokens };
-    let mut play = Player {
-        dice: amount.dice(place),
-        time: 0,
-        wire,
-        digest,
-        replies: Vec::new(alloc),
-    };
+    let mut play = Player::new(alloc, amount.dice(place), digest)?;
+    play_with(alloc, tables, course, amount, &mut play)
+}
+
+fn play_with(
+    alloc: Global,
+    tables: &Tables,
+    course: Course,
+    amount: Amount,
+    play: &mut Player<'_>,
+) -> Option<()> {
     let mut client = Client::new(alloc, tables, SIZES).ok()?;
+    play_at(alloc, &mut client, tables, course, amount, play)
+}
+
+fn play_at(
+    alloc: Global,
+    client: &mut Client<'_>,
+    tables: &Tables,
+    course: Course,
+    amount: Amount,
+    play: &mut Player<'_>,
+) -> Option<()> {
     let mut server = Server::new(alloc, tables, SIZES).ok()?;
-    play_over(&mut client, &mut server, tables, course, amount, &mut play)
+    play_over(client, &mut server, tables, course, amount, play)
 }
 
 /// All courses.

@@ -1,5 +1,6 @@
 //! Two ends in one program: carrying, reading, and digesting what is read.
 use crate::digest::Digest;
+use std::alloc::{AllocError, Global};
 use wl::{Arg, Args, End, GotRef, Incoming, Named, Object, SlotTable};
 
 pub(crate) type Client<'t> = wl::Client<'t, SlotTable>;
@@ -11,6 +12,16 @@ pub(crate) type Server<'t> = wl::Server<'t, SlotTable>;
 pub(crate) struct Wire {
     pub bytes: Vec<u8>,
     pub tokens: Vec<u32>,
+}
+
+impl Wire {
+    /// Room for 65,536 bytes and 64 tokens.
+    pub(crate) fn new(alloc: Global) -> Result<Wire, AllocError> {
+        Ok(Wire {
+            bytes: vec![in alloc; 0u8; 65_536]?,
+            tokens: vec![in alloc; 0u32; 64]?,
+        })
+    }
 }
 
 fn add_object(digest: &mut Digest, object: Object) {
@@ -131,8 +142,28 @@ fn take<'a, F: End, T: End>(
     ))
 }
 
+/// Carries requests, as much as the server has room for.
+pub(crate) fn carry_requests(
+    client: &mut Client<'_>,
+    server: &mut Server<'_>,
+    wire: &mut Wire,
+    digest: &mut Digest,
+) -> Option<()> {
+    carry(client, server, wire, digest)
+}
+
+/// Carries events, as much as the client has room for.
+pub(crate) fn carry_events(
+    server: &mut Server<'_>,
+    client: &mut Client<'_>,
+    wire: &mut Wire,
+    digest: &mut Digest,
+) -> Option<()> {
+    carry(server, client, wire, digest)
+}
+
 /// Carries what waits at one end to the other, as much as that has room for.
-pub(crate) fn carry<F: End, T: End>(
+fn carry<F: End, T: End>(
     from: &mut F,
     to: &mut T,
     wire: &mut Wire,

@@ -6,13 +6,13 @@ use crate::model::{Model, Sights};
 use crate::replay::Props;
 use crate::runs::KINDS;
 use crate::tally::Tally;
-use std::alloc::AllocError;
+use std::alloc::{AllocError, Global};
 use std::fmt::Write;
 use test_allocator::RefusingAllocator;
 use test_player::{Actor, OUT_OF_MEMORY, Playable, Trouble, Words, own_verdict};
 use wl_client::Client;
 use wl_connection::End;
-use wl_message::{Limit, Sizes};
+use wl_message::{Limit, Sizes, Taken};
 use wl_objects::Table;
 use wl_server::Server;
 use wl_session::{Pair, Verdict};
@@ -79,6 +79,29 @@ impl MoveTallies {
     }
 }
 
+/// The replies to a move: of the pair, of the two ends, and of the model.
+#[derive(Drop)]
+struct Replies {
+    of_pair: String,
+    of_ends: String,
+    meant: String,
+}
+
+impl Replies {
+    fn new(alloc: Global) -> Replies {
+        Replies {
+            of_pair: String::new(alloc),
+            of_ends: String::new(alloc),
+            meant: String::new(alloc),
+        }
+    }
+
+    fn are_same(&self) -> bool {
+        let meant = self.meant.as_str();
+        self.of_pair.as_str() == meant && self.of_ends.as_str() == meant
+    }
+}
+
 /// Makes moves and judges them.
 #[derive(Drop)]
 pub struct Judge<'a> {
@@ -116,54 +139,72 @@ impl<'a> Judge<'a> {
         server: &mut Server<'_, T>,
         call: &str,
     ) -> Result<(), Trouble> {
-        let of_pair = self.reply_of_pair(pair, call)?;
-        let of_ends = self.reply_of_ends(client, server, call)?;
-        let meant = self.model.expect(call)?;
-        let is_told = of_pair.as_str() == meant.as_str() && of_ends.as_str() == meant.as_str();
-        let is_right = is_told && self.is_as_meant(pair) && self.are_as_meant(client, server);
-        self.tallies.count(call, &meant, is_right);
+        let mut replies = Replies::new(self.props.alloc);
+        self.make(pair, client, server, call, &mut replies)?;
+        let is_right = replies.are_same()
+            && self.is_as_meant(pair)
+            && self.are_as_meant(client, server);
+        self.tallies.count(call, &replies.meant, is_right);
         if pair.drained() {
             self.tallies.drained.count(false, pair.agree());
         }
         Ok(())
     }
 
-    /// The reply of the pair. If an allocation is refused, the reply must be out of memory and the
-    /// pair unchanged; then the move is made again with memory.
-    fn reply_of_pair<T: Table<Alloc = RefusingAllocator>>(
+    /// Makes a move at the pair, at the two ends and in the model, and appends the replies.
+    fn make<T: Table<Alloc = RefusingAllocator>>(
+        &mut self,
+        pair: &mut Pair<'_, T>,
+        client: &mut Client<'_, T>,
+        server: &mut Server<'_, T>,
+        call: &str,
+        replies: &mut Replies,
+    ) -> Result<(), Trouble> {
+        self.make_at_pair(pair, call, &mut replies.of_pair)?;
+        self.make_at_ends(client, server, call, &mut replies.of_ends)?;
+        self.model.expect(call, &mut replies.meant)
+    }
+
+    /// Makes a move at the pair. If an allocation is refused, the reply must be out of memory and
+    /// the pair unchanged; then the move is made again with memory.
+    fn make_at_pair<T: Table<Alloc = RefusingAllocator>>(
         &mut self,
         pair: &mut Pair<'_, T>,
         call: &str,
-    ) -> Result<String, Trouble> {
-        let mut reply = String::new(self.props.alloc);
+        reply: &mut String,
+    ) -> Result<(), Trouble> {
         self.refuse();
-        self.at_pair.run(pair, &self.granting, call, &mut reply)?;
-        if self.was_refused() {
+        for _ in 0..2 {
+            self.at_pair.run(pair, &self.granting, call, reply)?;
+            if !self.was_refused() {
+                break;
+            }
             let is_right = reply.as_str() == OUT_OF_MEMORY && self.is_as_meant(pair);
             self.tallies.refused.count(false, is_right);
             reply.clear();
-            self.at_pair.run(pair, &self.granting, call, &mut reply)?;
         }
-        Ok(reply)
+        Ok(())
     }
 
-    /// The same for the two ends.
-    fn reply_of_ends<T: Table<Alloc = RefusingAllocator>>(
+    /// The same at the two ends.
+    fn make_at_ends<T: Table<Alloc = RefusingAllocator>>(
         &mut self,
         client: &mut Client<'_, T>,
         server: &mut Server<'_, T>,
         call: &str,
-    ) -> Result<String, Trouble> {
-        let mut reply = String::new(self.props.alloc);
+        reply: &mut String,
+    ) -> Result<(), Trouble> {
         self.refuse();
-        self.act(client, server, call, &mut reply)?;
-        if self.was_refused() {
+        for _ in 0..2 {
+            self.act(client, server, call, reply)?;
+            if !self.was_refused() {
+                break;
+            }
             let is_right = reply.as_str() == OUT_OF_MEMORY && self.are_as_meant(client, server);
             self.tallies.refused.count(false, is_right);
             reply.clear();
-            self.act(client, server, call, &mut reply)?;
         }
-        Ok(reply)
+        Ok(())
     }
 
     /// Before one move in four, chooses one of the first four allocations to be refused.
@@ -182,10 +223,10 @@ impl<'a> Judge<'a> {
     }
 
     /// Makes a move at one of the two ends, or carries between them, and appends the reply.
-    fn act<T: Table<Alloc = RefusingAllocator>>(
+    fn act<C: Playable, S: Playable>(
         &mut self,
-        client: &mut Client<'_, T>,
-        server: &mut Server<'_, T>,
+        client: &mut C,
+        server: &mut S,
         call: &str,
         reply: &mut String,
     ) -> Result<(), Trouble> {
@@ -224,10 +265,7 @@ impl<'a> Judge<'a> {
         let room = to.in_room();
         let mut bytes = vec![in self.props.alloc; 0u8; most.min(room.bytes)]?;
         let mut tokens = vec![in self.props.alloc; 0u32; room.tokens]?;
-        let taken = from.take(&mut bytes, &mut tokens);
-        bytes.truncate(taken.bytes);
-        tokens.truncate(taken.tokens);
-        to.feed(&bytes, &tokens);
+        let taken = hand_over(from, to, &mut bytes, &mut tokens);
         Ok(write!(reply, "{} bytes, {} tokens", taken.bytes, taken.tokens)?)
     }
 
@@ -257,6 +295,20 @@ impl<'a> Judge<'a> {
         self.tallies.sights = self.model.sights;
         Ok(())
     }
+}
+
+/// Moves what waits at one end to the other, as much as these slices hold.
+fn hand_over<W: End, R: End>(
+    from: &mut W,
+    to: &mut R,
+    bytes: &mut [u8],
+    tokens: &mut [u32],
+) -> Taken {
+    let taken = from.take(bytes, tokens);
+    if let (Some(bytes), Some(tokens)) = (bytes.get(..taken.bytes), tokens.get(..taken.tokens)) {
+        to.feed(bytes, tokens);
+    }
+    taken
 }
 
 /// Whether a move was refused, or carried, read or wrote nothing.

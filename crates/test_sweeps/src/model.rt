@@ -94,24 +94,22 @@ impl<'a> Model<'a> {
         })
     }
 
-    /// Makes a move, given in the words of a scene. Returns its reply.
-    pub fn expect(&mut self, call: &str) -> Result<String, Trouble> {
-        let mut text = String::new(self.alloc);
+    /// Makes a move, given in the words of a scene. Appends its reply.
+    pub fn expect(&mut self, call: &str, text: &mut String) -> Result<(), Trouble> {
         let mut words = Words::of(call);
         match words.word()? {
-            "request" => self.send(Side::Request, &mut words, &mut text)?,
-            "event" => self.send(Side::Event, &mut words, &mut text)?,
-            "bind" => self.bind(&mut words, &mut text)?,
-            "drop" => self.drop_object(words.object()?, &mut text)?,
-            "global" => self.add_global(&mut words, &mut text)?,
-            "announce" => self.announce(&mut text)?,
-            "to-server" => self.carry(Side::Request, words.size()?, &mut text)?,
-            "to-client" => self.carry(Side::Event, words.size()?, &mut text)?,
-            "client-next" => self.client_next(&mut text)?,
-            "server-next" => self.server_next(&mut text)?,
-            _ => return Err(Trouble::Unreadable),
+            "request" => self.send(Side::Request, &mut words, text),
+            "event" => self.send(Side::Event, &mut words, text),
+            "bind" => self.bind(&mut words, text),
+            "drop" => Ok(self.drop_object(words.object()?, text)?),
+            "global" => self.add_global(&mut words, text),
+            "announce" => Ok(self.announce(text)?),
+            "to-server" => Ok(self.carry(Side::Request, words.size()?, text)?),
+            "to-client" => Ok(self.carry(Side::Event, words.size()?, text)?),
+            "client-next" => Ok(self.client_next(text)?),
+            "server-next" => Ok(self.server_next(text)?),
+            _ => Err(Trouble::Unreadable),
         }
-        Ok(text)
     }
 
     /// Whether nothing waits at either end.

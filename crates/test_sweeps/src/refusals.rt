@@ -89,13 +89,27 @@ fn is_read<R: Drop>(read: Result<R, RecordingError>) -> Result<bool, Trouble> {
 /// What a call returns, as text.
 fn answer(props: Props<'_>, sample: &Sample<'_>, call: Call) -> Result<String, Trouble> {
     let mut text = String::new(props.alloc);
-    match call {
-        Call::Parse => put_text(&Sample::of(props.memory, sample.text)?, &mut text)?,
-        Call::ToText => put_text(sample, &mut text)?,
-        Call::Check => put_verdict(props, sample, &mut text)?,
-        Call::Trace => put_trace(props, sample, &mut text)?,
-    }
+    put_answer(props, sample, call, &mut text)?;
     Ok(text)
+}
+
+fn put_answer(
+    props: Props<'_>,
+    sample: &Sample<'_>,
+    call: Call,
+    text: &mut String,
+) -> Result<(), Trouble> {
+    match call {
+        Call::Parse => put_parsed(props, sample.text, text),
+        Call::ToText => Ok(put_text(sample, text)?),
+        Call::Check => Ok(put_verdict(props, sample, text)?),
+        Call::Trace => Ok(put_trace(props, sample, text)?),
+    }
+}
+
+fn put_parsed(props: Props<'_>, recording: &str, text: &mut String) -> Result<(), Trouble> {
+    let sample = Sample::of(props.memory, recording)?;
+    Ok(put_text(&sample, text)?)
 }
 
 fn put_text(sample: &Sample<'_>, text: &mut String) -> Result<(), AllocError> {

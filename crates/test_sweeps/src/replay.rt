@@ -147,11 +147,21 @@ fn play_both_ways(
 ) -> Result<(), Trouble> {
     let mut whole = Outcome::new(props.alloc);
     let mut alone = Outcome::new(props.alloc);
-    play_at::<Objects>(props, session, stream, Cut::Whole, &mut whole)?;
-    play_at::<Objects>(props, session, stream, Cut::Bytewise, &mut alone)?;
+    play_ways(props, session, stream, &mut whole, &mut alone)?;
     let is_right = is_same(&whole, &alone) && whole.is_right && alone.is_right;
     tally.count(whole.fault.is_some(), is_right);
     Ok(())
+}
+
+fn play_ways(
+    props: Props<'_>,
+    session: Session<'_>,
+    stream: &[u8],
+    whole: &mut Outcome,
+    alone: &mut Outcome,
+) -> Result<(), Trouble> {
+    play_at::<Objects>(props, session, stream, Cut::Whole, whole)?;
+    play_at::<Objects>(props, session, stream, Cut::Bytewise, alone)
 }
 
 fn is_same(one: &Outcome, other: &Outcome) -> bool {
@@ -195,12 +205,22 @@ fn at_end<T: Table<Alloc = Global>, E: Playable<Table = T> + Drop>(
         actor: Actor::new(props.alloc, props.tables)?,
         reports: Vec::new(props.alloc),
     };
-    replay.feed_tokens(session.tokens)?;
-    replay.play(session.steps, stream, cut, outcome)?;
-    replay.finish(outcome)
+    replay.play_session(session, stream, cut, outcome)
 }
 
 impl<'a, E: Playable + Drop> Replay<'a, E> {
+    fn play_session(
+        &mut self,
+        session: Session<'_>,
+        stream: &[u8],
+        cut: Cut,
+        outcome: &mut Outcome,
+    ) -> Result<(), Trouble> {
+        self.feed_tokens(session.tokens)?;
+        self.play(session.steps, stream, cut, outcome)?;
+        self.finish(outcome)
+    }
+
     /// Feeds tokens, numbered from 1.
     fn feed_tokens(&mut self, count: u32) -> Result<(), AllocError> {
         let mut tokens = Vec::new(self.props.alloc);
@@ -248,10 +268,9 @@ impl<'a, E: Playable + Drop> Replay<'a, E> {
 
     /// Reads bytes, and appends what was read, and why it stopped.
     fn read(&mut self, bytes: &[u8], cut: Cut, outcome: &mut Outcome) -> Result<(), Trouble> {
-        let pieces = pieces_of(self.props.alloc, bytes, cut)?;
-        let end = read_all(&mut self.end, &pieces, &mut self.reports);
+        let stop = self.read_pieces(bytes, cut)?;
         self.write_reports(outcome)?;
-        let Some(why) = end.stop else {
+        let Some(why) = stop else {
             return Ok(());
         };
         write_stop(&mut outcome.text, why)?;
@@ -261,6 +280,12 @@ impl<'a, E: Playable + Drop> Replay<'a, E> {
             outcome.is_right = self.has_failed();
         }
         Ok(())
+    }
+
+    /// Reads bytes into the reports. Returns why it stopped.
+    fn read_pieces(&mut self, bytes: &[u8], cut: Cut) -> Result<Option<NextError>, AllocError> {
+        let pieces = pieces_of(self.props.alloc, bytes, cut)?;
+        Ok(read_all(&mut self.end, &pieces, &mut self.reports).stop)
     }
 
     /// Appends the reports that wait, one a line.
