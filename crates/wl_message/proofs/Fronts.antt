@@ -1,10 +1,11 @@
 -- The front of a queue.
 use Rattle.std.proofs.Common.{◌≡◌, ℕ, ◌+◌, ◌-◌, ◌<◌, ◌≤◌, Bool, true, false, cond, List, [], ◌++◌}
 use Rattle.std.proofs.Common.{length, take, drop, refl, sym, ap, subst, ◌∙◌, arith}
-use Rattle.std.proofs.Common.{ltb}
+use Rattle.std.proofs.Common.{ltb, min}
 use Rattle.std.proofs.lemmas.Bool.Decides.{nat_tests}
-use Rattle.std.proofs.lemmas.List.{append-nil, take-append-le, length-append, length-take, length-take-le, drop_all}
+use Rattle.std.proofs.lemmas.List.{append-nil, take-append-le, length-append, length-take, length-take-le, drop_all, take_all}
 use Rattle.std.proofs.Math.Seq.{take-add, take-append-add}
+use Rattle.circular_buffer.specs.Buffer.{keep_last}
 use Rattle.wl_wire.specs.Word.{header_bytes}
 use Rattle.wl_wire.specs.declared.header.Header.{Header}
 use Rattle.wl_message.specs.Arrived.{HasParts}
@@ -103,3 +104,12 @@ front_past_first a b c n e h =
 -- the length of a prefix in two parts
 pub parts_len : {X : Type 0} (a b c : List X) (n : ℕ) → a ++ b ≡ take n c → n ≤ length c → length a + length b ≡ n
 parts_len a b c n e h = sym (length-append a b) ∙ ap length e ∙ length-take-le n c h
+
+-- to keep the last items is to drop the others
+pub keep_rest : {X : Type 0} (xs : List X) (n k : ℕ) → k ≡ length xs - n → n ≤ length xs
+    → keep_last k xs ≡ drop n xs
+keep_rest xs n k e h = let same : length xs - k ≡ n = omega (arith, e, h) in ap (λ (m : ℕ). drop m xs) same
+
+-- what there is room for is taken whole
+pub all_fits : {X : Type 0} (xs : List X) (n room : ℕ) → n ≡ min (length xs) room → length xs ≤ room → take n xs ≡ xs
+all_fits xs n room e h = take_all n xs (omega (arith, e, h))

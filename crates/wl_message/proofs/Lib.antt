@@ -8,3 +8,4 @@ pub mod FlushedParts
 pub mod Limits
 pub mod Waiting
 pub mod Peeked
+pub mod Judged

@@ -89,13 +89,6 @@ pub record IsCopy (n : ℕ) (bytes store : List ℕ) : Type 0 where
   pub told : n ≡ told_size bytes
   pub same : take n store ≡ take n bytes
 
--- The result for the first message: its header, a bad size, or nothing if more bytes are needed.
-abbrev pub TellsHeader : ℕ → List ℕ → Result (Option Header) BadSize → Type 0
-TellsHeader limit bytes (Ok None) = front limit bytes ≡ More
-TellsHeader limit bytes (Ok (Some h)) =
-    (front limit bytes ≡ Whole h.size) × (take 8 bytes ≡ header_bytes h)
-TellsHeader limit bytes (Err e) = front limit bytes ≡ Bad e.size
-
 -- the header and as many bytes as it says are there
 pub record HasParts (bytes : List ℕ) (h : Header) : Type 0 where
   pub header : 8 ≤ h.size

@@ -3,10 +3,9 @@ ghost use Rattle.std.specs.Prelude.{◌≡◌, ◌≤◌, ◌<◌, ◌%◌, ◌^
 ghost use Rattle.std.specs.Prelude.{IfOk};
 ghost use Rattle.circular_buffer.specs.Buffer.{buffer};
 ghost use Rattle.wl_message.specs.Bounds.{max_queue_tokens};
-ghost use Rattle.wl_message.specs.Boundaries.{boundary_in_word, reach};
+ghost use Rattle.wl_message.specs.Boundaries.{reach};
 
 use crate::amounts::Taken;
-use crate::queue::remove_first;
 use circular_buffer::HeapCircularBuffer;
 use std::alloc::{AllocError, Allocator};
 use std::marker::Model;
@@ -41,16 +40,6 @@ pub(crate) struct Leaving {
     pub begun: usize,
     /// How many bytes are then left of the message begun last.
     pub left: usize,
-}
-
-/// The boundary in a word.
-fn boundary_in_word(word: u32) -> Boundary
-    ensures { result ≡ boundary_in_word word }
-{
-    Boundary {
-        len: 4 * (word / TOKENS_END) as usize,
-        tokens: (word % TOKENS_END) as usize,
-    }
 }
 
 /// Boundaries in a ring, four bytes each.
@@ -99,7 +88,7 @@ impl<A: Allocator> Boundaries<A> {
         requires { n ≤ length self.old.items }
         ensures { self.new ≡ buffer (drop n self.old.items) self.old.capacity }
     {
-        remove_first(&mut self.words, n);
+        self.words.truncate_front(self.words.len() - n);
     }
 
     /// How far the messages, none of them begun, reach into a room. The tokens of a message go with
@@ -115,7 +104,8 @@ impl<A: Allocator> Boundaries<A> {
             left: 0,
         };
         'messages: for word in self.words.iter() {
-            let Boundary { len, tokens } = boundary_in_word(*word);
+            let len = 4 * (word / TOKENS_END) as usize;
+            let tokens = (word % TOKENS_END) as usize;
             if reach.bytes == 0 {
                 return reach;
             }

@@ -13,9 +13,9 @@ ghost use Rattle.wl_message.specs.Streams.{TakesIn};
 ghost use Rattle.wl_message.specs.contracts.inbox.Inbox.{the_row};
 
 use crate::amounts::Fed;
-use crate::header::{copy_message, header_in_front};
+use crate::header::{copy_message, header_in};
 use crate::limit::Limit;
-use crate::queue::{append, copy_into, fill, move_first, move_to_store, remove_first};
+use crate::queue::{copy_into, move_first, move_front};
 use circular_buffer::HeapCircularBuffer;
 use std::alloc::{AllocError, Allocator, Global};
 use std::error::Error;
@@ -161,14 +161,14 @@ impl<A: Allocator> Inbox<A> {
         ensures waits { self.new
             ≡ with_more self.old (take result.bytes bytes.now) (take result.tokens tokens.now) }
     {
-        let token_count = fill(&mut self.tokens, tokens);
+        let token_count = self.tokens.fill_from_slice(tokens);
         let bytes = if token_count < tokens.len() {
             &bytes[..0]
         } else {
             bytes
         };
         self.copied_len = 0;
-        let byte_count = fill(&mut self.bytes, bytes);
+        let byte_count = self.bytes.fill_from_slice(bytes);
         Fed {
             bytes: byte_count,
             tokens: token_count,
@@ -192,11 +192,11 @@ impl<A: Allocator> Inbox<A> {
         ensures amount { result ≡ fed_of_len self.old bytes tokens.now }
         ensures waits { HasReceived self.old result.bytes (take result.tokens tokens.now) self.new }
     {
-        let token_count = fill(&mut self.tokens, tokens);
+        let token_count = self.tokens.fill_from_slice(tokens);
         let bytes = if token_count < tokens.len() { 0 } else { bytes };
         self.copied_len = 0;
         let byte_count = bytes.min(self.bytes.capacity() - self.bytes.len());
-        append(&mut self.bytes, &self.space[..byte_count]);
+        self.bytes.fill_from_slice(&self.space[..byte_count]);
         Fed {
             bytes: byte_count,
             tokens: token_count,
@@ -204,6 +204,7 @@ impl<A: Allocator> Inbox<A> {
     }
 
     /// Reads once, at most 4096 bytes and at most as many as are free, and takes in what was read.
+    #[tactic(auto, using(std::proofs::lemmas::List::take_all))]
     pub(crate) fn read_from<R: Read>(&mut self, reader: &mut R) -> io::Result<usize>
         requires { 0 < free_bytes self.old }
         ensures ok { IfOk result
@@ -215,13 +216,14 @@ impl<A: Allocator> Inbox<A> {
         self.copied_len = 0;
         let mut read = [0; MAX_READ_LEN];
         let n = reader.read(&mut read[..most])?;
-        append(&mut self.bytes, &read[..n]);
+        self.bytes.fill_from_slice(&read[..n]);
         Ok(n)
     }
 
     /// The first message if it is whole. It stays in the inbox.
     ///
     /// Returns `BadSize` as soon as the 8 bytes of the header are there.
+    #[tactic(auto, using(crate::proofs::Judged::judged), unfolding(crate::specs::Cut::front))]
     #[inline(always)]
     pub fn frame(&mut self) -> Result<Option<Frame<'_>>, BadSize>
         ensures* stays { sem 𝓛 (Rests (the_row A.row A.Allocator) self.entry (λ i. i ≡ self.old)) }
@@ -229,11 +231,17 @@ impl<A: Allocator> Inbox<A> {
     {
         let tokens = self.tokens.len();
         self.copied_len = 0;
-        let header = match header_in_front(&self.bytes, self.limit)? {
-            Some(header) => header,
-            None => return Ok(None),
-        };
+        if self.bytes.len() < HEADER_LEN {
+            return Ok(None);
+        }
+        let header = header_in(&self.bytes);
+        if !self.limit.allows(header.size) {
+            return Err(BadSize { size: header.size });
+        }
         let size = header.size as usize;
+        if self.bytes.len() < size {
+            return Ok(None);
+        }
         copy_into(&self.bytes, &mut self.message, size);
         self.copied_len = size;
         Ok(Some(Frame {
@@ -290,8 +298,11 @@ impl<A: Allocator> Inbox<A> {
     {
         let size = copy_message(&self.bytes, &mut self.message, self.copied_len);
         self.copied_len = 0;
-        move_to_store(&mut self.tokens, &mut self.last_tokens, tokens);
-        remove_first(&mut self.bytes, size);
+        self.last_tokens.clear();
+        if tokens > 0 {
+            move_front(&mut self.tokens, &mut self.last_tokens, tokens);
+        }
+        self.bytes.truncate_front(self.bytes.len() - size);
         self.last_len = size;
         mem::swap(&mut self.message, &mut self.last);
     }

@@ -2,8 +2,7 @@
 ghost use Rattle.std.specs.Prelude.{◌≡◌, ◌↔◌, IsSome, IfSome, IsTrue};
 ghost use Rattle.wl_message.specs.Cut.{IsLimit, IsMessage, is_size};
 
-use crate::header::header_of;
-use wl_wire::{HEADER_LEN, MAX_MESSAGE_LEN};
+use wl_wire::{HEADER_LEN, Header, MAX_MESSAGE_LEN};
 
 /// The greatest limit in bytes, a multiple of 4.
 const GREATEST_LIMIT: u32 = 65_532;
@@ -51,7 +50,7 @@ impl Limit {
         if bytes.len() < HEADER_LEN {
             return false;
         }
-        let size = header_of(bytes).size;
+        let size = Header::at_front_of(bytes).size;
         self.allows(size) && usize::from(size) == bytes.len()
     }
 }

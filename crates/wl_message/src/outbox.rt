@@ -13,7 +13,7 @@ ghost use Rattle.wl_message.specs.Streams.{NextHasTokens};
 use crate::amounts::{Full, Peek, Taken};
 use crate::boundaries::{Boundaries, Boundary, Leaving};
 use crate::limit::Limit;
-use crate::queue::{append, append_encoded, copy_into, first_in_parts, first_part, remove_first};
+use crate::queue::{copy_first, first_in_parts, first_part};
 use circular_buffer::HeapCircularBuffer;
 use std::alloc::{AllocError, Allocator, Global};
 use std::marker::Model;
@@ -173,8 +173,8 @@ impl<A: Allocator> Outbox<A> {
             tokens: tokens.len(),
         };
         self.boundaries.push(boundary);
-        append(&mut self.bytes, message);
-        append(&mut self.tokens, tokens);
+        self.bytes.fill_from_slice(message);
+        self.tokens.fill_from_slice(tokens);
     }
 
     /// As `push_fitting`, for a message that is first written to the front of `store`.
@@ -188,13 +188,9 @@ impl<A: Allocator> Outbox<A> {
         ensures outbox { self.new ≡ with_message self.old (E.message message.now) tokens.now }
         ensures store { length store.new ≡ length store.old }
     {
-        let boundary = Boundary {
-            len: message.encoded_len(),
-            tokens: tokens.len(),
-        };
-        self.boundaries.push(boundary);
-        append_encoded(&mut self.bytes, message, store);
-        append(&mut self.tokens, tokens);
+        let len = message.encoded_len();
+        message.encode(&mut store[..len]);
+        self.push_fitting(&store[..len], tokens);
     }
 
     /// Appends the error event, a whole message of at most 64 bytes without tokens. It always fits.
@@ -213,7 +209,7 @@ impl<A: Allocator> Outbox<A> {
             tokens: 0,
         };
         self.boundaries.push(boundary);
-        append(&mut self.bytes, message);
+        self.bytes.fill_from_slice(message);
     }
 
     /// As `push_error`, for an event that is first written to the front of `store`.
@@ -227,11 +223,8 @@ impl<A: Allocator> Outbox<A> {
         ensures store { length store.new ≡ length store.old }
     {
         let len = message.encoded_len();
-        self.has_error = true;
-        self.error_from = self.bytes.len();
-        self.error_to = self.error_from + len;
-        self.boundaries.push(Boundary { len, tokens: 0 });
-        append_encoded(&mut self.bytes, message, store);
+        message.encode(&mut store[..len]);
+        self.push_error(&store[..len]);
     }
 
     /// What goes into a room for this many bytes and tokens.
@@ -259,8 +252,8 @@ impl<A: Allocator> Outbox<A> {
         ensures rest { self.new ≡ after_taking self.old leaving.taken.bytes }
     {
         let Leaving { taken, begun, left } = leaving;
-        remove_first(&mut self.bytes, taken.bytes);
-        remove_first(&mut self.tokens, taken.tokens);
+        self.bytes.truncate_front(self.bytes.len() - taken.bytes);
+        self.tokens.truncate_front(self.tokens.len() - taken.tokens);
         self.boundaries.remove_first(begun);
         self.left = left;
         self.error_from = self.error_from.saturating_sub(taken.bytes);
@@ -292,8 +285,8 @@ impl<A: Allocator> Outbox<A> {
         ensures rest { self.new ≡ after_taking self.old result.bytes }
     {
         let leaving = self.leaving(bytes.len(), tokens.len());
-        copy_into(&self.bytes, bytes, leaving.taken.bytes);
-        copy_into(&self.tokens, tokens, leaving.taken.tokens);
+        copy_first(&self.bytes, &mut bytes[..leaving.taken.bytes]);
+        copy_first(&self.tokens, &mut tokens[..leaving.taken.tokens]);
         self.remove(leaving)
     }
 
@@ -311,7 +304,7 @@ impl<A: Allocator> Outbox<A> {
             → (waiting_bytes self.new ≡ []) × (waiting_tokens self.new ≡ []) }
     {
         let leaving = self.leaving(self.bytes.len(), tokens.len());
-        copy_into(&self.tokens, tokens, leaving.taken.tokens);
+        copy_first(&self.tokens, &mut tokens[..leaving.taken.tokens]);
         self.remove(leaving)
     }
 

@@ -1,53 +1,10 @@
 //! Queues of bytes, tokens and boundaries: rings of the crate `circular_buffer`.
-ghost use Rattle.std.specs.Prelude.{◌≡◌, ◌≤◌, ◌<◌, ◌+◌, ◌-◌, ◌++◌, length, take, drop, min};
+ghost use Rattle.std.specs.Prelude.{◌≡◌, ◌≤◌, ◌<◌, ◌+◌, ◌++◌, length, take, drop};
 ghost use Rattle.std.specs.Prelude.{vec_len, vec_capacity};
 ghost use Rattle.circular_buffer.specs.Buffer.{buffer};
 
 use circular_buffer::HeapCircularBuffer;
 use std::alloc::Allocator;
-use wl_wire::Encode;
-
-/// Appends items; there must be room for them.
-#[tactic(auto, using(std::proofs::lemmas::List::take_all))]
-pub(crate) fn append<T: Copy + Drop, A: Allocator>(ring: &mut HeapCircularBuffer<T, A>, more: &[T])
-    requires { length ring.old.items + length more.now ≤ ring.old.capacity }
-    ensures { ring.new ≡ buffer (ring.old.items ++ more.now) ring.old.capacity }
-{
-    ring.fill_from_slice(more);
-}
-
-/// Appends as many of these items as fit, from the first on, and returns how many.
-pub(crate) fn fill<T: Copy + Drop, A: Allocator>(
-    ring: &mut HeapCircularBuffer<T, A>,
-    more: &[T],
-) -> usize
-    ensures count { result ≡ min (length more.now) (ring.old.capacity - length ring.old.items) }
-    ensures ring { ring.new ≡ buffer (ring.old.items ++ take result more.now) ring.old.capacity }
-{
-    if more.is_empty() {
-        return 0;
-    }
-    ring.fill_from_slice(more)
-}
-
-/// Appends a message, for which there must be room. It is first written to the front of `store`.
-#[inline(always)]
-pub(crate) fn append_encoded<E: Encode, A: Allocator>(
-    ring: &mut HeapCircularBuffer<u8, A>,
-    message: &E,
-    store: &mut [u8],
-)
-    requires fits { E.fits message.now }
-    requires room { length ring.old.items + length (E.message message.now) ≤ ring.old.capacity }
-    requires store { length (E.message message.now) ≤ length store.old }
-    ensures ring { ring.new
-        ≡ buffer (ring.old.items ++ E.message message.now) ring.old.capacity }
-    ensures store { length store.new ≡ length store.old }
-{
-    let len = message.encoded_len();
-    message.encode(&mut store[..len]);
-    append(ring, &store[..len]);
-}
 
 /// Some of the first items, at most `most`; empty only if there are none.
 pub(crate) fn first_part<T, A: Allocator>(ring: &HeapCircularBuffer<T, A>, most: usize) -> &[T]
@@ -120,18 +77,6 @@ pub(crate) fn copy_into<T: Copy, A: Allocator>(
     copy_first(ring, &mut to[..n]);
 }
 
-/// Removes the first n items.
-pub(crate) fn remove_first<T: Copy + Drop, A: Allocator>(
-    ring: &mut HeapCircularBuffer<T, A>,
-    n: usize,
-)
-    requires { n ≤ length ring.old.items }
-    ensures { ring.new ≡ buffer (drop n ring.old.items) ring.old.capacity }
-{
-    let left = ring.len() - n;
-    ring.truncate_front(left);
-}
-
 /// Moves the first n items to the front of a slice.
 pub(crate) fn move_first<T: Copy + Drop, A: Allocator>(
     ring: &mut HeapCircularBuffer<T, A>,
@@ -148,29 +93,8 @@ pub(crate) fn move_first<T: Copy + Drop, A: Allocator>(
     }
 }
 
-/// Moves the first n items into a store, replacing its contents. If n is 0, as it is for the tokens
-/// of most messages, only the store is cleared.
-#[inline(always)]
-pub(crate) fn move_to_store<T: Copy + Drop, A: Allocator>(
-    ring: &mut HeapCircularBuffer<T, A>,
-    to: &mut Vec<T, A>,
-    n: usize,
-)
-    requires waiting { n ≤ length ring.old.items }
-    requires room { ring.old.capacity ≤ vec_capacity to.old }
-    ensures ring { ring.new ≡ buffer (drop n ring.old.items) ring.old.capacity }
-    ensures items { to.new.items ≡ take n ring.old.items }
-    ensures capacity { vec_capacity to.old ≤ vec_capacity to.new }
-{
-    if n == 0 {
-        to.clear();
-        return;
-    }
-    move_front(ring, to, n);
-}
-
-/// Moves the first n items into a store, as `move_to_store` does.
-fn move_front<T: Copy + Drop, A: Allocator>(
+/// Moves the first n items into a store, replacing its contents.
+pub(crate) fn move_front<T: Copy + Drop, A: Allocator>(
     ring: &mut HeapCircularBuffer<T, A>,
     to: &mut Vec<T, A>,
     n: usize,

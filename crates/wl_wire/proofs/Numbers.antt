@@ -1,11 +1,12 @@
 -- Words and their numbers.
 use Rattle.std.proofs.Common.{◌≡◌, ℕ, ◌+◌, ◌-◌, ◌*◌, ◌/◌, ◌%◌, ◌^◌, ◌<◌, ◌≤◌, List, [], ◌∷◌, ◌++◌}
-use Rattle.std.proofs.Common.{length, take, drop, refl, sym, ap, ◌∙◌, arith, get_or, Fits, w8}
+use Rattle.std.proofs.Common.{length, take, drop, refl, sym, ap, subst, ◌∙◌, arith, get_or, Fits, w8}
 use Rattle.std.specs.Prelude.{FitsSigned, ℤ, pos, negsuc, nat_lt}
 use Rattle.std.specs.List.{All}
 use Rattle.std.specs.Int.{w32}
 use Rattle.std.proofs.lemmas.Bool.{lt-ltb, le-ltb, ltb-true, ltb-false, cond_both}
-use Rattle.std.proofs.lemmas.List.{take-append-drop, get_or_default}
+use Rattle.std.proofs.lemmas.List.{take-append-drop, get_or_default, get_or-drop}
+use Rattle.byteorder.specs.Endian.{little_number}
 use Rattle.wl_wire.specs.Word.{word, int_word, complement}
 use Rattle.wl_wire.specs.Reading.{number_at, signed}
 
@@ -17,6 +18,15 @@ Bytewise bytes = All (λ b. b < 256) bytes
 pub bytewise_from : (bytes : List ℕ) → ((i : ℕ) → Fits w8 (get_or bytes i 0)) → Bytewise bytes
 bytewise_from bytes f k d h = let e : get_or bytes k d ≡ get_or bytes k 0 = get_or_default bytes k d 0 h in let g = f k
     in omega (arith, g, e)
+
+-- so is each element of what is behind the first n
+pub bytes_behind : (n : ℕ) (bytes : List ℕ) → ((i : ℕ) → Fits w8 (get_or bytes i 0))
+    → (i : ℕ) → Fits w8 (get_or (drop n bytes) i 0)
+bytes_behind n bytes f i = subst (Fits w8) (sym (get_or-drop n bytes i 0)) (f (n + i))
+
+-- `LittleEndian` reads the number in the first four bytes
+pub number-read : (bytes : List ℕ) → ((i : ℕ) → Fits w8 (get_or bytes i 0)) → little_number 4 bytes ≡ number_at bytes
+number-read bytes f = let a = f 0 in let b = f 1 in let c = f 2 in let d = f 3 in omega (arith, a, b, c, d)
 
 pub number_at_fits : (bytes : List ℕ) → number_at bytes < 2 ^ 32
 number_at_fits bytes = omega arith

@@ -1,9 +1,10 @@
 -- Values written over the front of bytes.
 use Rattle.std.proofs.Common.{◌≡◌, ℕ, zero, suc, ◌+◌, ◌-◌, ◌≤◌, List, ◌++◌, length, take, drop, refl, sym, ap, ◌∙◌}
-use Rattle.std.proofs.Common.{arith, append_assoc}
+use Rattle.std.proofs.Common.{arith, rules, append_assoc}
 use Rattle.std.proofs.lemmas.List.{append-nil, length-append, drop_all, drop-drop, drop-append-le}
 use Rattle.std.proofs.lemmas.List.{length-drop, length-take-le, take_at, drop_at}
 use Rattle.std.proofs.Math.Seq.{drop-append-add}
+use Rattle.byteorder.specs.Endian.{little_bytes}
 use borrow.Rule.Slice.PartMut.{put_mid}
 use Rattle.wl_wire.specs.Spelling.{padded, zeros}
 use Rattle.wl_wire.specs.Word.{word}
@@ -21,6 +22,15 @@ pub over-rest : {X : Type 0} (a k : ℕ) (out v : List X) → a ≤ length out �
 over-rest a k out v low size =
     ap (λ l. take a out ++ (v ++ l)) (drop_all k (drop a out) (omega (arith, length-drop a out)))
     ∙ ap (λ l. take a out ++ l) (append-nil v)
+
+-- a number's word, as `LittleEndian` writes it
+pub word-written : (n : ℕ) → little_bytes 4 n ≡ word n
+word-written n = search rules
+
+-- a number written over the front of what was there
+pub over-word : (n : ℕ) (old new there : List ℕ) → new ≡ little_bytes 4 n ++ drop 4 old → old ≡ there
+    → new ≡ word n ++ drop 4 there
+over-word n old new there e is = e ∙ (λ i. word-written n i ++ drop 4 (is i))
 
 -- a length, bytes and padding, written in this order: the last word, the length, the bytes
 pub over-padded : (out bytes v u y : List ℕ) (len e k : ℕ) → e ≡ 4 + padded len → e ≤ length out → length bytes ≤ len

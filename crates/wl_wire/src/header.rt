@@ -1,5 +1,5 @@
 //! The two words before a message's arguments.
-ghost use Rattle.std.specs.Prelude.{◌≡◌, ◌≤◌, length, take};
+ghost use Rattle.std.specs.Prelude.{◌≡◌, ◌≤◌, ◌++◌, length, take, drop};
 
 use byteorder::{ByteOrder, LittleEndian};
 
@@ -29,10 +29,18 @@ impl Header {
         ensures { result ≡ header_bytes self }
     {
         let mut bytes = [0; HEADER_LEN];
-        LittleEndian::write_u32(&mut bytes[..4], self.object);
-        LittleEndian::write_u16(&mut bytes[4..6], self.opcode);
-        LittleEndian::write_u16(&mut bytes[6..], self.size);
+        self.write(&mut bytes);
         bytes
+    }
+
+    /// Writes the header's two words over the first eight bytes.
+    pub fn write(self, out: &mut [u8])
+        requires { 8 ≤ length out.old }
+        ensures { out.new ≡ header_bytes self ++ drop 8 out.old }
+    {
+        LittleEndian::write_u32(out, self.object);
+        LittleEndian::write_u16(&mut out[4..], self.opcode);
+        LittleEndian::write_u16(&mut out[6..], self.size);
     }
 
     /// The header in these bytes. Any eight bytes are a header.

@@ -13,7 +13,8 @@ use crate::fixed::Fixed;
 use crate::kind::{ArgFault, Kind};
 use crate::text::has_nul;
 use crate::value::ValueRef;
-use crate::word::{int_at, padded_len, word_at};
+use crate::word::padded_len;
+use byteorder::{ByteOrder, LittleEndian};
 
 /// Reads the argument of this kind at the front of the bytes; returns it with the length of its
 /// spelling. What follows it is not looked at, and padding bytes may have any value.
@@ -29,13 +30,6 @@ pub fn read_ref<'a>(kind: Kind, bytes: &'a [u8]) -> Result<(ValueRef<'a>, usize)
     ensures fault { IfErr result (IsFirstFault kind bytes.now) }
     ensures computes { seen result ≡ reading kind bytes.now }
 {
-    front_of(kind, bytes)
-}
-
-#[inline(always)]
-fn front_of<'a>(kind: Kind, bytes: &'a [u8]) -> Result<(ValueRef<'a>, usize), ArgFault>
-    ensures { seen result ≡ reading kind bytes.now }
-{
     if bytes.len() < 4 {
         return match kind {
             Kind::Fd => Ok((ValueRef::Fd, 0)),
@@ -43,18 +37,24 @@ fn front_of<'a>(kind: Kind, bytes: &'a [u8]) -> Result<(ValueRef<'a>, usize), Ar
         };
     }
     match kind {
-        Kind::Int => Ok((ValueRef::Int(int_at(bytes)), 4)),
-        Kind::Uint => Ok((ValueRef::Uint(word_at(bytes)), 4)),
-        Kind::Fixed => Ok((ValueRef::Fixed(Fixed::from_raw(int_at(bytes))), 4)),
+        Kind::Int => Ok((ValueRef::Int(LittleEndian::read_i32(bytes)), 4)),
+        Kind::Uint => Ok((ValueRef::Uint(LittleEndian::read_u32(bytes)), 4)),
+        Kind::Fixed => Ok((
+            ValueRef::Fixed(Fixed::from_raw(LittleEndian::read_i32(bytes))),
+            4,
+        )),
         Kind::Str { null } => string_at(null, bytes),
         Kind::Obj { null, .. } => {
-            let id = word_at(bytes);
+            let id = LittleEndian::read_u32(bytes);
             if id == 0 && !null {
                 return Err(ArgFault::NullNotAllowed);
             }
             Ok((ValueRef::Obj(id), 4))
         }
-        Kind::New(Some(_)) | Kind::NewByServer(_) => Ok((ValueRef::New(word_at(bytes)), 4)),
+        Kind::New(Some(_)) | Kind::NewByServer(_) => Ok((
+            ValueRef::New(LittleEndian::read_u32(bytes)),
+            4,
+        )),
         Kind::New(None) => named_at(bytes),
         Kind::Array => array_at(bytes),
         Kind::Fd => Ok((ValueRef::Fd, 0)),
@@ -67,7 +67,7 @@ fn string_at<'a>(null: bool, bytes: &'a [u8]) -> Result<(ValueRef<'a>, usize), A
     requires { 4 ≤ length bytes.now }
     ensures { seen result ≡ reading (str_kind null) bytes.now }
 {
-    let len = word_at(bytes) as usize;
+    let len = LittleEndian::read_u32(bytes) as usize;
     let end = 4 + padded_len(len);
     if bytes.len() < end {
         return Err(ArgFault::Short);
@@ -87,7 +87,7 @@ fn named_at<'a>(bytes: &'a [u8]) -> Result<(ValueRef<'a>, usize), ArgFault>
     requires { 4 ≤ length bytes.now }
     ensures { seen result ≡ reading (new_kind None) bytes.now }
 {
-    let name = padded_len(word_at(bytes) as usize);
+    let name = padded_len(LittleEndian::read_u32(bytes) as usize);
     if bytes.len() < 12 + name {
         return Err(ArgFault::Short);
     }
@@ -95,8 +95,8 @@ fn named_at<'a>(bytes: &'a [u8]) -> Result<(ValueRef<'a>, usize), ArgFault>
     let after = &bytes[4 + name..];
     let value = ValueRef::NewNamed {
         iface,
-        version: word_at(after),
-        id: word_at(&after[4..]),
+        version: LittleEndian::read_u32(after),
+        id: LittleEndian::read_u32(&after[4..]),
     };
     Ok((value, 12 + name))
 }
@@ -107,7 +107,7 @@ fn array_at<'a>(bytes: &'a [u8]) -> Result<(ValueRef<'a>, usize), ArgFault>
     requires { 4 ≤ length bytes.now }
     ensures { seen result ≡ reading array_kind bytes.now }
 {
-    let len = word_at(bytes) as usize;
+    let len = LittleEndian::read_u32(bytes) as usize;
     let end = 4 + padded_len(len);
     if bytes.len() < end {
         return Err(ArgFault::Short);
@@ -120,7 +120,7 @@ fn text_at<'a>(bytes: &'a [u8]) -> Result<&'a [u8], ArgFault>
     requires { 4 + padded (number_at bytes.now) ≤ length bytes.now }
     ensures { on_found (λ text. text.now) result ≡ text_of (number_at bytes.now) bytes.now }
 {
-    let len = word_at(bytes) as usize;
+    let len = LittleEndian::read_u32(bytes) as usize;
     if len == 0 {
         return Err(ArgFault::NullNotAllowed);
     }

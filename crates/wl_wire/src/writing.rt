@@ -107,44 +107,22 @@ pub fn write_value(value: ValueRef<'_>, out: &mut [u8]) -> usize
         ++ drop (spelled_len (lent value.entry)) out.old }
     ensures len { result ≡ spelled_len (lent value.entry) }
 {
-    match value {
-        ValueRef::Int(z) => write_int(out, z),
-        ValueRef::Fixed(z) => write_int(out, z.raw()),
-        ValueRef::Uint(n) => write_word(out, n),
-        ValueRef::Obj(id) => write_word(out, id),
-        ValueRef::New(id) => write_word(out, id),
-        ValueRef::Str(None) => write_word(out, 0),
-        ValueRef::Str(Some(text)) => write_padded(out, text.len() as u32 + 1, text),
+    let word = match value {
+        ValueRef::Int(z) => z.cast_unsigned(),
+        ValueRef::Fixed(z) => z.raw().cast_unsigned(),
+        ValueRef::Uint(word) | ValueRef::Obj(word) | ValueRef::New(word) => word,
+        ValueRef::Str(None) => 0,
+        ValueRef::Str(Some(text)) => return write_padded(out, text.len() as u32 + 1, text),
         ValueRef::NewNamed { iface, version, id } => {
             let len = write_padded(out, iface.len() as u32 + 1, iface);
-            write_word(&mut out[len..], version);
-            write_word(&mut out[len + 4..], id);
-            len + 8
+            LittleEndian::write_u32(&mut out[len..], version);
+            LittleEndian::write_u32(&mut out[len + 4..], id);
+            return len + 8;
         }
-        ValueRef::Array(bytes) => write_padded(out, bytes.len() as u32, bytes),
-        ValueRef::Fd => 0,
-    }
-}
-
-/// Writes the word of a number.
-#[inline(always)]
-fn write_word(out: &mut [u8], n: u32) -> usize
-    requires { 4 ≤ length out.old }
-    ensures bytes { out.new ≡ word n ++ drop 4 out.old }
-    ensures len { result ≡ 4 }
-{
-    LittleEndian::write_u32(out, n);
-    4
-}
-
-/// Writes the word of a signed number.
-#[inline(always)]
-fn write_int(out: &mut [u8], z: i32) -> usize
-    requires { 4 ≤ length out.old }
-    ensures bytes { out.new ≡ int_word z ++ drop 4 out.old }
-    ensures len { result ≡ 4 }
-{
-    LittleEndian::write_i32(out, z);
+        ValueRef::Array(bytes) => return write_padded(out, bytes.len() as u32, bytes),
+        ValueRef::Fd => return 0,
+    };
+    LittleEndian::write_u32(out, word);
     4
 }
 
@@ -158,8 +136,8 @@ fn write_padded(out: &mut [u8], len: u32, bytes: &[u8]) -> usize
 {
     let end = 4 + padded_len(len as usize);
     // The zeros go into the last word; the bytes may then overwrite its front.
-    write_word(&mut out[end - 4..], 0);
-    write_word(out, len);
+    LittleEndian::write_u32(&mut out[end - 4..], 0);
+    LittleEndian::write_u32(out, len);
     out[4..4 + bytes.len()].copy_from_slice(bytes);
     end
 }

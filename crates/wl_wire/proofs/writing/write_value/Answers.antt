@@ -1,4 +1,4 @@
-use Rattle.std.proofs.Common.{◌≡◌, ◌+◌, ◌-◌, ◌≤◌, ◌++◌, List, ℕ, Some, length, drop, refl, sym, ap, ◌∙◌, arith}
+use Rattle.std.proofs.Common.{◌≡◌, ◌+◌, ◌-◌, ◌≤◌, ◌++◌, Some, length, drop, refl, sym, ap, ◌∙◌, arith}
 use Rattle.std.proofs.lemmas.List.{take_rest}
 use borrow.Rule.Slice.PartMut.{put_mid}
 use Rattle.wl_wire.specs.declared.value.ValueRef.{ValueRef}
@@ -6,7 +6,7 @@ use Rattle.wl_wire.specs.Argument.{lent, Str}
 use Rattle.wl_wire.specs.Spelling.{canonical, padded, spelled_len, text_bytes}
 use Rattle.wl_wire.specs.Word.{word}
 use Rattle.wl_wire.proofs.Canonicals.{canonical-len}
-use Rattle.wl_wire.proofs.Overs.{over-named}
+use Rattle.wl_wire.proofs.Overs.{over-named, over-word}
 use Rattle.wl_wire.proofs.writing.write_value.Goals as goal
 
 pub returns-in-NewNamed-clause-bytes : goal.returns-in-NewNamed-clause-bytes
@@ -15,7 +15,7 @@ returns-in-NewNamed-clause-bytes c =
     let iface = c.in-NewNamed.iface.now in
     let n = c.write_padded-len.result in
     let t = c.write_padded-len.new.out in
-    let v = c.write_word-in-NewNamed.new.out in
+    let v = c.write_u32.new.buf in
     let j = length t - n in
     let whole = put_mid n j t v in
     let size : length (text_bytes iface) ≡ 4 + padded (length iface + 1) = canonical-len (Str (Some iface)) in
@@ -26,12 +26,10 @@ returns-in-NewNamed-clause-bytes c =
     c.write_padded-len.ensures.bytes ∙ ap (λ m. text_bytes iface ++ drop m out) (sym is) in
     let sum : n + 8 ≡ 12 + padded (length iface + 1) = omega (arith, is) in
     over-named out (text_bytes iface) (word c.in-NewNamed.version)
-    (word c.in-NewNamed.id) t v c.write_word-in-NewNamed-2.new.out n j _
+    (word c.in-NewNamed.id) t v c.write_u32-in-NewNamed.new.buf n j _
     (size ∙ sym is) refl (omega (arith, is, fits)) front refl
-    (c.write_word-in-NewNamed.ensures.bytes ∙ ap (λ (l : List ℕ). word c.in-NewNamed.version ++ drop 4 l)
-    (take_rest t n))
+    (over-word c.in-NewNamed.version _ _ _ c.write_u32.ensures (take_rest t n))
     refl
-    (c.write_word-in-NewNamed-2.ensures.bytes ∙ ap (λ (l : List ℕ). word c.in-NewNamed.id ++ drop 4 l)
-    (take_rest whole (n + 4)))
+    (over-word c.in-NewNamed.id _ _ _ c.write_u32-in-NewNamed.ensures (take_rest whole (n + 4)))
     ∙ ap (λ m. ((text_bytes iface ++ word c.in-NewNamed.version) ++ word c.in-NewNamed.id) ++ drop m out) sum
     ∙ ap (λ (value : ValueRef). canonical (lent value) ++ drop (spelled_len (lent value)) out) (sym c.in-NewNamed.is)

@@ -1,68 +1,32 @@
-use Rattle.std.proofs.Common.{◌-◌, ◌≤◌, length, ap, ◌∙◌, arith}
-use Rattle.wl_message.specs.Outgoing.{with_message}
-use Rattle.wl_message.proofs.PartedQueue.{bytes_wait, tokens_wait, pushed, pushed_kept, boundaries_fit}
+use Rattle.std.proofs.Common.{◌≡◌, ◌≤◌, ◌++◌, ℕ, List, length, take, drop, sym, subst, ap, ◌∙◌}
+use Rattle.std.proofs.lemmas.List.{take_at}
+use Rattle.wl_message.specs.Cut.{IsMessage}
+use Rattle.wl_message.specs.Outgoing.{room_of, with_message}
 use Rattle.wl_message.proofs.outbox.Outbox.push_encoded.Goals as goal
 
-pub push-requires-clause-room : goal.push-requires-clause-room
-push-requires-clause-room g c =
-    let o = c.self.inside in
-    let i = c.self.invariant.kept in
-    let r : length (g.E.Encode.message c.args.message.now) ≤ o.capacity -
-    (length o.bytes.items - (o.error_to - o.error_from)) =
-    rw (bytes_wait _ i) at (rw (← c.self.view_is) at c.requires.bytes) in
-    omega (
-      arith,
-      r,
-      boundaries_fit o.boundaries.items i.each,
-      i.bytes,
-      i.error_there,
-      i.error_order,
-      i.error_len,
-      c.self.invariant.reserved,
-      c.self.invariant.boundaries_reserved,
-      c.requires.whole.size.header,
-    )
-
-pub append_encoded-requires-clause-room : goal.append_encoded-requires-clause-room
-append_encoded-requires-clause-room g c =
-    let o = c.self.inside in
-    let i = c.self.invariant.kept in
-    let r : length (g.E.Encode.message c.args.message.now) ≤ o.capacity -
-    (length o.bytes.items - (o.error_to - o.error_from)) =
-    rw (bytes_wait _ i) at (rw (← c.self.view_is) at c.requires.bytes) in
-    omega (arith, r, i.error_there, i.error_order, i.error_len, c.self.invariant.reserved, c.requires.whole.size.header)
-
-pub append-requires : goal.append-requires
-append-requires g c =
-    let o = c.self.inside in
-    let i = c.self.invariant.kept in
-    let r : length c.args.tokens.now ≤ o.tokens.capacity - length o.tokens.items =
-    rw (tokens_wait _ i) at (rw (← c.self.view_is) at c.requires.tokens) in
-    omega (arith, r, i.token_room)
-
-pub invariant_of-self : goal.invariant_of-self
-invariant_of-self g c =
-    let o = c.self.inside in
-    let v = c.self.invariant in
-    let i = v.kept in
+pub push_fitting-requires-clause-whole : goal.push_fitting-requires-clause-whole
+push_fitting-requires-clause-whole g c =
     let message = g.E.Encode.message c.args.message.now in
-    let r : length message ≤ o.capacity - (length o.bytes.items - (o.error_to - o.error_from)) =
-    rw (bytes_wait _ i) at (rw (← c.self.view_is) at c.requires.bytes) in
-    let s : length c.args.tokens.now ≤ o.tokens.capacity - length o.tokens.items =
-    rw (tokens_wait _ i) at (rw (← c.self.view_is) at c.requires.tokens) in
-    record {
-      kept = rw (c.append_encoded.ensures.ring, c.append.ensures, c.push.ensures, c.encoded_len.ensures)
-          (pushed_kept _ message c.args.tokens.now i c.requires.whole.size.header
-          (omega (arith, r, i.error_there, i.error_order, c.requires.whole.size.header))
-          (omega (arith, s, i.token_room)));
-      small = v.small;
-      few_tokens = rw (c.append.ensures) v.few_tokens;
-      reserved = rw (c.append_encoded.ensures.ring) v.reserved;
-      boundaries_reserved = rw (c.append_encoded.ensures.ring, c.push.ensures) v.boundaries_reserved;
-    }
+    let n : ℕ = c.encoded_len-len.result in
+    let long : length c.encode.new.out ≡ n = ap length c.encode.ensures ∙ sym c.encoded_len-len.ensures in
+    let same : take n (c.encode.new.out ++ drop n c.args.store.now) ≡ message =
+    take_at c.encode.new.out (drop n c.args.store.now) n long ∙ c.encode.ensures in
+    subst (λ (m : List ℕ). IsMessage c.args.self.now.limit.bytes m) (sym same) c.requires.whole
+
+pub push_fitting-requires-clause-bytes : goal.push_fitting-requires-clause-bytes
+push_fitting-requires-clause-bytes g c =
+    let message = g.E.Encode.message c.args.message.now in
+    let n : ℕ = c.encoded_len-len.result in
+    let long : length c.encode.new.out ≡ n = ap length c.encode.ensures ∙ sym c.encoded_len-len.ensures in
+    let same : take n (c.encode.new.out ++ drop n c.args.store.now) ≡ message =
+    take_at c.encode.new.out (drop n c.args.store.now) n long ∙ c.encode.ensures in
+    subst (λ (m : List ℕ). length m ≤ room_of c.args.self.now) (sym same) c.requires.bytes
 
 pub returns-clause-outbox : goal.returns-clause-outbox
 returns-clause-outbox g c =
-    rw (c.append_encoded.ensures.ring, c.append.ensures, c.push.ensures, c.encoded_len.ensures)
-    (pushed _ (g.E.Encode.message c.args.message.now) c.args.tokens.now c.self.invariant.kept
-    ∙ ap (λ w. with_message w (g.E.Encode.message c.args.message.now) c.args.tokens.now) c.self.view_is)
+    let message = g.E.Encode.message c.args.message.now in
+    let n : ℕ = c.encoded_len-len.result in
+    let long : length c.encode.new.out ≡ n = ap length c.encode.ensures ∙ sym c.encoded_len-len.ensures in
+    let same : take n (c.encode.new.out ++ drop n c.args.store.now) ≡ message =
+    take_at c.encode.new.out (drop n c.args.store.now) n long ∙ c.encode.ensures in
+    c.push_fitting.ensures ∙ ap (λ (m : List ℕ). with_message c.args.self.now m c.args.tokens.now) same

@@ -1,5 +1,6 @@
-use Rattle.std.proofs.Common.{◌≡◌, ℕ, List, [], ◌++◌, length, take, drop, ap, sym, subst, ◌∙◌, arith}
+use Rattle.std.proofs.Common.{◌≡◌, ℕ, ◌≤◌, List, [], ◌++◌, length, take, drop, ap, sym, subst, ◌∙◌, arith}
 use Rattle.std.proofs.Common.{length-drop}
+use Rattle.std.proofs.lemmas.List.{length-take-le}
 use Rattle.wl_message.specs.declared.amounts.Amounts.{Amounts}
 use Rattle.wl_message.specs.Outgoing.{Outgoing, Goes, goes, after_taking, waiting_bytes, waiting_tokens}
 use Rattle.wl_message.proofs.PartedQueue.{leaves, bytes_wait, tokens_wait, nothing_waits}
@@ -7,9 +8,13 @@ use Rattle.wl_message.proofs.WhatGoes.{goes_goes}
 use Rattle.wl_message.proofs.Waiting.{all_go}
 use Rattle.wl_message.proofs.outbox.Outbox.take_tokens.Goals as goal
 
-pub copy_into-requires-clause-ring : goal.copy_into-requires-clause-ring
-copy_into-requires-clause-ring g c =
-    (leaves _ _ c.self.invariant.kept (rw (← c.self.view_is) at c.leaving-leaving.ensures.leaving)).tokens
+pub copy_first-requires : goal.copy_first-requires
+copy_first-requires g c =
+    let n : ℕ = c.leaving-leaving.result.taken.tokens in
+    let l = leaves _ _ c.self.invariant.kept (rw (← c.self.view_is) at c.leaving-leaving.ensures.leaving) in
+    let goes = c.leaving-leaving.ensures.longest in
+    let room : n ≤ length c.args.tokens.now = omega (arith, goes.with_tokens, goes.may.tokens_within) in
+    omega (arith, l.tokens, length-take-le n c.args.tokens.now room)
 
 pub returns-clause-computed : goal.returns-clause-computed
 returns-clause-computed g c =
@@ -28,10 +33,14 @@ returns-clause-longest g c =
 pub returns-clause-tokens : goal.returns-clause-tokens
 returns-clause-tokens g c =
     let n : ℕ = c.leaving-leaving.result.taken.tokens in
-    let w : c.self.inside.tokens.items ≡ waiting_tokens c.args.self.now =
+    let items = c.self.inside.tokens.items in
+    let w : items ≡ waiting_tokens c.args.self.now =
     sym (tokens_wait _ c.self.invariant.kept) ∙ ap (λ (o : Outgoing). waiting_tokens o) c.self.view_is in
+    let goes = c.leaving-leaving.ensures.longest in
+    let room : n ≤ length c.args.tokens.now = omega (arith, goes.with_tokens, goes.may.tokens_within) in
     rw (c.remove.ensures.taken)
-    (c.copy_into.ensures.to ∙ ap (λ (l : List ℕ). take n l ++ drop n c.args.tokens.now) w)
+    (ap (λ (l : List ℕ). l ++ drop n c.args.tokens.now)
+    (c.copy_first.ensures ∙ ap (λ (m : ℕ). take m items) (length-take-le n c.args.tokens.now room) ∙ ap (take n) w))
 
 pub returns-clause-all : goal.returns-clause-all
 returns-clause-all g c = λ enough.
