@@ -105,7 +105,7 @@ class FrontPage(unittest.TestCase):
 
     # What the library's own crates call, which the page leaves out.
     INNER = {("Args", "new"), ("End", "core"), ("Header", "at_front_of"), ("Header", "from_bytes"),
-             ("Header", "to_bytes"), ("Passed", "append_to"), ("Recording", "fill_last"),
+             ("Header", "to_bytes"), ("Header", "write"), ("Passed", "append_to"), ("Recording", "fill_last"),
              ("Recording", "prepare")}
 
     def test_calls(self):

@@ -71,13 +71,14 @@ received_same tables side r header body w n valid is =
 
 -- what the code found is the message's judgement
 pub judged_is : (tables : List Interface) (k : KnownAtPlace) (frame : FramedMessage) (header : Header) (body : List ℕ)
-    (n w : ℕ) (x : Result Received Fault) → Valid tables
-    → n ≡ min w 18446744073709551615 → w ≡ frame.tokens - k.taken frame.direction
-    → x ≡ received tables (side_of frame.direction) (reader_by tables k frame.direction) header body n
+    (n w : ℕ) (side : Side) (x : Result Received Fault) → Valid tables
+    → n ≡ min w 18446744073709551615 → w ≡ frame.tokens - k.taken frame.direction → side ≡ side_of frame.direction
+    → x ≡ received tables side (reader_by tables k frame.direction) header body n
     → judged_message tables k frame header body ≡ called tables k frame.direction header.opcode x
-judged_is tables k frame header body n w x valid n_is w_is x_is =
+judged_is tables k frame header body n w side x valid n_is w_is side_is x_is =
     ap (λ (y : Result Received Fault). called tables k frame.direction header.opcode y)
-    (sym (x_is ∙ received_same tables (side_of frame.direction) (reader_by tables k frame.direction) header body w n valid n_is
+    (sym (x_is ∙ ap (λ (s : Side). received tables s (reader_by tables k frame.direction) header body n) side_is
+    ∙ received_same tables (side_of frame.direction) (reader_by tables k frame.direction) header body w n valid n_is
     ∙ ap (received tables (side_of frame.direction) (reader_by tables k frame.direction) header body) w_is))
 
 pub called_bad : (tables : List Interface) (k : KnownAtPlace) (d : Direction) (opcode : ℕ) (r : Received)

@@ -2,7 +2,6 @@
 ghost use Rattle.std.specs.Prelude.{◌≡◌, ◌≤◌, true, length, is_some, None, OnErr, OnOk, IfOk};
 ghost use Rattle.wl_message.specs.Cut.{is_size};
 ghost use Rattle.wl_wire.specs.Word.{header_at};
-ghost use Rattle.wl_check.specs.Changes.{side_of};
 ghost use Rattle.wl_check.specs.Following.{announced, bytes_behind, bytes_in, changes_unread};
 ghost use Rattle.wl_check.specs.Following.{follower, if_certain, said, said_changes, said_in};
 ghost use Rattle.wl_check.specs.Following.{size_ahead, IsBehind, IsNewFollower, TellsAhead};
@@ -19,10 +18,11 @@ use std::alloc::{AllocError, Allocator, Global};
 use wl_message::Limit;
 use wl_object_map::{FIRST_SERVER_ID, MAX_IDS, MAX_SERVER_ID, Maker};
 use wl_objects::{
-    DISPLAY, Entry, Lookup, MAX_ARGS, NewId, ParsedArgs, State, Values, receive, waits_for_request,
+    DISPLAY, Entry, Lookup, MAX_ARGS, NewId, ParsedArgs, SideTables, State, Values, receive,
+    waits_for_request,
 };
 use wl_recording::Direction;
-use wl_sigs::{Side, Tables};
+use wl_sigs::Tables;
 use wl_wire::{Header, Iface, ValueRef};
 
 /// Replaces an interface that the tables lack.
@@ -91,20 +91,8 @@ struct FollowerLookup<'a, A: Allocator = Global> {
 }
 
 impl<'a, A: Allocator> Lookup for FollowerLookup<'a, A> {
-    ghost tables = { λ lookup. lookup.tables.now };
-
-    ghost side = { λ lookup. side_of lookup.direction };
-
     ghost reader = { λ lookup.
         follower lookup.tables.now lookup.held.now lookup.unread lookup.place };
-
-    fn tables(&self) -> &Tables {
-        self.tables
-    }
-
-    fn side(&self) -> Side {
-        side_of(self.direction)
-    }
 
     fn object(&self, id: u32) -> Option<Entry> {
         if_certain(self.tables, self.unread, id, self.held.object(id))
@@ -194,8 +182,9 @@ impl<'a, A: Allocator> FollowerLookup<'a, A> {
         let direction = self.direction;
         let side = side_of(direction);
         let tables = self.tables;
+        let writer = SideTables { tables, side };
         let mut args = ParsedArgs::new();
-        match receive(&mut args, self, header, body, MAX_ARGS) {
+        match receive(&mut args, writer, self, header, body, MAX_ARGS) {
             Ok(message) => {
                 let changes = changes_of(tables, direction, side, header.opcode, &message);
                 let advertised = if is_global(side, message.entry.iface, header.opcode) {

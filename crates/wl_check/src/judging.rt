@@ -19,7 +19,7 @@ use crate::known::{KnownState, ReaderLookup};
 use crate::session_state::{Output, Protocol, Sink};
 use std::alloc::{AllocError, Allocator};
 use wl_objects::{
-    Fault, NewObject, ParsedArgs, REGISTRY, Received, Values, is_bind, is_delete_id,
+    Fault, NewObject, ParsedArgs, REGISTRY, Received, SideTables, Values, is_bind, is_delete_id,
     made_by_message, receive,
 };
 use wl_recording::Direction;
@@ -114,7 +114,8 @@ fn judge_message<A: Allocator>(
     };
     let taken = known.taken(direction);
     let waiting = count(frame.tokens.saturating_sub(taken));
-    let received = receive(args, &lookup, header, body, waiting);
+    let writer = SideTables { tables, side };
+    let received = receive(args, writer, &lookup, header, body, waiting);
     let message = match received {
         Ok(message) => message,
         Err(fault) => return Ok(Err(fault)),
@@ -123,21 +124,21 @@ fn judge_message<A: Allocator>(
     if is_disallowed_bind(tables, known, side, header.opcode, &message, &changes) {
         return Ok(Err(Fault::BadBind));
     }
-    write(sink, &lookup, &message, taken)?;
+    write(sink, writer, &lookup, &message, taken)?;
     Ok(Ok(changes))
 }
 
 /// Appends the wanted output for a message, before the message changes what is known.
 fn write<A: Allocator>(
     sink: &mut Sink<A>,
+    writer: SideTables<'_>,
     lookup: &ReaderLookup<'_, A>,
     message: &Received<'_, '_>,
     taken: u128,
 ) -> Result<(), AllocError>
     requires { taken < 2 ^ 127 }
     ensures text { OnOk result (sink.new.text.items ≡ sink.old.text.items
-        ++ wanted sink.old.output (line lookup.now.tables.now
-        (side_of lookup.now.direction)
+        ++ wanted sink.old.output (line writer.entry.tables.now writer.entry.side
         (reader_by lookup.now.tables.now (known_in lookup.now.known.now)
         lookup.now.direction).object
         (received_of message.now) taken)) }
@@ -147,7 +148,7 @@ fn write<A: Allocator>(
         Output::Nothing => Ok(()),
         Output::Lines => {
             sink.text.reserve(LINE_ROOM)?;
-            write_line(&mut sink.text, lookup, message, taken)
+            write_line(&mut sink.text, writer, lookup, message, taken)
         }
     }
 }
@@ -258,7 +259,7 @@ pub(crate) fn changes_of(
     let values = &message.values();
     MessageChanges {
         direction,
-        made: made_by_message(tables, message.entry.version, message.signature, values),
+        made: made_by_message(tables, message),
         deleted: if is_delete_id(side, iface, opcode) {
             first_number(values)
         } else {

@@ -1,7 +1,6 @@
 //! What is known at a place of a session.
 ghost use Rattle.std.specs.Prelude.{◌≡◌, ◌+◌, ◌^◌, ◌<◌, OnOk, IfOk};
 ghost use Rattle.wl_sigs.specs.Valid.{Valid};
-ghost use Rattle.wl_check.specs.Changes.{side_of};
 ghost use Rattle.wl_check.specs.Held.{HasFewSlots, undone_by};
 ghost use Rattle.wl_check.specs.Places.{IsFirst, IsKnownBehind, server_used_by, used_by};
 ghost use Rattle.wl_check.specs.Rules.{is_free_id, is_free_server_id, reader_by};
@@ -9,13 +8,12 @@ ghost use Rattle.wl_check.specs.Seen.{known_in, taken_of_direction};
 
 use crate::changes::MessageChanges;
 use crate::holdings::Holdings;
-use crate::judging::side_of;
 use crate::overwritten::UndoList;
 use std::alloc::{AllocError, Allocator, Global};
 use wl_object_map::{DISPLAY_ID, FIRST_SERVER_ID, MAX_IDS, MAX_SERVER_ID, Maker};
 use wl_objects::{DISPLAY, Entry, Lookup, NewId, NewObject, State, waits_for_request};
 use wl_recording::Direction;
-use wl_sigs::{Side, Tables};
+use wl_sigs::Tables;
 use wl_wire::Iface;
 
 /// What is known at a place: the objects that are held (ending ones as zombies); the greatest id
@@ -164,20 +162,8 @@ pub(crate) struct ReaderLookup<'a, A: Allocator = Global> {
 }
 
 impl<'a, A: Allocator> Lookup for ReaderLookup<'a, A> {
-    ghost tables = { λ lookup. lookup.tables.now };
-
-    ghost side = { λ lookup. side_of lookup.direction };
-
     ghost reader = { λ lookup.
         reader_by lookup.tables.now (known_in lookup.known.now) lookup.direction };
-
-    fn tables(&self) -> &Tables {
-        self.tables
-    }
-
-    fn side(&self) -> Side {
-        side_of(self.direction)
-    }
 
     fn object(&self, id: u32) -> Option<Entry> {
         let entry = self.known.object(id)?;

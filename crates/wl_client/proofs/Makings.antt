@@ -1,8 +1,9 @@
 -- Which events make an object. That object can be opened.
-use Rattle.std.proofs.Common.{◌≡◌, ℕ, zero, suc, Bool, true, false, List, [], ◌∷◌, Some, None, refl, ap, subst}
-use Rattle.std.specs.Prelude.{Option, slice_get, option_map}
+use Rattle.std.proofs.Common.{◌≡◌, ℕ, zero, suc, ◌+◌, ◌-◌, ◌<◌, ◌≤◌, Bool, true, false, cond, not, ◌&&◌, List}
+use Rattle.std.proofs.Common.{[], ◌∷◌, Some, None, refl, sym, ap, subst, ◌∙◌, inl, inr, arith}
+use Rattle.std.specs.Prelude.{Option, is_some, nat_le, slice_get, option_map}
 use Rattle.std.specs.List.{list_any}
-use Rattle.std.proofs.lemmas.Bool.{eqb-true}
+use Rattle.std.proofs.lemmas.Bool.{and_parts, cases_lt, eq-eqb, eqb-true, leb-true}
 use Rattle.std.specs.declared.result.Result.TheVariants.{Ok}
 use Rattle.wl_wire.specs.declared.header.Header.{Header}
 use Rattle.wl_wire.specs.declared.kind.Kind.{Kind}
@@ -17,9 +18,15 @@ use Rattle.wl_sigs.specs.Valid.{Valid}
 use Rattle.wl_sigs.proofs.Lookups.{found}
 use Rattle.wl_sigs.proofs.ValidKeeps.{any_true}
 use Rattle.wl_object_map.specs.declared.object.Entry.{Entry}
-use Rattle.wl_object_map.specs.Objects.{Objects}
-use Rattle.wl_objects.specs.Messages.{NewObject, Received, made, reader_of, received, same_iface}
+use Rattle.wl_object_map.specs.Ranges.{is_of_server, table_id}
+use Rattle.wl_object_map.specs.View as table
+use Rattle.wl_object_map.specs.View.{View, Sound, places, times}
+use Rattle.wl_object_map.specs.Objects.{Objects, ObjectsAreSound, look}
+use Rattle.wl_object_map.specs.ObjectsLaws.{in_range-server}
+use Rattle.wl_objects.specs.Messages.{NewObject, Received, made, reader_of, received, same_iface, server_may_use}
+use Rattle.wl_objects.specs.Messages.{waits_for_request}
 use Rattle.wl_connection.proofs.NewIds.{new_free_at_client}
+use Rattle.wl_client.specs.Reports.{opens_row}
 use Rattle.wl_client.specs.Steps.{CanOpen}
 
 -- ---- an event makes no object if its signature has none
@@ -84,3 +91,32 @@ pub can_open : (tables : List Interface) (view : Objects) (h : Header) (body : L
     → made tables m.entry.version m.signature.kinds m.values ≡ o → CanOpen tables view o
 can_open tables view h body waiting m None v e is = tt
 can_open tables view h body waiting m (Some new) v e is = new_free_at_client tables view h body waiting m new v e is
+
+-- ---- memory may be needed only at the next id, one that was never used
+
+opens_past : (view : View) (place : ℕ) → Sound view → view.freed ≡ [] → table.look view place ≡ None → 0 < place
+    → view.used < place
+opens_past view place sound none row some = elim (cases_lt view.used place) [
+  | inl past ↦ past
+  | inr used ↦ (
+      let one : places view place ≡ 1 = sound.once place some used in
+      let zero : places view place ≡ 0 =
+      ap (λ (o : Option Entry). cond (is_some o) 1 0 + times place view.freed) row
+      ∙ ap (λ (l : List ℕ). 0 + times place l) none in
+      absurd (cc (one, zero)))
+]
+
+pub opens_unused : (tables : List Interface) (view : Objects) (m : NewObject) → ObjectsAreSound view
+    → view.server.freed ≡ [] → server_may_use tables view m.id ≡ true → look view m.id ≡ None
+    → opens_row view (Some m) ≡ true
+opens_unused tables view m sound none may row =
+    let parts = and_parts (is_of_server m.id && not (waits_for_request tables (look view m.id)))
+    (nat_le (table_id m.id) (view.server.used + 1)) may in
+    let of_server : is_of_server m.id ≡ true =
+    (and_parts (is_of_server m.id) (not (waits_for_request tables (look view m.id))) parts.0).0 in
+    let from : 4278190080 ≤ m.id = leb-true 4278190080 m.id of_server in
+    let upto : table_id m.id ≤ view.server.used + 1 = leb-true (table_id m.id) (view.server.used + 1) parts.1 in
+    let past : view.server.used < table_id m.id = opens_past view.server (table_id m.id) sound.server none
+    (sym (in_range-server table.look view m.id of_server) ∙ row) (omega (arith, from)) in
+    let same : m.id ≡ 4278190080 + (view.server.used - 1) = omega (arith, from, upto, past) in
+    eq-eqb m.id (4278190080 + (view.server.used - 1)) same

@@ -3,10 +3,8 @@ ghost use Rattle.std.specs.Prelude.{◌≡◌, ◌<◌, ◌≤◌, [], IfOk, len
 ghost use Rattle.std.specs.Prelude.{is_some};
 ghost use Rattle.wl_client.specs.State.{global_of};
 ghost use Rattle.wl_client.specs.Reports.{forgotten, with_replaced, remembered};
-ghost use Rattle.wl_client.specs.Steps.{with_global_change};
 ghost use Rattle.wl_connection.specs.Core.{max_globals};
 
-use crate::changes::GlobalChange;
 use std::alloc::{AllocError, Allocator};
 use std::marker::Model;
 use wl_connection::MAX_GLOBALS;
@@ -89,17 +87,6 @@ impl<A: Allocator> Remembered<A> {
     {
         if name <= self.greatest {
             self.items.retain(|global| global.name != name);
-        }
-    }
-
-    /// Changes what is remembered, as an event says.
-    pub(crate) fn apply(&mut self, global_change: GlobalChange)
-        ensures { self.new ≡ with_global_change self.old global_change }
-    {
-        match global_change {
-            GlobalChange::Nothing => {}
-            GlobalChange::Forget(name) => self.forget(name),
-            GlobalChange::Remember(global) => self.remember(global),
         }
     }
 

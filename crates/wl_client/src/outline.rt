@@ -11,7 +11,8 @@ use crate::arguments::text_at;
 use crate::report::{Incoming, OwnedIncoming};
 use crate::tokens::Tokens;
 use std::alloc::{AllocError, Allocator};
-use wl_objects::{Args, Named, Object, ParsedArgs};
+use wl_connection::Endpoint;
+use wl_objects::{Args, Named, Object, ParsedArgs, Table};
 use wl_wire::Bytes;
 
 /// The report of a message. Its arguments and tokens are added when the report is borrowed or
@@ -44,17 +45,15 @@ pub(crate) enum Outline {
 }
 
 impl Outline {
-    /// The report of a message, borrowing these arguments, this body and these tokens.
-    pub(crate) fn lend<'a>(
-        &self,
-        args: &'a ParsedArgs,
-        body: &'a [u8],
-        tokens: &'a [u32],
-    ) -> Incoming<'a>
-        ensures report { lent_report result ≡ outlined body.now args.now tokens.now self.now }
+    /// The report of the message that was taken last, borrowing from the end that took it.
+    pub(crate) fn lend<'a, T: Table>(&self, end: &'a Endpoint<'_, T>) -> Incoming<'a>
+        ensures report { lent_report result ≡ outlined end.now.core.inbox.last end.now.args
+            end.now.core.inbox.last_tokens self.now }
         ensures entry { (view : Objects)
             → entry_of view (lent_report result) ≡ outline_entry view self.now }
     {
+        let Endpoint { core, args } = end;
+        let (body, tokens) = (core.inbox.last(), core.inbox.last_tokens());
         match self {
             Outline::Event {
                 target,

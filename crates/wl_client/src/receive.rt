@@ -3,20 +3,16 @@ ghost use Rattle.std.specs.Prelude.{◌≡◌, IfOk, IfSome, false};
 ghost use Rattle.std.specs.Borrow.{sem};
 ghost use Rattle.std.specs.Io.BufRead.{Rests};
 ghost use Rattle.wl_sigs.specs.Rules.{has_server_objects};
-ghost use Rattle.wl_object_map.specs.Objects.{Objects};
 ghost use Rattle.wl_connection.specs.Outcomes.{unless_memory};
 ghost use Rattle.wl_connection.specs.Roles.{IsLentNext, IsReportNext};
 ghost use Rattle.wl_client.specs.Reports.{IsClientNext, after_next, client_role, entry_of};
 ghost use Rattle.wl_client.specs.Reports.{next_answer};
 ghost use Rattle.wl_client.specs.Outlines.{client_row, incoming_in, lent_in, lent_report};
-ghost use Rattle.wl_client.specs.Outlines.{outline_entry};
 ghost use Rattle.wl_client.specs.Seen.{owned_incoming_in as owned_in, report_in, report_of};
-ghost use Rattle.wl_client.specs.Reading.{taken_report};
 
 use crate::client::Client;
-use crate::pending::PendingEvent;
 use crate::report::{Incoming, IncomingWithEntry, OwnedIncoming, OwnedIncomingWithEntry};
-use wl_connection::{Endpoint, read, read_owned};
+use wl_connection::{read, read_owned};
 use wl_objects::{NextError, Table};
 
 impl<'t, T: Table> Client<'t, T> {
@@ -37,7 +33,7 @@ impl<'t, T: Table> Client<'t, T> {
             → lent_in result ≡ next_answer self.old }
     {
         match read(&mut self.end, &mut self.role)? {
-            Some(event) => Ok(Some(lend(&self.end, event))),
+            Some(event) => Ok(Some(event.outline.lend(&self.end))),
             None => Ok(None),
         }
     }
@@ -57,7 +53,7 @@ impl<'t, T: Table> Client<'t, T> {
     {
         match read(&mut self.end, &mut self.role)? {
             Some(event) => Ok(Some(IncomingWithEntry {
-                incoming: lend(&self.end, event),
+                incoming: event.outline.lend(&self.end),
                 entry: event.entry,
             })),
             None => Ok(None),
@@ -102,17 +98,4 @@ impl<'t, T: Table> Client<'t, T> {
             None => Ok(None),
         }
     }
-}
-
-/// The report of the message that was taken last.
-fn lend<'a, T: Table>(end: &'a Endpoint<'_, T>, event: PendingEvent) -> Incoming<'a>
-    ensures report { lent_report result ≡ taken_report end.now.core end.now.args event }
-    ensures entry { (view : Objects)
-        → entry_of view (lent_report result) ≡ outline_entry view event.outline }
-{
-    event.outline.lend(
-        &end.args,
-        end.core.inbox.last(),
-        end.core.inbox.last_tokens(),
-    )
 }

@@ -1,18 +1,15 @@
 //! What a client keeps besides its endpoint, and how it reads an event with it.
-ghost use Rattle.std.specs.Prelude.{◌≡◌, [], OnErr, OnOk, true};
-ghost use Rattle.wl_objects.specs.Messages.{opens};
-ghost use Rattle.wl_connection.specs.Core.{with_view};
-ghost use Rattle.wl_client.specs.Reports.{object_made, object_replaced, opens_row};
-ghost use Rattle.wl_client.specs.Steps.{CanOpen};
-
-use crate::changes::{apply_object_change, open_made, replaced_by};
+use crate::changes::{GlobalChange, ObjectChange, change_of, end_object, replaced_by};
 use crate::globals::Remembered;
-use crate::meaning::meaning_of;
+use crate::meaning::{meaning_of_delete_id, meaning_of_error};
+use crate::outline::Outline;
 use crate::pending::PendingEvent;
 use crate::report::OwnedIncoming;
 use std::alloc::{AllocError, Allocator};
-use wl_connection::{Core, Endpoint, Meaning, Role, first_message};
-use wl_objects::{Fault, NewObject, NextError, Object, Objects, Received, Table};
+use wl_connection::{Endpoint, Meaning, Role, first_message};
+use wl_object_map::FIRST_SERVER_ID;
+use wl_objects::{DISPLAY, Fault, NextError, Object, Objects, Received, State, Table};
+use wl_sigs::event::wl_display::{DELETE_ID, ERROR};
 use wl_sigs::{Side, Tables};
 use wl_wire::Header;
 
@@ -25,40 +22,6 @@ pub(crate) struct ClientRole<A: Allocator> {
     pub(crate) made: Option<Object>,
     /// The live object that this one replaced.
     pub(crate) replaced: Option<Object>,
-}
-
-impl<A: Allocator> ClientRole<A> {
-    /// Opens the object that a message makes, if it makes one, and keeps it and the live object
-    /// that it replaces. Without memory nothing changes.
-    #[inline(always)]
-    fn open_made<T: Table>(
-        &mut self,
-        core: &mut Core<'_, T>,
-        made: Option<NewObject>,
-    ) -> Result<(), AllocError>
-        requires can { CanOpen core.old.tables core.old.view made }
-        requires frees_none { core.old.view.server.freed ≡ [] }
-        ensures globals { self.new.globals ≡ self.old.globals }
-        ensures ok { OnOk result (core.new ≡ with_view core.old (opens core.old.view made)) }
-        ensures made { OnOk result (self.new.made ≡ object_made core.old.view made) }
-        ensures replaced { OnOk result (self.new.replaced ≡ object_replaced core.old.view made) }
-        ensures err { OnErr result (core.new ≡ core.old) }
-        ensures kept { OnErr result (self.new ≡ self.old) }
-        ensures wants { OnErr result (opens_row core.old.view made ≡ true) }
-    {
-        match made {
-            None => {
-                self.made = None;
-                self.replaced = None;
-            }
-            Some(_) => {
-                let replaced = replaced_by(core, made);
-                self.made = open_made(core, made)?;
-                self.replaced = replaced;
-            }
-        }
-        Ok(())
-    }
 }
 
 impl<T: Table> Meaning<T> for ClientRole<T::Alloc> {
@@ -82,13 +45,34 @@ impl<T: Table> Meaning<T> for ClientRole<T::Alloc> {
         header: Header,
         message: &Received<'_, '_>,
     ) -> Result<PendingEvent, Fault> {
-        let (outline, change, entry) = meaning_of(tables, objects, header.opcode, message);
+        let opcode = header.opcode;
+        let (target, tokens) = (message.target, message.tokens);
+        let (outline, change, entry) = match (message.entry.iface, opcode) {
+            (DISPLAY, ERROR) => meaning_of_error(objects, message),
+            (DISPLAY, DELETE_ID) => meaning_of_delete_id(objects, message),
+            _ => {
+                let outline = match message.entry.state {
+                    State::Zombie => Outline::Discarded {
+                        target,
+                        opcode,
+                        tokens,
+                    },
+                    State::Live => Outline::Event {
+                        target,
+                        opcode,
+                        birth: objects.births(FIRST_SERVER_ID),
+                    },
+                };
+                let change = change_of(tables, opcode, message);
+                (outline, change, Some(message.entry))
+            }
+        };
         Ok(PendingEvent {
             outline,
             change,
             entry,
             size: header.size,
-            tokens: message.tokens,
+            tokens,
         })
     }
 }
@@ -151,12 +135,30 @@ impl<T: Table> Role<T> for ClientRole<T::Alloc> {
     }
 
     fn take(&mut self, end: &mut Endpoint<'_, T>, event: &PendingEvent) -> Result<(), AllocError> {
-        self.open_made(&mut end.core, event.change.made)?;
+        match event.change.made {
+            None => {
+                self.made = None;
+                self.replaced = None;
+            }
+            Some(new) => {
+                let replaced = replaced_by(&end.core, new);
+                self.made = Some(end.core.open_made(new)?);
+                self.replaced = replaced;
+            }
+        }
         // Nothing is allocated from here on.
         end.core.pass(event.size, event.tokens);
-        apply_object_change(&mut end.core, event.change.objects);
+        match event.change.objects {
+            ObjectChange::Nothing => {}
+            ObjectChange::Zombie(id) => end_object(&mut end.core, id),
+            ObjectChange::Close(id) => end.core.close(id),
+        }
         end.core.failed = event.change.last;
-        self.globals.apply(event.change.globals);
+        match event.change.globals {
+            GlobalChange::Nothing => {}
+            GlobalChange::Forget(name) => self.globals.forget(name),
+            GlobalChange::Remember(global) => self.globals.remember(global),
+        }
         Ok(())
     }
 }

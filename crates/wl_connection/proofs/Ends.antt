@@ -2,6 +2,8 @@
 use Rattle.std.proofs.Common.{◌≡◌, ℕ, zero, suc, List, [], ◌∷◌, map, Bool, true, false, ◌&&◌, inl}
 use Rattle.std.proofs.Common.{inr, refl, sym, ap, subst, ◌∙◌, slice_get, get_or, length, ◌<◌, ◌≤◌}
 use Rattle.std.proofs.Common.{arith}
+use Rattle.std.specs.Borrow.{Bor}
+use Rattle.std.specs.Slice.{IsItemAt}
 use Rattle.std.specs.Prelude.{Option, Some, None, option_map, codes, nat_eq, nat_lt, if◌then◌else◌}
 use Rattle.std.specs.declared.result.Result.{Result}
 use Rattle.std.specs.declared.result.Result.TheVariants.{Ok, Err}
@@ -10,12 +12,10 @@ use Rattle.std.proofs.lemmas.Option.{slice_get-map, slice_get-get_or}
 use Rattle.std.proofs.lemmas.Grind.{elements}
 use Rattle.std.proofs.lemmas.Bool.{eqb-true}
 use Rattle.wl_wire.specs.Argument.{Int, Uint, Fixed, Str, Obj, New, NewNamed, Array, Fd}
-use Rattle.wl_sigs.specs.Destroys.TheVariants.{Nothing, Target, Arg as ends_arg}
-use Rattle.wl_sigs.specs.Destroys.{Destroys}
+use Rattle.wl_sigs.specs.Destroys.TheVariants.{Arg as ends_arg}
 use Rattle.wl_sigs.specs.Side.{Side}
 use Rattle.wl_sigs.specs.Side.TheVariants.{Request, Event}
 use Rattle.wl_sigs.specs.Tables.{MessageSignature, Interface, signature_at, messages_of, destroys_argument}
-use Rattle.wl_sigs.specs.Tables.{destroys_one}
 use Rattle.wl_sigs.specs.Fixed as fixed
 use Rattle.wl_sigs.specs.Fixed.{registry, wl_fixes}
 use Rattle.wl_sigs.specs.Valid.{Valid}
@@ -25,7 +25,7 @@ use Rattle.wl_object_map.specs.declared.object.Entry.{Entry}
 use Rattle.wl_objects.specs.declared.argument.Arg.{Arg}
 use Rattle.wl_objects.specs.Writing.{given, given_of, wired, on_wire, Given, is_live_as}
 use Rattle.wl_objects.specs.Writing.{row_is_of, names_one, wrong_place, lost_place}
-use Rattle.wl_objects.specs.Messages.{id_named, id_at, destroys, destroyed, Received, received}
+use Rattle.wl_objects.specs.Messages.{id_named, id_at, Received, received}
 use Rattle.wl_objects.specs.Reading.{Reader, forgiving, object_fault, unless, value_or_fault, and_those, arguments_at}
 use Rattle.wl_objects.specs.declared.error.Fault.{Fault}
 use Rattle.wl_wire.specs.declared.kind.ArgFault.TheVariants.{Short, NullNotAllowed}
@@ -143,11 +143,11 @@ pub named_past : (list : List Arg) (place : ℕ) → length list ≤ place → i
 named_past list place h = named_known list place ∙ ap
     (λ (o : Option Arg). id_named (option_map (λ a. wired 0 (given_of a)) o)) (none_past list place h)
 
-pub ends_by : (side : Side) (what : Destroys) (id : ℕ) (view : Objects) → true ≡ destroys_one what
-    → destroys side what id view ≡ destroyed side view id
-ends_by side Nothing id view h = absurd (cc h)
-ends_by side Target id view h = refl
-ends_by side (ends_arg k) id view h = refl
+-- the same for what a look-up of the argument returned
+pub named_got : (list : List Arg) (place : ℕ) (o : Option (Bor Arg)) → IsItemAt list place o
+    → id_at (on_wire 0 list) place ≡ id_named (option_map (λ (b : Bor Arg). wired 0 (given_of b.now)) o)
+named_got list place None h = named_past list place h.3
+named_got list place (Some b) h = named_some list place b.now b.now h.3.0 h.1
 
 -- ---- the object that wl_fixes.destroy_registry names to its reader
 

@@ -10,6 +10,7 @@ pub mod Openings
 pub mod ReceivedMessage
 pub mod Spelled
 pub mod Ends
+pub mod EndedObjects
 pub mod NewIds
 pub mod ReadsGoOn
 pub mod TwoParts

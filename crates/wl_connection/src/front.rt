@@ -8,7 +8,7 @@ ghost use Rattle.wl_connection.specs.FirstMessage.{IsFrontMeaning, IsMeaningOf};
 use crate::endpoint::Endpoint;
 use crate::role::Meaning;
 use wl_message::Frame;
-use wl_objects::{Fault, Objects, ObjectsLookup, ParsedArgs, Table, receive};
+use wl_objects::{Fault, Objects, ObjectsLookup, ParsedArgs, SideTables, Table, receive};
 use wl_sigs::Tables;
 
 /// The first message, if it is whole: what it means to the end's role, or its fault. Only the
@@ -50,12 +50,14 @@ fn read_frame<T: Table, R: Meaning<T>>(
         frame.entry.header frame.entry.body.now frame.entry.tokens) result }
 {
     let header = frame.header;
+    let side = role.side();
     let lookup = ObjectsLookup {
         tables,
-        side: role.side(),
+        side,
         objects,
     };
-    let received = receive(args, &lookup, header, frame.body, frame.tokens);
+    let writer = SideTables { tables, side };
+    let received = receive(args, writer, &lookup, header, frame.body, frame.tokens);
     let message = match received {
         Ok(message) => message,
         Err(fault) => return Err(fault),

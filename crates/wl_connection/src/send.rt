@@ -1,17 +1,16 @@
 //! What an end writes.
-ghost use Rattle.std.specs.Prelude.{[], ◌≡◌, ◌≢◌, ◌≤◌, ◌+◌, ℕ, false, true, Some, Ok, IfOk, IfSome};
+ghost use Rattle.std.specs.Prelude.{[], ◌≡◌, ◌≢◌, ◌≤◌, ◌+◌, ℕ, false, true, Some, Ok, IfOk};
 ghost use Rattle.std.specs.Prelude.{IsTrue, OnErr, OnOk, is_some, length};
 ghost use Rattle.wl_sigs.specs.Side.TheVariants.{Event as event_side};
 ghost use Rattle.wl_sigs.specs.Rules.{has_server_objects};
 ghost use Rattle.wl_sigs.specs.Tables.{destroys_one, makes, max_args};
 ghost use Rattle.wl_sigs.specs.Valid.{Valid};
 ghost use Rattle.wl_message.specs.Cut.{usual_limit};
-ghost use Rattle.wl_objects.specs.Messages.{checked, destroys, ended_id, id_named, maker_by, opens};
+ghost use Rattle.wl_objects.specs.Messages.{checked, destroys, ended_id, maker_by};
 ghost use Rattle.wl_object_map.specs.Objects.{ObjectsAreSound, closed, is_held, is_live, look};
 ghost use Rattle.wl_object_map.specs.Objects.{next_id, opened_at};
 ghost use Rattle.wl_objects.specs.Writing.{CallFits, EachFits, bind_values, call_makes, given};
-ghost use Rattle.wl_objects.specs.Writing.{given_of, has_no_nul, id_of, message_len, on_wire};
-ghost use Rattle.wl_objects.specs.Writing.{tokens_of, wired};
+ghost use Rattle.wl_objects.specs.Writing.{has_no_nul, message_len, on_wire, tokens_of};
 ghost use Rattle.wl_connection.specs.Core.{HasDisplay, with_view};
 ghost use Rattle.wl_connection.specs.Outcomes.{AnswersOrMemory, some_object};
 ghost use Rattle.wl_connection.specs.Sending.{IsSendAnswer, OpensNothing, after_send, answer_of};
@@ -34,48 +33,6 @@ use wl_wire::{HEADER_LEN, Iface};
 
 /// The length of wl_display.delete_id in bytes: a header and an id.
 pub const DELETE_ID_LEN: usize = HEADER_LEN + 4;
-
-/// The id of the object that an argument names; 0 if it names none.
-fn id_named(arg: &Arg<'_>) -> u32
-    ensures { result ≡ id_named (Some (wired 0 (given_of arg.now))) }
-{
-    match arg {
-        Arg::Obj(Some(object)) => object.id,
-        _ => 0,
-    }
-}
-
-/// The id of the object that a call destroys, if it destroys one.
-#[tactic(auto, using(crate::proofs::Ends::named_known))]
-fn ended_id(what: Destroys, target: u32, args: &[Arg<'_>]) -> u32
-    ensures { result ≡ ended_id what target (on_wire 0 args.now) }
-{
-    match what {
-        Destroys::Nothing | Destroys::Target => target,
-        Destroys::Arg(place) => match args.get(place) {
-            Some(arg) => id_named(arg),
-            None => 0,
-        },
-    }
-}
-
-/// How many bytes immediately follow a message of this side: a delete_id follows a destroying
-/// event.
-fn following_len(side: Side, destroys: Destroys) -> usize
-    ensures { result ≡ following_len side destroys }
-{
-    match (side, destroys) {
-        (Side::Event, Destroys::Target | Destroys::Arg(_)) => DELETE_ID_LEN,
-        _ => 0,
-    }
-}
-
-/// The id of the object that a message makes; 0 if it makes none.
-fn id_of(new: Option<Object>) -> u32
-    ensures { result ≡ id_of new }
-{
-    new.map_or(0, |object| object.id)
-}
 
 impl<'t, T: Table> Core<'t, T> {
     /// Whether this number of bytes and tokens is free in the outbox.
@@ -172,31 +129,6 @@ impl<'t, T: Table> Core<'t, T> {
         }
     }
 
-    /// Opens the object that a message of this side makes, with this interface and version, if it
-    /// makes one.
-    fn open_new(
-        &mut self,
-        side: Side,
-        iface: Option<Iface>,
-        version: u32,
-    ) -> Result<Option<Object>, SendError>
-        requires { ObjectsAreSound self.old.view }
-        ensures answer { AnswersOrMemory SendError.Memory (is_some iface)
-            (opening_answer self.old (maker_by side)
-            (next_object (maker_by side) self.old.view version iface)) result }
-        ensures ok { OnOk result
-            (self.new ≡ with_view self.old
-            (opens self.old.view (next_object (maker_by side) self.old.view version iface))) }
-        ensures id { IfOk result
-            (λ new. IfSome iface (λ _. id_of new ≡ next_id (maker_by side) self.old.view)) }
-        ensures err { OnErr result (self.new ≡ self.old) }
-    {
-        match iface {
-            Some(iface) => Ok(Some(self.open_next(maker_by(side), iface, version)?)),
-            None => Ok(None),
-        }
-    }
-
     /// Writes the message made from a call; this number of tokens goes with it. It must fit.
     #[inline(always)]
     pub fn write_call(&mut self, message: &CallMessage<'_>, tokens: usize)
@@ -221,22 +153,30 @@ impl<'t, T: Table> Core<'t, T> {
 
     /// Ends the object that a message destroys, if it destroys one: at a client it becomes a
     /// zombie; at a server it is closed, and delete_id follows.
-    fn end_object(&mut self, side: Side, what: Destroys, id: u32)
-        requires live { IsTrue (is_live self.old.view id) }
-        requires other { destroys_one what ≡ true → id ≢ 1 }
+    fn end_object(&mut self, side: Side, what: Destroys, target: u32, args: &[Arg<'_>])
+        requires live { IsTrue (is_live self.old.view (ended_id what target (on_wire 0 args.now))) }
+        requires other { destroys_one what ≡ true
+            → ended_id what target (on_wire 0 args.now) ≢ 1 }
         requires room { IsTrue (fits self.old.outbox (following_len side what) 0) }
-        ensures { self.new ≡ with_following (following side what) id
+        ensures { let id = ended_id what target (on_wire 0 args.now) in
+            self.new ≡ with_following (following side what) id
             (with_view self.old (destroys side what id self.old.view)) }
     {
-        if what.destroys_one() {
-            match side {
-                Side::Request => self.make_zombie(id),
-                Side::Event => self.delete_object(id),
-            }
+        let id = match what {
+            Destroys::Nothing => return,
+            Destroys::Target => target,
+            Destroys::Arg(place) => match args.get(place) {
+                Some(Arg::Obj(Some(object))) => object.id,
+                _ => 0,
+            },
+        };
+        match side {
+            Side::Request => self.make_zombie(id),
+            Side::Event => self.delete_object(id),
         }
     }
 
-    /// Writes a call that passed its checks; tests S9, then opens as `open_new`.
+    /// Writes a call that passed its checks; tests S9, then opens as `open_next`.
     fn write_checked(
         &mut self,
         side: Side,
@@ -266,19 +206,27 @@ impl<'t, T: Table> Core<'t, T> {
         ensures err { OnErr result (self.new ≡ self.old) }
     {
         let what = call.signature.destroys();
-        if !self.fits(call.len + following_len(side, what), call.tokens) {
+        // A delete_id follows a destroying event.
+        let following = match (side, what) {
+            (Side::Event, Destroys::Target | Destroys::Arg(_)) => DELETE_ID_LEN,
+            _ => 0,
+        };
+        if !self.fits(call.len + following, call.tokens) {
             return Err(SendError::Full);
         }
-        let new = self.open_new(side, call.makes, call.entry.version)?;
+        let new = match call.makes {
+            Some(iface) => Some(self.open_next(maker_by(side), iface, call.entry.version)?),
+            None => None,
+        };
         let message = CallMessage {
             object: target.id,
             opcode,
             args,
-            new_id: id_of(new),
+            new_id: new.map_or(0, |object| object.id),
             len: call.len,
         };
         self.write_call(&message, call.tokens);
-        self.end_object(side, what, ended_id(what, target.id, args));
+        self.end_object(side, what, target.id, args);
         Ok(new)
     }
 

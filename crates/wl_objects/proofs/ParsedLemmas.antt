@@ -1,118 +1,72 @@
 -- Parsing one argument after another.
-use Rattle.std.proofs.Common.{◌≡◌, ℕ, zero, suc, ◌+◌, ◌<◌, ◌≤◌, Bool, true, false, List, []}
-use Rattle.std.proofs.Common.{◌∷◌, ◌++◌, length, take, drop, get_or, map, Some, None, refl, sym, ap}
-use Rattle.std.proofs.Common.{◌∙◌, arith, add-one, drop-cons, append_assoc, drop-drop}
-use Rattle.std.specs.Prelude.{set, Option, if◌then◌else◌, nat_lt}
+use Rattle.std.proofs.Common.{◌≡◌, ℕ, zero, suc, ◌+◌, ◌-◌, ◌<◌, ◌≤◌, Bool, true, false, List, [], ◌∷◌}
+use Rattle.std.proofs.Common.{◌++◌, length, take, drop, get_or, map, Some, None, refl, sym, ap, ◌∙◌, arith}
+use Rattle.std.proofs.Common.{add-one, drop-cons, append_assoc, drop-drop}
+use Rattle.std.specs.Prelude.{set, Option, if◌then◌else◌}
 use Rattle.std.specs.declared.result.Result.{Result}
 use Rattle.std.specs.declared.result.Result.TheVariants.{Ok, Err}
-use Rattle.std.proofs.lemmas.Bool.{le-ltb}
-use Rattle.std.proofs.lemmas.List.{length-drop, map-append, append-nil, take_more_set}
-use Rattle.wl_wire.specs.Argument.{Argument, Int, Uint, Fixed, Str, Obj, New, NewNamed, Array, Fd}
+use Rattle.std.proofs.lemmas.List.{length-drop, map-append, append-nil, take_all, drop_all, take_more_set}
+use Rattle.wl_wire.specs.Argument.{Argument, lent, Int, Uint, Fixed, Str, Obj, New, NewNamed, Array, Fd}
+use Rattle.wl_wire.specs.declared.kind.ArgFault.{ArgFault}
 use Rattle.wl_wire.specs.declared.kind.Kind.{Kind}
-use Rattle.wl_wire.specs.declared.kind.Kind.TheVariants as kinds
+use Rattle.wl_wire.specs.declared.value.ValueRef.{ValueRef}
+use Rattle.wl_wire.specs.declared.value.ValueRef.TheVariants as spelled_as
 use Rattle.wl_wire.specs.Reading.{reading}
 use Rattle.wl_objects.specs.declared.error.Fault.{Fault}
 use Rattle.wl_objects.specs.declared.parsed.ParsedArg.{ParsedArg}
-use Rattle.wl_objects.specs.declared.parsed.ParsedArg.TheVariants as parsed_as
-use Rattle.wl_objects.specs.Reading.{Reader, Reported, forgiving_kind, unless, value_or_fault, before}
+use Rattle.wl_objects.specs.Reading.{Reader, Reported, forgiving_kind, value_fault, before}
 use Rattle.wl_objects.specs.Reading.{arguments_at, is_descriptor, head_or, reported_argument, reports_of}
 use Rattle.wl_objects.specs.declared.argument.Got.{Got}
 use Rattle.wl_objects.specs.Seen.{got, got_values}
 use Rattle.wl_objects.specs.Parsed.{AreParsed, Both, all_of, all_parsed, parsed_argument, behind_those}
-use Rattle.wl_objects.specs.Parsed.{both, both_of, is_fd, made_of, made_of_one, made_unless}
-use Rattle.wl_objects.specs.Parsed.{place_after, place_behind, reported_in, reported_of, spelled_in}
-use Rattle.wl_objects.specs.Parsed.{token_at, with_token, IsParsedNumber, is_int, is_uint, is_fixed}
+use Rattle.wl_objects.specs.Parsed.{both, both_of, made_of, made_unless, place_after, reported_in}
+use Rattle.wl_objects.specs.Parsed.{reported_of, spelled_in, token_at, with_token}
 
-pub one-ok : (r : Reader) (place n : ℕ) (v : Argument) (f : Option Fault) (x : Both) → Ok x ≡ made_unless r place v f
-    → Ok (x, n) ≡ made_of_one r place (unless f (v, n))
-one-ok r place n v None x e = let same : x ≡ both r place v = cc in λ i. Ok (same i, n)
-one-ok r place n v (Some fault) x e = absurd (cc)
+-- ---- one argument as it is read
 
-pub one-err : (r : Reader) (place n : ℕ) (v : Argument) (f : Option Fault) (fault : Fault)
-    → Err fault ≡ made_unless r place v f → Err fault ≡ made_of_one r place (unless f (v, n))
-one-err r place n v None fault e = absurd (cc)
-one-err r place n v (Some other) fault e = let same : fault ≡ other = cc in λ i. Err (same i)
+-- the bytes from a place on
+pub rest-is : (end : ℕ) (body : List ℕ) → take (length body - end) (drop end body) ≡ drop end body
+rest-is end body = take_all (length body - end) (drop end body) (omega (arith, length-drop end body))
 
--- ---- numbers
+pub read-at : (k asked : Kind) (end : ℕ) (body : List ℕ) (x : Result (Argument × ℕ) ArgFault) → asked ≡ k
+    → x ≡ reading asked (take (length body - end) (drop end body)) → reading k (drop end body) ≡ x
+read-at k asked end body x same e = rw (← same, ← rest-is end body) (sym e)
 
-same-int : (forgives : Bool) → forgiving_kind forgives kinds.Int ≡ kinds.Int
-same-int true = refl
-same-int false = refl
+-- a descriptor takes a token, and nothing else does
+pub after-fd : (value : ValueRef) (place : ℕ) → value ≡ spelled_as.Fd → place + 1 ≡ place_after (lent value) place
+after-fd value place e = rw e refl
 
-same-uint : (forgives : Bool) → forgiving_kind forgives kinds.Uint ≡ kinds.Uint
-same-uint true = refl
-same-uint false = refl
+pub after-other : (value : ValueRef) (place : ℕ) → (value ≡ spelled_as.Fd → ⊥) → place ≡ place_after (lent value) place
+after-other (spelled_as.Int z) place n = refl
+after-other (spelled_as.Uint x) place n = refl
+after-other (spelled_as.Fixed z) place n = refl
+after-other (spelled_as.Str None) place n = refl
+after-other (spelled_as.Str (Some text)) place n = refl
+after-other (spelled_as.Obj id) place n = refl
+after-other (spelled_as.New id) place n = refl
+after-other (spelled_as.NewNamed iface version id) place n = refl
+after-other (spelled_as.Array bytes) place n = refl
+after-other spelled_as.Fd place n = absurd (n refl)
 
-same-fixed : (forgives : Bool) → forgiving_kind forgives kinds.Fixed ≡ kinds.Fixed
-same-fixed true = refl
-same-fixed false = refl
-
--- a number read by the fast path is what the general path reads
-pub number-one : (r q : Reader) (i place birth : ℕ) (k : Kind) (bytes body : List ℕ) (p : ParsedArg)
-    → nat_lt (length bytes) 4 ≡ false → IsParsedNumber k bytes p
-    → Ok (both_of body birth p, 4) ≡ made_of_one r place
-    (value_or_fault q i k (reading (forgiving_kind q.forgives k) bytes))
-number-one r q i place birth k bytes body p long (is_int e) = rw (same-int q.forgives, long, e) refl
-number-one r q i place birth k bytes body p long (is_uint e) = rw (same-uint q.forgives, long, e) refl
-number-one r q i place birth k bytes body p long (is_fixed e) = rw (same-fixed q.forgives, long, e) refl
-
-pub number-long : (start : ℕ) (body : List ℕ) → start + 4 ≤ length body
-    → nat_lt (length (drop start body)) 4 ≡ false
-number-long start body h = le-ltb (length (drop start body)) 4 (rw length-drop (omega (arith, h)))
-
-pub number-place : (k : Kind) (bytes : List ℕ) (p : ParsedArg) (place : ℕ) → IsParsedNumber k bytes p
-    → place_behind p place ≡ place
-number-place k bytes p place (is_int e) = refl
-number-place k bytes p place (is_uint e) = refl
-number-place k bytes p place (is_fixed e) = refl
-
--- ---- descriptors
-
-fd-is : (body : List ℕ) (p : ParsedArg) → is_fd p ≡ is_descriptor (parsed_argument body p)
-fd-is body parsed_as.Null = refl
-fd-is body (parsed_as.Int z) = refl
-fd-is body (parsed_as.Uint n) = refl
-fd-is body (parsed_as.Fixed z) = refl
-fd-is body (parsed_as.Str len start) = refl
-fd-is body (parsed_as.NoObject id) = refl
-fd-is body (parsed_as.Object id birth state) = refl
-fd-is body (parsed_as.New id) = refl
-fd-is body (parsed_as.Bound len start version id) = refl
-fd-is body (parsed_as.Array len start) = refl
-fd-is body (parsed_as.Fd place) = refl
-
-same-place : (body : List ℕ) (p : ParsedArg) (v : Argument) (place : ℕ) → parsed_argument body p ≡ v
-    → place_behind p place ≡ place_after v place
-same-place body p v place e = ap (λ (b : Bool). if b then place + 1 else place)
-    (fd-is body p ∙ ap (λ (x : Argument). is_descriptor x) e)
+pub after-least : (v : Argument) (place i : ℕ) → place ≤ i → place_after v place ≤ i + 1
+after-least v place i h = by (is_descriptor v)
+  where
+    by : (b : Bool) → (if b then place + 1 else place) ≤ i + 1
+    by true = omega (arith, h)
+    by false = omega (arith, h)
 
 -- ---- one step
 
--- the judgement of one argument that was parsed
-abbrev Judged : Reader → ℕ → Both → ℕ → Result (Argument × ℕ) Fault → Type 0
-Judged r place x n y = (v : Argument) × (y ≡ Ok (v, n)) × (x ≡ both r place v)
+-- a value that is not at fault is reported as it is
+judged : (r : Reader) (place : ℕ) (v : Argument) (f : Option Fault) (x : Both) → Ok x ≡ made_unless r place v f
+    → (f ≡ None) × (x ≡ both r place v)
+judged r place v None x e = let same : x ≡ both r place v = cc in (refl, same)
+judged r place v (Some fault) x e = absurd (cc)
 
-abbrev both_in : Both → Result (Both × ℕ) Fault → Both
-both_in x (Err fault) = x
-both_in x (Ok found) = found.0
-
-abbrev len_in : Result (Both × ℕ) Fault → ℕ
-len_in (Err fault) = 0
-len_in (Ok found) = found.1
-
-judged-ok : (r : Reader) (place : ℕ) (x : Both) (n : ℕ) (y : Result (Argument × ℕ) Fault)
-    → Ok (x, n) ≡ made_of_one r place y → Judged r place x n y
-judged-ok r place x n (Err fault) e = absurd (cc)
-judged-ok r place x n (Ok found) e =
-    let len : n ≡ found.1 = ap len_in e in
-    let back : found.1 ≡ n = sym len in
-    let same : x ≡ both r place found.0 = ap (both_in x) e in
-    (found.0, (λ i. Ok (found.0, back i)), same)
-
-judged-err : (r : Reader) (place : ℕ) (fault : Fault) (y : Result (Argument × ℕ) Fault)
-    → Err fault ≡ made_of_one r place y → y ≡ Err fault
-judged-err r place fault (Err other) e = let same : other ≡ fault = cc in λ i. Err (same i)
-judged-err r place fault (Ok found) e = absurd (cc)
+refused : (r : Reader) (place : ℕ) (v : Argument) (f : Option Fault) (fault : Fault)
+    → Err fault ≡ made_unless r place v f → f ≡ Some fault
+refused r place v None fault e = absurd (cc)
+refused r place v (Some other) fault e = let same : other ≡ fault = cc in ap (λ (x : Fault). Some x) same
 
 made-before : (r : Reader) (place : ℕ) (v : Argument) (y : Result (List Argument × List ℕ) Fault)
     → made_of r place (before v y) ≡ behind_those (both r place v ∷ []) (made_of r (place_after v place) y)
@@ -125,56 +79,49 @@ behind-both xs ys (Err fault) = refl
 behind-both xs ys (Ok found) = rw append_assoc refl
 
 -- one more argument
-more : (r q : Reader) (i end n place birth : ℕ) (ks : List Kind) (k : Kind) (body : List ℕ) (items : List ParsedArg)
-    (p : ParsedArg) (v : Argument)
+pub parsed-next : (r q : Reader) (i end n place birth : ℕ) (ks : List Kind) (k : Kind) (body : List ℕ)
+    (items : List ParsedArg) (p : ParsedArg) (v : Argument)
     → i < length ks → i < length items
-    → value_or_fault q i (get_or ks i k) (reading (forgiving_kind q.forgives (get_or ks i k)) (drop end body))
-    ≡ Ok (v, n)
-    → both_of body birth p ≡ both r place v
+    → reading (forgiving_kind q.forgives (get_or ks i k)) (drop end body) ≡ Ok (v, n)
+    → Ok (both_of body birth p) ≡ made_unless r place v (value_fault q i (get_or ks i k) v)
     → behind_those (all_parsed body birth (take (i + 1) (set items i p)))
-    (made_of r (place_behind p place) (arguments_at q (i + 1) (drop (i + 1) ks) (drop (end + n) body)))
+    (made_of r (place_after v place) (arguments_at q (i + 1) (drop (i + 1) ks) (drop (end + n) body)))
     ≡ behind_those (all_parsed body birth (take i items))
     (made_of r place (arguments_at q i (drop i ks) (drop end body)))
-more r q i end n place birth ks k body items p v b s e f =
-    let same : place_behind p place ≡ place_after v place = same-place body p v place (ap (λ (x : Both). x.0) f) in
+parsed-next r q i end n place birth ks k body items p v b s e f =
+    let j = judged r place v (value_fault q i (get_or ks i k) v) (both_of body birth p) f in
+    let right : value_fault q i (get_or ks i k) v ≡ None = j.0 in
+    let same : both_of body birth p ≡ both r place v = j.1 in
     let read : arguments_at q i (drop i ks) (drop end body)
     ≡ before v (arguments_at q (suc i) (drop (suc i) ks) (drop (end + n) body)) =
-    rw (drop-cons ks i k b, e, drop-drop) refl in
+    rw (drop-cons ks i k b, e, right, drop-drop) refl in
     let next : i + 1 ≡ suc i = add-one i in
-    rw (read, made-before, behind-both, take_more_set items i p s, map-append, same, f, next) refl
+    rw (read, made-before, behind-both, take_more_set items i p s, map-append, same, next) refl
 
-pub parsed-next : (r q : Reader) (i end n place birth : ℕ) (ks : List Kind) (k : Kind) (body : List ℕ)
-    (items : List ParsedArg) (p : ParsedArg)
-    → i < length ks → i < length items
-    → Ok (both_of body birth p, n) ≡ made_of_one r place
-    (value_or_fault q i (get_or ks i k) (reading (forgiving_kind q.forgives (get_or ks i k)) (drop end body)))
-    → behind_those (all_parsed body birth (take (i + 1) (set items i p)))
-    (made_of r (place_behind p place) (arguments_at q (i + 1) (drop (i + 1) ks) (drop (end + n) body)))
-    ≡ behind_those (all_parsed body birth (take i items))
-    (made_of r place (arguments_at q i (drop i ks) (drop end body)))
-parsed-next r q i end n place birth ks k body items p b s e =
-    let j = judged-ok r place (both_of body birth p) n
-    (value_or_fault q i (get_or ks i k) (reading (forgiving_kind q.forgives (get_or ks i k)) (drop end body))) e in
-    more r q i end n place birth ks k body items p j.0 b s j.1 j.2
-
-pub parsed-fault : (r q : Reader) (i end place birth : ℕ) (ks : List Kind) (k : Kind) (body : List ℕ)
-    (items : List ParsedArg) (fault : Fault)
+-- an argument whose value is at fault
+pub parsed-fault : (r q : Reader) (i end n place birth : ℕ) (ks : List Kind) (k : Kind) (body : List ℕ)
+    (items : List ParsedArg) (v : Argument) (fault : Fault)
     → i < length ks
-    → Err fault ≡ made_of_one r place (value_or_fault q i (get_or ks i k)
-    (reading (forgiving_kind q.forgives (get_or ks i k)) (drop end body)))
+    → reading (forgiving_kind q.forgives (get_or ks i k)) (drop end body) ≡ Ok (v, n)
+    → Err fault ≡ made_unless r place v (value_fault q i (get_or ks i k) v)
     → Err fault ≡ behind_those (all_parsed body birth (take i items))
     (made_of r place (arguments_at q i (drop i ks) (drop end body)))
-parsed-fault r q i end place birth ks k body items fault b e =
-    let j = judged-err r place fault (value_or_fault q i (get_or ks i k)
-    (reading (forgiving_kind q.forgives (get_or ks i k)) (drop end body))) e in
-    rw (drop-cons ks i k b, j) refl
+parsed-fault r q i end n place birth ks k body items v fault b e f =
+    let wrong = refused r place v (value_fault q i (get_or ks i k) v) fault f in
+    rw (drop-cons ks i k b, e, wrong) refl
 
-pub behind-least : (p : ParsedArg) (place i : ℕ) → place ≤ i → place_behind p place ≤ i + 1
-behind-least p place i h = by (is_fd p)
-  where
-    by : (b : Bool) → (if b then place + 1 else place) ≤ i + 1
-    by true = omega (arith, h)
-    by false = omega (arith, h)
+-- no argument is left
+pub parsed-end : (r q : Reader) (i end place birth : ℕ) (ks : List Kind) (body : List ℕ) (items : List ParsedArg)
+    (x : Result (List Both × List ℕ) Fault)
+    → i ≡ length ks
+    → behind_those (all_parsed body birth (take i items)) (made_of r place (arguments_at q i (drop i ks) (drop end body)))
+    ≡ x
+    → Ok (all_parsed body birth (take (length ks) items), take (length body - end) (drop end body)) ≡ x
+parsed-end r q i end place birth ks body items x at e =
+    let none : drop i ks ≡ [] = drop_all i ks (omega (arith, at)) in
+    let front = all_parsed body birth (take i items) in
+    let whole : Ok (front ++ [], drop end body) ≡ x = rw none at e in
+    rw (← at, rest-is end body) (ap (λ (l : List Both). Ok (l, drop end body)) (sym (append-nil front)) ∙ whole)
 
 -- ---- all of them
 

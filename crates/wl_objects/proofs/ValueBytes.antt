@@ -1,20 +1,15 @@
 -- The bytes of a value follow its first word.
-use Rattle.std.proofs.Common.{◌≡◌, ℕ, ◌+◌, List, [], ◌∷◌, ◌++◌, length, take, drop, refl, sym, subst}
-use Rattle.std.proofs.Common.{Some, None, arith, append_assoc, drop-drop}
-use Rattle.std.specs.Borrow.{Bor}
-use Rattle.std.specs.declared.result.Result.TheVariants.{Ok}
+use Rattle.std.proofs.Common.{◌≡◌, ℕ, ◌+◌, List, [], ◌∷◌, ◌++◌, length, take, drop, sym, subst}
+use Rattle.std.proofs.Common.{arith, append_assoc, drop-drop}
 use Rattle.std.proofs.Math.Seq.{take-append_seam}
 use Rattle.std.proofs.lemmas.List.{take-append-drop}
-use Rattle.wl_wire.specs.Argument.{Argument, lent}
+use Rattle.wl_wire.specs.Argument.{Argument}
 use Rattle.wl_wire.specs.declared.kind.Kind.{Kind}
-use Rattle.wl_wire.specs.declared.value.ValueRef.{ValueRef}
-use Rattle.wl_wire.specs.declared.value.ValueRef.TheVariants as spelled_as
 use Rattle.wl_wire.specs.Word.{word}
 use Rattle.wl_wire.specs.Spelling.{Spells, SpellsText, is_int, is_uint, is_fixed, is_null, is_text}
 use Rattle.wl_wire.specs.Spelling.{is_object, is_new, is_new_by_server, is_named, is_array}
 use Rattle.wl_wire.specs.Spelling.{is_descriptor}
-use Rattle.wl_objects.specs.Reading.{Reader, value_fault}
-use Rattle.wl_objects.specs.Parsed.{body_part, both_of, located, made_unless, Lies, LiesBehind}
+use Rattle.wl_objects.specs.Parsed.{body_part, Lies, LiesBehind}
 
 -- bytes that begin with the text
 behind : (text rest padding more : List ℕ) → rest ≡ (text ++ 0 ∷ []) ++ padding
@@ -54,24 +49,3 @@ read-lies k v n bytes s = subst (λ (b : List ℕ). Lies b v) (take-append-drop 
 pub part-lies : (body text : List ℕ) (start : ℕ) → LiesBehind (drop start body) text
     → body_part body (start + 4) (length text) ≡ text
 part-lies body text start e = sym (subst (λ (b : List ℕ). text ≡ take (length text) b) (drop-drop 4 start body) e.same)
-
--- A value that is neither an object nor a new one depends on its spelling alone.
-pub located-made : (r q : Reader) (body : List ℕ) (start i place : ℕ) (kind : Kind) (value : ValueRef)
-    → Lies (drop start body) (lent value)
-    → ((id : ℕ) → value ≡ spelled_as.Obj id → ⊥) → ((id : ℕ) → value ≡ spelled_as.New id → ⊥)
-    → ((iface : Bor (List ℕ)) (version id : ℕ) → value ≡ spelled_as.NewNamed iface version id → ⊥)
-    → Ok (both_of body r.birth (located (start + 4) place value))
-    ≡ made_unless r place (lent value) (value_fault q i kind (lent value))
-located-made r q body start i place kind (spelled_as.Int z) l o n m = refl
-located-made r q body start i place kind (spelled_as.Uint x) l o n m = refl
-located-made r q body start i place kind (spelled_as.Fixed z) l o n m = refl
-located-made r q body start i place kind (spelled_as.Str None) l o n m = refl
-located-made r q body start i place kind (spelled_as.Str (Some text)) l o n m =
-    rw (part-lies body text.now start l) refl
-located-made r q body start i place kind (spelled_as.Obj id) l o n m = absurd (o id refl)
-located-made r q body start i place kind (spelled_as.New id) l o n m = absurd (n id refl)
-located-made r q body start i place kind (spelled_as.NewNamed iface version id) l o n m =
-    absurd (m iface version id refl)
-located-made r q body start i place kind (spelled_as.Array bytes) l o n m =
-    rw (part-lies body bytes.now start l) refl
-located-made r q body start i place kind spelled_as.Fd l o n m = refl

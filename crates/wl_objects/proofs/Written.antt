@@ -42,12 +42,12 @@ pub fits-next : (id i : ℕ) (args : List Arg) (a : Arg) → i < length args →
 fits-next id i args a p h = rw add-one ((rw (drop-cons args i a p) at h).1)
 
 -- one more argument
-pub written-more : (id i at n k : ℕ) (args : List Arg) (a : Arg) (out x rest : List ℕ) (v : Argument) → i < length args
+pub written-more : (id i at n k : ℕ) (args : List Arg) (a : Arg) (out x rest whole : List ℕ) (v : Argument)
+    → i < length args
     → v ≡ wired id (given_of (get_or args i a)) → n ≡ spelled_len v
-    → x ≡ canonical v ++ rest → at ≤ length out → take at out ++ spelled (on_wire id (drop i args))
-    ≡ spelled (on_wire id args)
-    → take (at + n) (put_mid at k out x) ++ spelled (on_wire id (drop (i + 1) args)) ≡ spelled (on_wire id args)
-written-more id i at n k args a out x rest v p is len spells low before =
+    → x ≡ canonical v ++ rest → at ≤ length out → take at out ++ spelled (on_wire id (drop i args)) ≡ whole
+    → take (at + n) (put_mid at k out x) ++ spelled (on_wire id (drop (i + 1) args)) ≡ whole
+written-more id i at n k args a out x rest whole v p is len spells low before =
     let others = spelled (on_wire id (drop (i + 1) args)) in
     ap (λ l. l ++ others) (written-next at n k out (canonical v) x rest low (canonical-len v ∙ sym len) spells)
     ∙ append_assoc (take at out) (canonical v) others
@@ -56,10 +56,10 @@ written-more id i at n k args a out x rest v p is len spells low before =
     ∙ before
 
 -- all arguments
-pub written-all : (id i at : ℕ) (args : List Arg) (out : List ℕ) → length args ≤ i
+pub written-all : (id i at : ℕ) (args : List Arg) (out whole : List ℕ) → length args ≤ i
     → at + message_len (on_wire id (drop i args)) ≡ length out + 8
-    → take at out ++ spelled (on_wire id (drop i args)) ≡ spelled (on_wire id args) → out ≡ spelled (on_wire id args)
-written-all id i at args out end len before =
+    → take at out ++ spelled (on_wire id (drop i args)) ≡ whole → out ≡ whole
+written-all id i at args out whole end len before =
     let none : drop i args ≡ [] = drop_all i args end in
     let size : at + 8 ≡ length out + 8 = rw none at len in
     let all : take at out ≡ out = take_all at out (omega arith) in

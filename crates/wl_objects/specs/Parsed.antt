@@ -1,17 +1,10 @@
 -- The arguments of a message after parsing: records that borrow nothing and refer to the body by
 -- position.
-use Rattle.std.specs.Prelude.{◌≡◌, ℕ, ℤ, ◌+◌, ◌<◌, ◌^◌, Bool, true, false, if◌then◌else◌, List, []}
-use Rattle.std.specs.Prelude.{◌∷◌, ◌++◌, length, map, take, drop, slice_index_or, Option, Some}
-use Rattle.std.specs.Prelude.{None}
+use Rattle.std.specs.Prelude.{◌≡◌, ℕ, ◌+◌, ◌<◌, ◌^◌, if◌then◌else◌, List, [], ◌∷◌, ◌++◌, length}
+use Rattle.std.specs.Prelude.{map, take, drop, slice_index_or, Option, Some, None}
 use Rattle.std.specs.Borrow.{Bor}
 use Rattle.std.specs.declared.result.Result.{Result}
 use Rattle.std.specs.declared.result.Result.TheVariants.{Ok, Err}
-use Rattle.wl_wire.specs.declared.fixed.Fixed as fixed
-use Rattle.wl_wire.specs.declared.kind.Kind.{Kind}
-use Rattle.wl_wire.specs.declared.kind.Kind.TheVariants as kinds
-use Rattle.wl_wire.specs.declared.value.ValueRef.{ValueRef}
-use Rattle.wl_wire.specs.declared.value.ValueRef.TheVariants as spelled_as
-use Rattle.wl_wire.specs.Word.{number_at, signed}
 use Rattle.wl_wire.specs.Argument.{Argument, units, reshaped, Int, Uint, Fixed, Str, Obj, New}
 use Rattle.wl_wire.specs.Argument.{NewNamed, Array, Fd}
 use Rattle.wl_objects.specs.declared.error.Fault.{Fault}
@@ -124,29 +117,15 @@ abbrev pub made_of : Reader → ℕ → Result (List Argument × List ℕ) Fault
 made_of r place (Err fault) = Err fault
 made_of r place (Ok found) = Ok (all_of r place found.0, found.1)
 
-abbrev pub made_of_one : Reader → ℕ → Result (Argument × ℕ) Fault → Result (Both × ℕ) Fault
-made_of_one r place (Err fault) = Err fault
-made_of_one r place (Ok found) = Ok (both r place found.0, found.1)
-
 abbrev pub made_unless : Reader → ℕ → Argument → Option Fault → Result Both Fault
 made_unless r place value None = Ok (both r place value)
 made_unless r place value (Some fault) = Err fault
-
--- the parsed records, interpreted over the body, and the bytes after them
-abbrev pub parsed_in : List ℕ → ℕ → List ParsedArg → Result ℕ Fault
-    → Result (List Both × List ℕ) Fault
-parsed_in body birth parsed (Err fault) = Err fault
-parsed_in body birth parsed (Ok end) = Ok (all_parsed body birth parsed, drop end body)
 
 -- the parsed records as spelled, and the bytes found after them
 abbrev pub whole_in : List ℕ → List ParsedArg → Result (Bor (List ℕ)) Fault
     → Result (List Argument × List ℕ) Fault
 whole_in body parsed (Err fault) = Err fault
 whole_in body parsed (Ok rest) = Ok (spelled_in body parsed, rest.now)
-
-abbrev pub one_in : List ℕ → ℕ → Result (ParsedArg × ℕ) Fault → Result (Both × ℕ) Fault
-one_in body birth (Err fault) = Err fault
-one_in body birth (Ok found) = Ok (both_of body birth found.0, found.1)
 
 abbrev pub parsed_one : List ℕ → ℕ → Result ParsedArg Fault → Result Both Fault
 parsed_one body birth (Err fault) = Err fault
@@ -157,37 +136,6 @@ abbrev pub behind_those : List Both → Result (List Both × List ℕ) Fault
     → Result (List Both × List ℕ) Fault
 behind_those front (Err fault) = Err fault
 behind_those front (Ok found) = Ok (front ++ found.0, found.1)
-
-abbrev pub is_fd : ParsedArg → Bool
-is_fd (parsed_as.Fd place) = true
-is_fd _ = false
-
-abbrev pub place_behind : ParsedArg → ℕ → ℕ
-place_behind parsed place = if is_fd parsed then place + 1 else place
-
--- a value by its position, from its spelling alone: its text starts at `start`, and `place`
--- descriptors come before it
-abbrev pub located : ℕ → ℕ → ValueRef → ParsedArg
-located start place (spelled_as.Int z) = parsed_as.Int z
-located start place (spelled_as.Uint n) = parsed_as.Uint n
-located start place (spelled_as.Fixed z) = parsed_as.Fixed z
-located start place (spelled_as.Str None) = parsed_as.Null
-located start place (spelled_as.Str (Some text)) = parsed_as.Str (length text.now) start
-located start place (spelled_as.Obj id) = parsed_as.NoObject id
-located start place (spelled_as.New id) = parsed_as.New id
-located start place (spelled_as.NewNamed iface version id) =
-    parsed_as.Bound (length iface.now) start version id
-located start place (spelled_as.Array bytes) = parsed_as.Array (length bytes.now) start
-located start place spelled_as.Fd = parsed_as.Fd place
-
--- a number's record, for a kind and the first four bytes
-pub data IsParsedNumber : Kind → List ℕ → ParsedArg → Type 0 where
-  is_int : {z : ℤ} {bytes : List ℕ} → z ≡ signed (number_at bytes)
-      → IsParsedNumber kinds.Int bytes (parsed_as.Int z)
-  is_uint : {n : ℕ} {bytes : List ℕ} → n ≡ number_at bytes
-      → IsParsedNumber kinds.Uint bytes (parsed_as.Uint n)
-  is_fixed : {z : fixed.Fixed} {bytes : List ℕ} → units z ≡ signed (number_at bytes)
-      → IsParsedNumber kinds.Fixed bytes (parsed_as.Fixed z)
 
 -- the bytes of a text follow the first word
 pub record LiesBehind (bytes text : List ℕ) : Type 0 where

@@ -3,7 +3,7 @@ ghost use Rattle.std.specs.Prelude.{◌≡◌, ◌≢◌, ◌↔◌, IsTrue, [],
 ghost use Rattle.std.specs.Prelude.{length};
 ghost use Rattle.wl_objects.specs.Reading.{in_state};
 ghost use Rattle.wl_objects.specs.Seen.{got};
-ghost use Rattle.wl_objects.specs.Parsed.{lent_got, reported_in, reported_of, seen_args, token_at};
+ghost use Rattle.wl_objects.specs.Parsed.{lent_got, reported_in, seen_args, token_at};
 
 use crate::argument::{Got, GotRef, Named};
 use crate::parsed::{ParsedArg, ParsedArgs, part};
@@ -60,7 +60,33 @@ impl<'a> Args<'a> {
     {
         let (parsed, left) = self.left.split_first()?;
         self.left = left;
-        Some(got_of(self.body, self.birth, self.tokens, *parsed))
+        let birth = self.birth;
+        Some(match *parsed {
+            ParsedArg::Null => GotRef::Str(None),
+            ParsedArg::Int(number) => GotRef::Int(number),
+            ParsedArg::Uint(number) => GotRef::Uint(number),
+            ParsedArg::Fixed(number) => GotRef::Fixed(number),
+            ParsedArg::Str { len, start } => {
+                GotRef::Str(Some(part(self.body, start, len as usize)))
+            }
+            ParsedArg::NoObject { .. } => GotRef::Obj(Named::Null),
+            ParsedArg::Object { id, birth, state } => {
+                GotRef::Obj(in_state(state, Object { id, birth }))
+            }
+            ParsedArg::New { id } => GotRef::New(Object { id, birth }),
+            ParsedArg::Bound {
+                len,
+                start,
+                version,
+                id,
+            } => GotRef::Bound {
+                iface: part(self.body, start, len as usize),
+                version,
+                object: Object { id, birth },
+            },
+            ParsedArg::Array { len, start } => GotRef::Array(part(self.body, start, len as usize)),
+            ParsedArg::Fd { place } => GotRef::Fd(token_at(self.tokens, place)),
+        })
     }
 }
 
@@ -108,37 +134,6 @@ fn owned<A: Allocator + Clone + Drop>(alloc: &A, argument: GotRef<'_>) -> Result
         }),
         GotRef::Array(bytes) => Ok(Got::Array(Bytes::copy_of(alloc.clone()?, bytes)?)),
         GotRef::Fd(token) => Ok(Got::Fd(token)),
-    }
-}
-
-/// One argument as reported.
-fn got_of<'a>(body: &'a [u8], birth: u64, tokens: &[u32], parsed: ParsedArg) -> GotRef<'a>
-    ensures { lent_got result ≡ reported_of body.now birth tokens.now parsed }
-{
-    match parsed {
-        ParsedArg::Null => GotRef::Str(None),
-        ParsedArg::Int(number) => GotRef::Int(number),
-        ParsedArg::Uint(number) => GotRef::Uint(number),
-        ParsedArg::Fixed(number) => GotRef::Fixed(number),
-        ParsedArg::Str { len, start } => GotRef::Str(Some(part(body, start, len as usize))),
-        ParsedArg::NoObject { .. } => GotRef::Obj(Named::Null),
-        ParsedArg::Object { id, birth, state } => GotRef::Obj(in_state(
-            state,
-            Object { id, birth },
-        )),
-        ParsedArg::New { id } => GotRef::New(Object { id, birth }),
-        ParsedArg::Bound {
-            len,
-            start,
-            version,
-            id,
-        } => GotRef::Bound {
-            iface: part(body, start, len as usize),
-            version,
-            object: Object { id, birth },
-        },
-        ParsedArg::Array { len, start } => GotRef::Array(part(body, start, len as usize)),
-        ParsedArg::Fd { place } => GotRef::Fd(token_at(tokens, place)),
     }
 }
 

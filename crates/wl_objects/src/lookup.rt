@@ -1,7 +1,5 @@
 //! What a reader of messages knows of objects and ids.
-ghost use Rattle.std.specs.Prelude.{◌≡◌, List};
-ghost use Rattle.wl_sigs.specs.Side.{Side};
-ghost use Rattle.wl_sigs.specs.Tables.{Interface};
+ghost use Rattle.std.specs.Prelude.{◌≡◌};
 ghost use Rattle.wl_objects.specs.Reading.{Reader};
 ghost use Rattle.wl_objects.specs.Messages.{server_may_use, reader_of, waits_for_request};
 
@@ -20,22 +18,10 @@ pub enum NewId {
     TooMany,
 }
 
-/// What the reading of a message asks for: the tables and the side that writes the message, the
-/// object with an id, and whether an id can be a new object's.
+/// What the reading of a message asks for: the object with an id, and whether an id can be a new
+/// object's.
 pub trait Lookup {
-    ghost tables: { Self → List Interface };
-
-    ghost side: { Self → Side };
-
     ghost reader: { Self → Reader };
-
-    /// The tables.
-    fn tables(&self) -> &Tables
-        ensures { result.now ≡ tables self.now };
-
-    /// The side that writes the message.
-    fn side(&self) -> Side
-        ensures { result ≡ side self.now };
 
     /// The object with this id.
     fn object(&self, id: u32) -> Option<Entry>
@@ -54,24 +40,13 @@ pub trait Lookup {
 #[derive(Drop)]
 pub struct ObjectsLookup<'a, T: Table> {
     pub tables: &'a Tables,
+    /// The side that writes the messages, and so makes the new objects. Only contracts read it.
     pub side: Side,
     pub objects: &'a Objects<T>,
 }
 
 impl<'a, T: Table> Lookup for ObjectsLookup<'a, T> {
-    ghost tables = { λ held. held.tables.now };
-
-    ghost side = { λ held. held.side };
-
     ghost reader = { λ held. reader_of held.tables.now held.side held.objects.now };
-
-    fn tables(&self) -> &Tables {
-        self.tables
-    }
-
-    fn side(&self) -> Side {
-        self.side
-    }
 
     fn object(&self, id: u32) -> Option<Entry> {
         self.objects.look(id)

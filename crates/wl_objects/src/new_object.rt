@@ -2,9 +2,11 @@
 ghost use Rattle.std.specs.Prelude.{◌≡◌};
 ghost use Rattle.wl_wire.specs.Argument.{lent};
 ghost use Rattle.wl_objects.specs.Messages.{made, made_by};
+ghost use Rattle.wl_objects.specs.Seen.{received_of};
 
+use crate::reading::Received;
 use crate::values::Values;
-use wl_sigs::{Signature, Tables, is_new_object};
+use wl_sigs::{Tables, is_new_object};
 use wl_wire::{Iface, Kind, ValueRef};
 
 /// A new object: its id, its interface and its version.
@@ -15,22 +17,20 @@ pub struct NewObject {
     pub version: u32,
 }
 
-/// The object that a message makes, if it makes one, given the target's version: with the
-/// signature's interface and the target's version, or with those that a bind names.
+/// The object that a message makes, if it makes one: with the signature's interface and the
+/// target's version, or with those that a bind names.
 #[inline(always)]
-pub fn made_by_message(
-    tables: &Tables,
-    version: u32,
-    signature: &Signature,
-    values: &Values<'_>,
-) -> Option<NewObject>
-    ensures { result ≡ made tables.now version signature.now.kinds values.now }
+pub fn made_by_message(tables: &Tables, message: &Received<'_, '_>) -> Option<NewObject>
+    ensures { result ≡ made tables.now message.now.entry.version
+        message.now.signature.now.kinds (received_of message.now).values }
 {
+    let signature = message.signature;
     // Fast path: most messages make nothing.
     if !signature.has_new_object() {
         return None;
     }
-    made_among(tables, version, signature.kinds(), values)
+    let values = message.values();
+    made_among(tables, message.entry.version, signature.kinds(), &values)
 }
 
 /// The object that one of a message's arguments makes, if one does.

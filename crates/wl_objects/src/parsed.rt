@@ -1,15 +1,12 @@
 //! The arguments of a message, parsed once.
-ghost use Rattle.std.specs.Prelude.{◌≡◌, ◌≤◌, ◌+◌, ℕ, List, [], IfOk, IfSome, drop, length};
-ghost use Rattle.std.specs.Prelude.{option_map, slice_get, take};
+ghost use Rattle.std.specs.Prelude.{◌≡◌, ◌≤◌, ℕ, List, [], IfOk, drop, length};
+ghost use Rattle.std.specs.Prelude.{option_map, slice_get};
 ghost use Rattle.wl_wire.specs.Argument.{Obj, lent};
-ghost use Rattle.wl_wire.specs.Reading.{reading};
 ghost use Rattle.wl_sigs.specs.Tables.{max_args};
-ghost use Rattle.wl_objects.specs.Reading.{arguments_at, forgiving, value_or_fault, forgiving_kind};
-ghost use Rattle.wl_objects.specs.Reading.{named, object_fault, value_fault};
-ghost use Rattle.wl_objects.specs.Parsed.{AreParsed, Lies, parsed_argument, made_of, made_of_one};
-ghost use Rattle.wl_objects.specs.Parsed.{made_unless, parsed_object, one_in, parsed_in};
-ghost use Rattle.wl_objects.specs.Parsed.{parsed_one, body_part, located, IsParsedNumber};
-ghost use Rattle.wl_objects.specs.Parsed.{place_behind, placed_of, spelled_in, whole_in};
+ghost use Rattle.wl_objects.specs.Reading.{arguments_at, forgiving, named, value_fault};
+ghost use Rattle.wl_objects.specs.Parsed.{AreParsed, Lies, parsed_argument, made_unless};
+ghost use Rattle.wl_objects.specs.Parsed.{parsed_object, parsed_one, body_part, placed_of};
+ghost use Rattle.wl_objects.specs.Parsed.{spelled_in, whole_in};
 
 use crate::args::in_state;
 use crate::argument::Named;
@@ -202,70 +199,25 @@ impl<'a, L: Lookup> Parser<'a, L> {
             (λ _. AreParsed (L.reader self.now.lookup.now) self.now.body.now args.new
             (spelled_in self.now.body.now args.new)) }
     {
-        match self.parse(kinds, &mut args.items) {
-            Ok(end) => {
-                args.count = kinds.len();
-                Ok(bytes_from(self.body, end))
-            }
-            Err(fault) => Err(fault),
-        }
-    }
-
-    /// Parses the arguments at the front of the body into the front of an array, and returns where
-    /// they end.
-    #[inline(always)]
-    fn parse(&self, kinds: &[Kind], items: &mut [ParsedArg; MAX_ARGS]) -> Result<usize, Fault>
-        requires few { length kinds.now ≤ max_args }
-        ensures end { IfOk result (λ end. end ≤ length self.now.body.now) }
-        ensures parsed { parsed_in self.now.body.now (L.reader self.now.lookup.now).birth
-            (take (length kinds.now) items.new) result
-            ≡ made_of (L.reader self.now.lookup.now) 0
-            (arguments_at (forgiving self.now.forgives (L.reader self.now.lookup.now)) 0 kinds.now
-            self.now.body.now) }
-    {
         let mut end = 0;
         let mut descriptors = 0;
         'kinds: for (place, kind) in kinds.iter().enumerate() {
-            if let Some(number) = read_number(*kind, self.body, end) {
-                items[place] = number;
-                end += 4;
-                continue;
+            let read_as = match *kind {
+                Kind::Obj { iface, .. } if self.forgives => Kind::Obj { null: true, iface },
+                kind => kind,
+            };
+            let (value, len) = match read_ref(read_as, &self.body[end..]) {
+                Ok(found) => found,
+                Err(fault) => return Err(Fault::BadArgument(place, fault)),
+            };
+            args.items[place] = self.resolve(place, *kind, end, descriptors, value)?;
+            if let ValueRef::Fd = value {
+                descriptors += 1;
             }
-            match self.parse_at(place, *kind, end, descriptors) {
-                Ok((parsed, len)) => {
-                    descriptors = place_behind(parsed, descriptors);
-                    items[place] = parsed;
-                    end += len;
-                }
-                Err(fault) => return Err(fault),
-            }
+            end += len;
         }
-        Ok(end)
-    }
-
-    /// The argument that starts here, with its length; `descriptors` come before it.
-    #[inline(always)]
-    fn parse_at(
-        &self,
-        place: usize,
-        kind: Kind,
-        start: usize,
-        descriptors: usize,
-    ) -> Result<(ParsedArg, usize), Fault>
-        requires start { start ≤ length self.now.body.now }
-        ensures one { one_in self.now.body.now (L.reader self.now.lookup.now).birth result
-            ≡ made_of_one (L.reader self.now.lookup.now) descriptors
-            (value_or_fault (forgiving self.now.forgives (L.reader self.now.lookup.now)) place kind
-            (reading (forgiving_kind self.now.forgives kind) (drop start self.now.body.now))) }
-        ensures end { IfOk result (λ found. start + found.1 ≤ length self.now.body.now) }
-    {
-        match read_ref(kind_at(self.forgives, kind), bytes_from(self.body, start)) {
-            Ok((value, len)) => match self.resolve(place, kind, start, descriptors, value) {
-                Ok(parsed) => Ok((parsed, len)),
-                Err(fault) => Err(fault),
-            },
-            Err(fault) => Err(Fault::BadArgument(place, fault)),
-        }
+        args.count = kinds.len();
+        Ok(&self.body[end..])
     }
 
     /// Judges a value whose spelling starts here, and keeps its position.
@@ -286,109 +238,52 @@ impl<'a, L: Lookup> Parser<'a, L> {
     {
         let text = start + 4;
         match value {
-            ValueRef::Obj(id) => {
-                if id == 0 {
-                    return Ok(located(value, text, descriptors));
-                }
-                let entry = self.lookup.object(id);
-                if !self.forgives {
-                    if let Some(fault) = object_fault(place, iface_of(kind), entry) {
-                        return Err(fault);
-                    }
-                }
-                Ok(object_of(id, entry))
-            }
+            ValueRef::Int(number) => Ok(ParsedArg::Int(number)),
+            ValueRef::Uint(number) => Ok(ParsedArg::Uint(number)),
+            ValueRef::Fixed(number) => Ok(ParsedArg::Fixed(number)),
+            ValueRef::Str(None) => Ok(ParsedArg::Null),
+            ValueRef::Str(Some(string)) => Ok(ParsedArg::Str {
+                len: string.len() as u32,
+                start: text,
+            }),
+            ValueRef::Obj(id) => self.resolve_object(place, kind, id),
             ValueRef::New(id) => {
-                if let Some(fault) = new_fault(place, new_id_as(self.lookup, kind, id)) {
-                    return Err(fault);
-                }
-                Ok(located(value, text, descriptors))
+                new_fault(place, new_id_as(self.lookup, kind, id))?;
+                Ok(ParsedArg::New { id })
             }
-            ValueRef::NewNamed { id, .. } => {
-                if let Some(fault) = new_fault(place, self.lookup.new_id(id)) {
-                    return Err(fault);
-                }
-                Ok(located(value, text, descriptors))
+            ValueRef::NewNamed { iface, version, id } => {
+                new_fault(place, self.lookup.new_id(id))?;
+                Ok(ParsedArg::Bound {
+                    len: iface.len() as u32,
+                    start: text,
+                    version,
+                    id,
+                })
             }
-            _ => Ok(located(value, text, descriptors)),
+            ValueRef::Array(bytes) => Ok(ParsedArg::Array {
+                len: bytes.len() as u32,
+                start: text,
+            }),
+            ValueRef::Fd => Ok(ParsedArg::Fd { place: descriptors }),
         }
     }
-}
 
-/// The argument that starts here, if its kind is a number's and its four bytes are there.
-#[inline(always)]
-fn read_number(kind: Kind, body: &[u8], start: usize) -> Option<ParsedArg>
-    requires { start ≤ length body.now }
-    ensures { IfSome result (λ number. (start + 4 ≤ length body.now)
-        × IsParsedNumber kind (drop start body.now) number) }
-{
-    match kind {
-        Kind::Int | Kind::Uint | Kind::Fixed => match read_ref(kind, bytes_from(body, start)) {
-            Ok((value, _)) => Some(located(value, start, 0)),
-            Err(_) => None,
-        },
-        _ => None,
-    }
-}
-
-/// A value by its position, from its spelling alone: its text, if it has one, starts at `text`, and
-/// `descriptors` come before it in the message.
-#[inline(always)]
-fn located(value: ValueRef<'_>, text: usize, descriptors: usize) -> ParsedArg
-    requires { (bytes : List ℕ) × Lies bytes (lent value) }
-    ensures { result ≡ located text descriptors value.entry }
-{
-    match value {
-        ValueRef::Int(number) => ParsedArg::Int(number),
-        ValueRef::Uint(number) => ParsedArg::Uint(number),
-        ValueRef::Fixed(number) => ParsedArg::Fixed(number),
-        ValueRef::Str(None) => ParsedArg::Null,
-        ValueRef::Str(Some(string)) => ParsedArg::Str {
-            len: string.len() as u32,
-            start: text,
-        },
-        ValueRef::Obj(id) => ParsedArg::NoObject { id },
-        ValueRef::New(id) => ParsedArg::New { id },
-        ValueRef::NewNamed { iface, version, id } => ParsedArg::Bound {
-            len: iface.len() as u32,
-            start: text,
-            version,
-            id,
-        },
-        ValueRef::Array(bytes) => ParsedArg::Array {
-            len: bytes.len() as u32,
-            start: text,
-        },
-        ValueRef::Fd => ParsedArg::Fd { place: descriptors },
-    }
-}
-
-/// How many descriptors come before what follows an argument.
-fn place_behind(parsed: ParsedArg, place: usize) -> usize
-    requires { place ≤ max_args }
-    ensures { result ≡ place_behind parsed place }
-{
-    match parsed {
-        ParsedArg::Fd { .. } => place + 1,
-        _ => place,
-    }
-}
-
-/// The bytes from `start` on.
-fn bytes_from(bytes: &[u8], start: usize) -> &[u8]
-    requires { start ≤ length bytes.now }
-    ensures { result.now ≡ drop start bytes.now }
-{
-    &bytes[start..]
-}
-
-/// The kind as a reader takes it: if the reader forgives, an object may be null.
-fn kind_at(forgives: bool, kind: Kind) -> Kind
-    ensures { result ≡ forgiving_kind forgives kind }
-{
-    match kind {
-        Kind::Obj { iface, .. } if forgives => Kind::Obj { null: true, iface },
-        _ => kind,
+    /// Judges an object argument, and keeps the object's entry.
+    fn resolve_object(&self, place: usize, kind: Kind, id: u32) -> Result<ParsedArg, Fault>
+        ensures { (descriptors : ℕ)
+            → parsed_one self.now.body.now (L.reader self.now.lookup.now).birth result
+            ≡ made_unless (L.reader self.now.lookup.now) descriptors (Obj id)
+            (value_fault (forgiving self.now.forgives (L.reader self.now.lookup.now)) place kind
+            (Obj id)) }
+    {
+        if id == 0 {
+            return Ok(ParsedArg::NoObject { id });
+        }
+        let entry = self.lookup.object(id);
+        if !self.forgives {
+            object_fault(place, iface_of(kind), entry)?;
+        }
+        Ok(object_of(id, entry))
     }
 }
 

@@ -2,6 +2,7 @@
 ghost use Rattle.std.specs.Prelude.{◌≡◌, IfOk};
 ghost use Rattle.std.specs.Borrow.{sem};
 ghost use Rattle.std.specs.Io.BufRead.{Rests};
+ghost use Rattle.std.specs.Result.{result_err};
 ghost use Rattle.wl_wire.specs.Word.{IsHeader};
 ghost use Rattle.wl_sigs.specs.Valid.{Valid};
 ghost use Rattle.wl_sigs.specs.Tables.{descriptors};
@@ -14,7 +15,7 @@ ghost use Rattle.wl_objects.specs.contracts.parsed.ParsedArgs.{the_row};
 
 use crate::error::Fault;
 use crate::lookup::{Lookup, NewId};
-use crate::messages::is_error;
+use crate::messages::{SideTables, is_error};
 use crate::parsed::{ParsedArgs, Parser};
 use crate::values::Values;
 use wl_object_map::{Entry, Object};
@@ -49,35 +50,36 @@ impl<'t, 'a> Received<'t, 'a> {
     }
 }
 
-/// Reads one whole message while this number of tokens waits, for anything that knows the tables,
-/// the side that writes it, the objects and the ids. Its arguments are parsed over those of the
-/// message before, and borrowed from there. Allocates nothing.
+/// Reads one whole message of the writer's side while this number of tokens waits, for anything
+/// that knows the objects and the ids. Its arguments are parsed over those of the message before,
+/// and borrowed from there. Allocates nothing.
 ///
 /// Returns the first fault: F2; F3; for each argument from the left F4, F5, F6, F10; then F7 and
 /// F8. An object may be a zombie. In wl_display.error the object may be null or unknown.
 #[inline(always)]
-pub fn receive<'t: 'a, 'a, L: Lookup>(
+pub fn receive<'t, 'a, L: Lookup>(
     args: &'a mut ParsedArgs,
-    lookup: &'t L,
+    writer: SideTables<'t>,
+    lookup: &L,
     header: Header,
     body: &'a [u8],
     waiting: usize,
 ) -> Result<Received<'t, 'a>, Fault>
     ensures* kept { sem 𝓛 (Rests the_row args.entry
         (λ after. IfOk result (λ m. after ≡ m.args.now))) }
-    ensures answer { received_in result ≡ received (L.tables lookup.now) (L.side lookup.now)
+    ensures answer { received_in result ≡ received writer.entry.tables.now writer.entry.side
         (L.reader lookup.now) header body.now waiting }
     ensures args { IfOk result
         (λ m. AreParsed (L.reader lookup.now) body.now m.args.now (received_of m).values) }
     ensures body { IfOk result (λ m. m.body.now ≡ body.now) }
     ensures tokens { IfOk result (λ m. m.tokens ≡ descriptors m.signature.now.kinds) }
     ensures error { IfOk result (λ m. m.is_error
-        ≡ is_error (L.side lookup.now) m.entry.iface header.opcode) }
+        ≡ is_error writer.entry.side m.entry.iface header.opcode) }
     // Always true; known here because the tables were read and the header was given.
-    ensures valid { IfOk result (λ _. Valid (L.tables lookup.now)) }
+    ensures valid { IfOk result (λ _. Valid writer.entry.tables.now) }
     ensures header { IsHeader header }
 {
-    let (tables, side) = (lookup.tables(), lookup.side());
+    let SideTables { tables, side } = writer;
     let entry = match lookup.object(header.object) {
         Some(entry) => entry,
         None => return Err(Fault::UnknownObject),
@@ -128,17 +130,18 @@ pub(crate) fn iface_of(kind: Kind) -> Option<Iface>
     }
 }
 
+/// The fault of an object argument that must have this interface, if it has one.
 pub(crate) fn object_fault(
     place: usize,
     iface: Option<Iface>,
     entry: Option<Entry>,
-) -> Option<Fault>
-    ensures { result ≡ object_fault place iface entry }
+) -> Result<(), Fault>
+    ensures { result_err result ≡ object_fault place iface entry }
 {
     match (iface, entry) {
-        (None, Some(_)) => None,
-        (Some(iface), Some(entry)) if iface == entry.iface => None,
-        _ => Some(Fault::BadObject(place)),
+        (None, Some(_)) => Ok(()),
+        (Some(iface), Some(entry)) if iface == entry.iface => Ok(()),
+        _ => Err(Fault::BadObject(place)),
     }
 }
 
@@ -153,12 +156,13 @@ pub(crate) fn new_id_as<L: Lookup>(lookup: &L, kind: Kind, id: u32) -> NewId
     }
 }
 
-pub(crate) fn new_fault(place: usize, id: NewId) -> Option<Fault>
-    ensures { result ≡ new_fault place id }
+/// The fault of a new object's id, if it has one.
+pub(crate) fn new_fault(place: usize, id: NewId) -> Result<(), Fault>
+    ensures { result_err result ≡ new_fault place id }
 {
     match id {
-        NewId::Free => None,
-        NewId::Wrong => Some(Fault::BadNewId(place)),
-        NewId::TooMany => Some(Fault::TooManyObjects),
+        NewId::Free => Ok(()),
+        NewId::Wrong => Err(Fault::BadNewId(place)),
+        NewId::TooMany => Err(Fault::TooManyObjects),
     }
 }

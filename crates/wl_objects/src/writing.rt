@@ -4,7 +4,7 @@ ghost use Rattle.wl_wire.specs.Argument.{lent, NewNamed};
 ghost use Rattle.wl_wire.specs.Word.{header_bytes};
 ghost use Rattle.wl_sigs.specs.Tables.{max_args};
 ghost use Rattle.wl_objects.specs.Writing.{given, given_of, wired, on_wire, message_len};
-ghost use Rattle.wl_objects.specs.Writing.{message_bytes, tokens_of, spelled, call_message};
+ghost use Rattle.wl_objects.specs.Writing.{message_bytes, tokens_of, call_message};
 ghost use Rattle.wl_objects.specs.Writing.{BindFits, CallFits, EachFits, values_of_bind};
 
 use crate::argument::Arg;
@@ -81,7 +81,10 @@ impl<'a> Encode for CallMessage<'a> {
     #[inline(always)]
     fn encode(&self, out: &mut [u8]) {
         write_header(out, self.object, self.len, self.opcode);
-        write_args(&mut out[HEADER_LEN..], self.args, self.new_id);
+        let mut at = HEADER_LEN;
+        'arguments: for arg in self.args {
+            at += write_value(wired(arg, self.new_id), &mut out[at..]);
+        }
     }
 }
 
@@ -150,19 +153,6 @@ fn write_header(out: &mut [u8], object: u32, size: usize, opcode: u16)
         opcode,
     };
     out[..HEADER_LEN].copy_from_slice(&header.to_bytes());
-}
-
-/// Writes arguments over these bytes, which are exactly as long.
-#[inline(always)]
-fn write_args(out: &mut [u8], args: &[Arg<'_>], new_id: u32)
-    requires fits { EachFits (on_wire new_id args.now) }
-    requires len { length out.old + 8 ≡ message_len (on_wire new_id args.now) }
-    ensures { out.new ≡ spelled (on_wire new_id args.now) }
-{
-    let mut at = 0;
-    'arguments: for arg in args {
-        at += write_value(wired(arg, new_id), &mut out[at..]);
-    }
 }
 
 /// Writes the tokens of a call, in order, and returns their number.

@@ -42,7 +42,7 @@ pub(crate) fn change_of(tables: &Tables, message: &Received<'_, '_>) -> Change
 {
     let signature = message.signature;
     Change {
-        made: made_by_message(tables, message.entry.version, signature, &message.values()),
+        made: made_by_message(tables, message),
         ended: ended_by(signature.destroys(), message.target, message.args),
     }
 }

@@ -5,7 +5,8 @@ ghost use Rattle.wl_server.specs.Steps.{outlined};
 
 use crate::report::{OwnedRequest, Request};
 use std::alloc::{AllocError, Allocator};
-use wl_objects::{Args, Object, ParsedArgs};
+use wl_connection::Endpoint;
+use wl_objects::{Args, Object, ParsedArgs, Table};
 
 /// The report of a request. Its arguments and tokens are added when the report is borrowed or
 /// copied.
@@ -18,15 +19,13 @@ pub(crate) struct Outline {
 }
 
 impl Outline {
-    /// The report of a request, borrowing these arguments, this body and these tokens.
-    pub(crate) fn lend<'a>(
-        &self,
-        args: &'a ParsedArgs,
-        body: &'a [u8],
-        tokens: &'a [u32],
-    ) -> Request<'a>
-        ensures { lent_report result ≡ outlined body.now args.now tokens.now self.now }
+    /// The report of the request that was taken last, borrowing from the end that took it.
+    pub(crate) fn lend<'a, T: Table>(&self, end: &'a Endpoint<'_, T>) -> Request<'a>
+        ensures { lent_report result ≡ outlined end.now.core.inbox.last end.now.args
+            end.now.core.inbox.last_tokens self.now }
     {
+        let Endpoint { core, args } = end;
+        let (body, tokens) = (core.inbox.last(), core.inbox.last_tokens());
         Request {
             target: self.target,
             opcode: self.opcode,

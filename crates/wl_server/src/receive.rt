@@ -6,15 +6,13 @@ ghost use Rattle.wl_object_map.specs.Objects.{look};
 ghost use Rattle.wl_connection.specs.Outcomes.{unless_memory};
 ghost use Rattle.wl_connection.specs.Roles.{IsLentNext};
 ghost use Rattle.wl_server.specs.Requests.{after_next, server_role, IsServerNext};
-ghost use Rattle.wl_server.specs.Seen.{lent_in, lent_report, lent_request_in, report_in};
+ghost use Rattle.wl_server.specs.Seen.{lent_in, lent_request_in, report_in};
 ghost use Rattle.wl_server.specs.Seen.{request_in};
-ghost use Rattle.wl_server.specs.Steps.{taken_report};
 ghost use Rattle.wl_server.specs.Lent.{server_row};
 
-use crate::pending::PendingRequest;
 use crate::report::{OwnedRequest, OwnedRequestWithEntry, Request, RequestWithEntry};
 use crate::server::Server;
-use wl_connection::{Endpoint, read, read_owned};
+use wl_connection::{read, read_owned};
 use wl_objects::{NextError, Table};
 
 impl<'t, T: Table> Server<'t, T> {
@@ -34,7 +32,7 @@ impl<'t, T: Table> Server<'t, T> {
         ensures answer { IsLentNext server_role self.old (lent_in result) }
     {
         match read(&mut self.end, &mut self.role)? {
-            Some(request) => Ok(Some(lend(&self.end, request))),
+            Some(request) => Ok(Some(request.outline.lend(&self.end))),
             None => Ok(None),
         }
     }
@@ -52,7 +50,7 @@ impl<'t, T: Table> Server<'t, T> {
     {
         match read(&mut self.end, &mut self.role)? {
             Some(request) => Ok(Some(RequestWithEntry {
-                request: lend(&self.end, request),
+                request: request.outline.lend(&self.end),
                 entry: request.entry,
             })),
             None => Ok(None),
@@ -91,15 +89,4 @@ impl<'t, T: Table> Server<'t, T> {
             None => Ok(None),
         }
     }
-}
-
-/// The report of the request that was taken last.
-fn lend<'a, T: Table>(end: &'a Endpoint<'_, T>, request: PendingRequest) -> Request<'a>
-    ensures { lent_report result ≡ taken_report end.now.core end.now.args request }
-{
-    request.outline.lend(
-        &end.args,
-        end.core.inbox.last(),
-        end.core.inbox.last_tokens(),
-    )
 }

@@ -9,7 +9,7 @@ use crate::argument::{LineArgument, named_interface, write_placed};
 use crate::sink::Sink;
 use crate::text::{name_of, write_head};
 use std::alloc::{AllocError, Allocator};
-use wl_objects::{Lookup, Received, Values};
+use wl_objects::{Lookup, Received, SideTables, Values};
 use wl_sigs::Tables;
 use wl_wire::{Iface, Kind, ValueRef};
 
@@ -20,16 +20,17 @@ use wl_wire::{Iface, Kind, ValueRef};
 /// is printed as `taken + 1`. Without memory, a part of the line may have been appended.
 pub fn write_line<A: Allocator, L: Lookup>(
     out: &mut Vec<u8, A>,
+    writer: SideTables<'_>,
     lookup: &L,
     message: &Received<'_, '_>,
     taken: u128,
 ) -> Result<(), AllocError>
     requires { taken < 2 ^ 127 }
     ensures { OnOk result (out.new.items ≡ out.old.items
-        ++ line (L.tables lookup.now) (L.side lookup.now) (L.reader lookup.now).object
+        ++ line writer.entry.tables.now writer.entry.side (L.reader lookup.now).object
         (received_of message.now) taken) }
 {
-    let (tables, side) = (lookup.tables(), lookup.side());
+    let SideTables { tables, side } = writer;
     let signature = message.signature;
     let interface = name_of(tables, message.entry.iface);
     write_head(out, side, interface, message.target.id, signature.name())?;

@@ -3,7 +3,6 @@ use Rattle.std.specs.declared.result.Result.TheVariants.{Ok}
 use Rattle.wl_objects.specs.declared.error.Fault.TheVariants.{BadBind}
 use Rattle.wl_objects.specs.Seen.{received_of, received_in}
 use Rattle.wl_trace_line.specs.Line.{line}
-use Rattle.wl_check.specs.Changes.{side_of}
 use Rattle.wl_check.specs.Rules.{called, reader_by}
 use Rattle.wl_check.specs.Trace.{wanted}
 use Rattle.wl_check.specs.Seen.{call_of, known_in}
@@ -15,9 +14,9 @@ pub returns-in-Err-clause-changes : goal.returns-in-Err-clause-changes
 returns-in-Err-clause-changes g c =
     let found = judged_is c.args.tables.now (known_in c.args.known.now) c.args.frame.now c.args.whole.now.header
     c.args.whole.now.body.now
-    c.count-waiting.result c.saturating_sub.result _ c.requires.valid c.count-waiting.ensures
+    c.count-waiting.result c.saturating_sub.result _ _ c.requires.valid c.count-waiting.ensures
     (c.saturating_sub.ensures ∙ rw c.taken-taken.ensures refl)
-    c.receive-received.ensures.answer in
+    c.side_of-side.ensures c.receive-received.ensures.answer in
     let is = sym (found ∙ rw c.in-Err.is refl) in
     no_changes c.args.tables.now _ c.in-Err.fault is
 
@@ -25,9 +24,9 @@ pub returns-in-Err-clause-text : goal.returns-in-Err-clause-text
 returns-in-Err-clause-text g c =
     let found = judged_is c.args.tables.now (known_in c.args.known.now) c.args.frame.now c.args.whole.now.header
     c.args.whole.now.body.now
-    c.count-waiting.result c.saturating_sub.result _ c.requires.valid c.count-waiting.ensures
+    c.count-waiting.result c.saturating_sub.result _ _ c.requires.valid c.count-waiting.ensures
     (c.saturating_sub.ensures ∙ rw c.taken-taken.ensures refl)
-    c.receive-received.ensures.answer in
+    c.side_of-side.ensures c.receive-received.ensures.answer in
     let is = sym (found ∙ rw c.in-Err.is refl) in
     no_line c.args.tables.now (known_in c.args.known.now) c.args.sink.now.output c.args.sink.now.text.items _
     c.in-Err.fault is
@@ -36,9 +35,9 @@ pub returns-then-is_disallowed_bind-clause-changes : goal.returns-then-is_disall
 returns-then-is_disallowed_bind-clause-changes g c =
     let found = judged_is c.args.tables.now (known_in c.args.known.now) c.args.frame.now c.args.whole.now.header
     c.args.whole.now.body.now
-    c.count-waiting.result c.saturating_sub.result _ c.requires.valid c.count-waiting.ensures
+    c.count-waiting.result c.saturating_sub.result _ _ c.requires.valid c.count-waiting.ensures
     (c.saturating_sub.ensures ∙ rw c.taken-taken.ensures refl)
-    c.receive-received.ensures.answer in
+    c.side_of-side.ensures c.receive-received.ensures.answer in
     let message : received_in c.receive-received.result ≡ Ok (received_of c.in-Ok.message) = rw c.in-Ok.is refl in
     let is = sym (found ∙ ap (λ r. called c.args.tables.now
     (known_in c.args.known.now) c.args.frame.now.direction c.args.whole.now.header.opcode r) message
@@ -51,9 +50,9 @@ pub returns-then-is_disallowed_bind-clause-text : goal.returns-then-is_disallowe
 returns-then-is_disallowed_bind-clause-text g c =
     let found = judged_is c.args.tables.now (known_in c.args.known.now) c.args.frame.now c.args.whole.now.header
     c.args.whole.now.body.now
-    c.count-waiting.result c.saturating_sub.result _ c.requires.valid c.count-waiting.ensures
+    c.count-waiting.result c.saturating_sub.result _ _ c.requires.valid c.count-waiting.ensures
     (c.saturating_sub.ensures ∙ rw c.taken-taken.ensures refl)
-    c.receive-received.ensures.answer in
+    c.side_of-side.ensures c.receive-received.ensures.answer in
     let message : received_in c.receive-received.result ≡ Ok (received_of c.in-Ok.message) = rw c.in-Ok.is refl in
     let is = sym (found ∙ ap (λ r. called c.args.tables.now
     (known_in c.args.known.now) c.args.frame.now.direction c.args.whole.now.header.opcode r) message
@@ -66,9 +65,9 @@ pub returns-clause-changes : goal.returns-clause-changes
 returns-clause-changes g c =
     let found = judged_is c.args.tables.now (known_in c.args.known.now) c.args.frame.now c.args.whole.now.header
     c.args.whole.now.body.now
-    c.count-waiting.result c.saturating_sub.result _ c.requires.valid c.count-waiting.ensures
+    c.count-waiting.result c.saturating_sub.result _ _ c.requires.valid c.count-waiting.ensures
     (c.saturating_sub.ensures ∙ rw c.taken-taken.ensures refl)
-    c.receive-received.ensures.answer in
+    c.side_of-side.ensures c.receive-received.ensures.answer in
     let message : received_in c.receive-received.result ≡ Ok (received_of c.in-Ok.message) = rw c.in-Ok.is refl in
     let is = sym (found ∙ ap (λ r. called c.args.tables.now
     (known_in c.args.known.now) c.args.frame.now.direction c.args.whole.now.header.opcode r) message
@@ -83,9 +82,9 @@ pub returns-clause-text : goal.returns-clause-text
 returns-clause-text g c =
     let found = judged_is c.args.tables.now (known_in c.args.known.now) c.args.frame.now c.args.whole.now.header
     c.args.whole.now.body.now
-    c.count-waiting.result c.saturating_sub.result _ c.requires.valid c.count-waiting.ensures
+    c.count-waiting.result c.saturating_sub.result _ _ c.requires.valid c.count-waiting.ensures
     (c.saturating_sub.ensures ∙ rw c.taken-taken.ensures refl)
-    c.receive-received.ensures.answer in
+    c.side_of-side.ensures c.receive-received.ensures.answer in
     let message : received_in c.receive-received.result ≡ Ok (received_of c.in-Ok.message) = rw c.in-Ok.is refl in
     let is = sym (found ∙ ap (λ r. called c.args.tables.now
     (known_in c.args.known.now) c.args.frame.now.direction c.args.whole.now.header.opcode r) message
@@ -97,6 +96,6 @@ returns-clause-text g c =
     c.write.new.sink.text.items _
     (call_of c.args.frame.now.direction c.args.whole.now.header.opcode c.in-Ok.message) (c.in_ok-write.ensures.text
     ∙ (λ i. c.args.sink.now.text.items ++ wanted c.args.sink.now.output (line c.args.tables.now
-    (side_of c.args.frame.now.direction) (reader_by c.args.tables.now (known_in c.args.known.now)
+    (c.side_of-side.ensures i) (reader_by c.args.tables.now (known_in c.args.known.now)
     c.args.frame.now.direction).object
     (received_of c.in-Ok.message) (c.taken-taken.ensures i)))) is

@@ -1,111 +1,217 @@
-use Rattle.std.proofs.Common.{◌≡◌, ◌≢◌, ℕ, true, refl, sym, subst, ap, ◌∙◌, arith, rules}
-use Rattle.std.specs.Prelude.{Option, is_some}
+use Rattle.std.proofs.Common.{◌≡◌, ◌≢◌, ℕ, true, refl, sym, subst, ap, ◌∙◌, inl, arith, rules}
+use Rattle.std.specs.Prelude.{IfSome, Option, Some, is_some}
 use Rattle.std.proofs.Common.{Ok, Err}
+use Rattle.std.specs.declared.result.Result.{Result}
 use Rattle.std.proofs.lemmas.Result.{err_from_is_err_and}
 use Rattle.wl_wire.specs.declared.kind.Iface.{Iface}
 use Rattle.wl_sigs.specs.Destroys.{Destroys}
 use Rattle.wl_sigs.specs.Tables.{destroys_one}
+use Rattle.wl_objects.specs.declared.error.SendError.{SendError}
 use Rattle.wl_objects.specs.declared.error.SendError.TheVariants as refusals
-use Rattle.wl_object_map.specs.Objects.{is_live}
+use Rattle.wl_object_map.specs.declared.object.Maker.{Maker}
+use Rattle.wl_object_map.specs.declared.object.Object.{Object}
+use Rattle.wl_object_map.specs.Objects.{is_live, next_id, opened_at}
 use Rattle.wl_objects.specs.Messages.{opens, ended_id, maker_by}
-use Rattle.wl_objects.specs.Writing.{on_wire, tokens_of, given}
-use Rattle.wl_connection.specs.Core.{Core}
-use Rattle.wl_connection.specs.Outcomes.{AnswersOrMemory}
+use Rattle.wl_objects.specs.Writing.{id_of, on_wire, tokens_of, given}
+use Rattle.wl_connection.specs.Core.{Core, with_view}
+use Rattle.wl_connection.specs.Outcomes.{AnswersOrMemory, some_object}
 use Rattle.wl_connection.specs.Sending.{fits, following_len, next_object, opening_answer, with_sent}
 use Rattle.wl_connection.proofs.Messages.{fits-less}
 use Rattle.wl_connection.proofs.CheckedSends.{answered, ended-known, fits-known}
 use Rattle.wl_connection.proofs.CheckedSends.{fits-behind, ended-other, ended-live, written-known}
 use Rattle.wl_connection.proofs.shared.Core.write_checked.Goals as goal
+use Rattle.wl_connection.proofs.shared.Core.write_checked.Goals.{in-Some+in_ok-open_next-in-Some, in-None}
 
-pub returns-in_err-new-clause-answer : goal.returns-in_err-new-clause-answer
-returns-in_err-new-clause-answer g c =
-    let fit = fits-known c.args.self.now.outbox c.args.args.now c.args.call.len c.following_len.result
-    (following_len c.args.side c.args.call.signature.now.destroys) c.args.call.tokens true
-    (c.requires.len 0) (c.following_len.ensures ∙ ap (following_len c.args.side) c.destroys-what.ensures)
-    c.requires.tokens c.if-not-fits.ensures in
+pub returns-in_err-open_next-in-Some-clause-answer : goal.returns-in_err-open_next-in-Some-clause-answer
+returns-in_err-open_next-in-Some-clause-answer g c =
+    let core = c.args.self.now in
+    let side = c.args.side in
+    let call = c.args.call in
+    let list = c.args.args.now in
+    let follows : c.match-side.following ≡ following_len side c.destroys-what.result = search rules in
+    let fit = fits-known core.outbox list call.len c.match-side.following
+    (following_len side call.signature.now.destroys) call.tokens true (c.requires.len 0)
+    (follows ∙ ap (following_len side) c.destroys-what.ensures) c.requires.tokens c.if-not-fits.ensures in
+    let why = c.in_err-open_next-in-Some.field-0.0 in
     let p = err_from_is_err_and c.from_residual.result c.from_residual.ensures.1 in
     rw (p.1, p.2)
-    (answered c.args.self.now c.args.side c.args.target c.args.opcode c.args.args.now c.args.call.signature.now
-    c.args.call.entry (Err c.in_err-new.field-0.0) c.requires.passes c.requires.entry (sym fit)
+    (answered core side c.args.target c.args.opcode list call.signature.now call.entry (Err why) c.requires.passes
+    c.requires.entry (sym fit)
     (subst (λ (i : Option Iface). AnswersOrMemory refusals.Memory (is_some i)
-    (opening_answer c.args.self.now (maker_by c.args.side) (next_object (maker_by c.args.side) c.args.self.now.view c.args.call.entry.version i))
-    (Err c.in_err-new.field-0.0)) c.requires.makes c.in_err-new.ensures.answer))
+    (opening_answer core (maker_by side) (next_object (maker_by side) core.view call.entry.version i)) (Err why))
+    (sym c.in-Some.is ∙ c.requires.makes)
+    (subst (λ (k : Maker). AnswersOrMemory refusals.Memory true
+    (opening_answer core k (next_object k core.view call.entry.version (Some c.in-Some.iface))) (Err why))
+    c.maker_by.ensures c.in_err-open_next-in-Some.ensures.answer)))
 
 pub write_call-requires-clause-fits : goal.write_call-requires-clause-fits
 write_call-requires-clause-fits g c =
-    let fit = c.requires.fits c.id_of.result in
+    let fit = c.requires.fits c.map_or.result in
     record {
       opcode = omega (arith, c.ranges.opcode);
       fits = fit.0;
-      len = c.requires.len c.id_of.result;
-      short = omega (arith, fit.1, c.requires.len c.id_of.result, c.args.self.now.outbox.limit.in_range.1);
+      len = c.requires.len c.map_or.result;
+      short = omega (arith, fit.1, c.requires.len c.map_or.result, c.args.self.now.outbox.limit.in_range.1);
     }
 
 pub write_call-requires-clause-room : goal.write_call-requires-clause-room
 write_call-requires-clause-room g c =
-    subst (λ (core : Core). fits core.outbox c.args.call.len c.args.call.tokens ≡ true) (sym c.in_ok-new.ensures.ok)
-    (fits-less c.args.self.now.outbox c.args.call.len c.following_len.result c.args.call.tokens
-    (sym c.if-not-fits.ensures))
+    let core = c.args.self.now in
+    let side = c.args.side in
+    let call = c.args.call in
+    let opened : c.match-call.self
+    ≡ with_view core (opens core.view (next_object (maker_by side) core.view call.entry.version call.makes)) =
+    elim c.match-call.branch [
+      | in-Some+in_ok-open_next-in-Some w ↦ w.self-is ∙ (w.in_ok-open_next-in-Some.ensures.ok
+          ∙ (ap (λ (k : Maker). with_view core (opened_at core.view (next_id k core.view) w.in-Some.iface call.entry.version))
+          w.maker_by.ensures
+          ∙ ap (λ (o : Option Iface). with_view core
+          (opens core.view (next_object (maker_by side) core.view call.entry.version o))) (sym w.in-Some.is)))
+      | in-None w ↦ w.self-is ∙ ap (λ (o : Option Iface). with_view core
+          (opens core.view (next_object (maker_by side) core.view call.entry.version o))) (sym w.in-None.is)
+    ] in
+    subst (λ (k : Core). fits k.outbox call.len call.tokens ≡ true) (sym opened)
+    (fits-less core.outbox call.len c.match-side.following call.tokens (sym c.if-not-fits.ensures))
 
 pub end_object-requires-clause-live : goal.end_object-requires-clause-live
 end_object-requires-clause-live g c =
-    let id = c.ended_id.ensures ∙ ap (λ (what : Destroys). ended_id what c.args.target.id (on_wire 0 c.args.args.now))
-    c.destroys-what.ensures in
-    ap (λ (core : Core). is_live core.view c.ended_id.result) c.write_call.ensures
-    ∙ (ap (λ (core : Core). is_live core.view c.ended_id.result) c.in_ok-new.ensures.ok
-    ∙ (ap (is_live (opens c.args.self.now.view (next_object (maker_by c.args.side) c.args.self.now.view c.args.call.entry.version
-    c.args.call.makes))) id
-    ∙ ended-live c.args.self.now c.args.side c.args.target c.args.opcode c.args.args.now c.args.call.signature.now
-    c.args.call.makes c.args.call.entry.version c.requires.valid c.requires.passes))
+    let core = c.args.self.now in
+    let side = c.args.side in
+    let call = c.args.call in
+    let list = c.args.args.now in
+    let opened : c.match-call.self
+    ≡ with_view core (opens core.view (next_object (maker_by side) core.view call.entry.version call.makes)) =
+    elim c.match-call.branch [
+      | in-Some+in_ok-open_next-in-Some w ↦ w.self-is ∙ (w.in_ok-open_next-in-Some.ensures.ok
+          ∙ (ap (λ (k : Maker). with_view core (opened_at core.view (next_id k core.view) w.in-Some.iface call.entry.version))
+          w.maker_by.ensures
+          ∙ ap (λ (o : Option Iface). with_view core
+          (opens core.view (next_object (maker_by side) core.view call.entry.version o))) (sym w.in-Some.is)))
+      | in-None w ↦ w.self-is ∙ ap (λ (o : Option Iface). with_view core
+          (opens core.view (next_object (maker_by side) core.view call.entry.version o))) (sym w.in-None.is)
+    ] in
+    let id = ended_id c.destroys-what.result c.args.target.id (on_wire 0 list) in
+    let same : id ≡ ended_id call.signature.now.destroys c.args.target.id (on_wire 0 list) =
+    ap (λ (what : Destroys). ended_id what c.args.target.id (on_wire 0 list)) c.destroys-what.ensures in
+    ap (λ (k : Core). is_live k.view id) c.write_call.ensures
+    ∙ (ap (λ (k : Core). is_live k.view id) opened
+    ∙ (ap (is_live (opens core.view (next_object (maker_by side) core.view call.entry.version call.makes))) same
+    ∙ ended-live core side c.args.target c.args.opcode list call.signature.now call.makes call.entry.version
+    c.requires.valid c.requires.passes))
 
 pub end_object-requires-clause-other : goal.end_object-requires-clause-other
 end_object-requires-clause-other g c =
-    let id = c.ended_id.ensures ∙ ap (λ (what : Destroys). ended_id what c.args.target.id (on_wire 0 c.args.args.now))
-    c.destroys-what.ensures in
-    λ one. subst (λ (n : ℕ). n ≢ 1) (sym id) (ended-other c.args.self.now c.args.side c.args.target c.args.opcode
-    c.args.args.now c.args.call.signature.now c.requires.valid c.requires.display c.requires.passes
+    let list = c.args.args.now in
+    let same : ended_id c.destroys-what.result c.args.target.id (on_wire 0 list)
+    ≡ ended_id c.args.call.signature.now.destroys c.args.target.id (on_wire 0 list) =
+    ap (λ (what : Destroys). ended_id what c.args.target.id (on_wire 0 list)) c.destroys-what.ensures in
+    λ one. subst (λ (n : ℕ). n ≢ 1) (sym same) (ended-other c.args.self.now c.args.side c.args.target c.args.opcode
+    list c.args.call.signature.now c.requires.valid c.requires.display c.requires.passes
     (ap destroys_one (sym c.destroys-what.ensures) ∙ one))
 
 pub end_object-requires-clause-room : goal.end_object-requires-clause-room
 end_object-requires-clause-room g c =
-    let fit = fits-known c.args.self.now.outbox c.args.args.now c.args.call.len c.following_len.result
-    (following_len c.args.side c.args.call.signature.now.destroys) c.args.call.tokens true
-    (c.requires.len 0) (c.following_len.ensures ∙ ap (following_len c.args.side) c.destroys-what.ensures)
-    c.requires.tokens c.if-not-fits.ensures in
-    let view = opens c.args.self.now.view (next_object (maker_by c.args.side) c.args.self.now.view c.args.call.entry.version c.args.call.makes)
-    in
-    subst (λ (what : Destroys). fits c.write_call.new.self.outbox (following_len c.args.side what) 0 ≡ true)
+    let core = c.args.self.now in
+    let side = c.args.side in
+    let call = c.args.call in
+    let list = c.args.args.now in
+    let opened : c.match-call.self
+    ≡ with_view core (opens core.view (next_object (maker_by side) core.view call.entry.version call.makes)) =
+    elim c.match-call.branch [
+      | in-Some+in_ok-open_next-in-Some w ↦ w.self-is ∙ (w.in_ok-open_next-in-Some.ensures.ok
+          ∙ (ap (λ (k : Maker). with_view core (opened_at core.view (next_id k core.view) w.in-Some.iface call.entry.version))
+          w.maker_by.ensures
+          ∙ ap (λ (o : Option Iface). with_view core
+          (opens core.view (next_object (maker_by side) core.view call.entry.version o))) (sym w.in-Some.is)))
+      | in-None w ↦ w.self-is ∙ ap (λ (o : Option Iface). with_view core
+          (opens core.view (next_object (maker_by side) core.view call.entry.version o))) (sym w.in-None.is)
+    ] in
+    let follows : c.match-side.following ≡ following_len side c.destroys-what.result = search rules in
+    let fit = fits-known core.outbox list call.len c.match-side.following
+    (following_len side call.signature.now.destroys) call.tokens true (c.requires.len 0)
+    (follows ∙ ap (following_len side) c.destroys-what.ensures) c.requires.tokens c.if-not-fits.ensures in
+    let view = opens core.view (next_object (maker_by side) core.view call.entry.version call.makes) in
+    subst (λ (what : Destroys). fits c.write_call.new.self.outbox (following_len side what) 0 ≡ true)
     (sym c.destroys-what.ensures)
-    (fits-behind c.args.self.now c.write_call.new.self view c.args.args.now c.args.target.id c.args.opcode
-    c.id_of.result (following_len c.args.side c.args.call.signature.now.destroys)
-    (tokens_of (given c.args.args.now))
-    (sym fit)
-    (c.write_call.ensures ∙ ap (λ (core : Core). with_sent core c.args.target.id c.args.opcode
-    (on_wire c.id_of.result c.args.args.now) (tokens_of (given c.args.args.now))) c.in_ok-new.ensures.ok))
+    (fits-behind core c.write_call.new.self view list c.args.target.id c.args.opcode c.map_or.result
+    (following_len side call.signature.now.destroys) (tokens_of (given list)) (sym fit)
+    (c.write_call.ensures ∙ ap (λ (k : Core). with_sent k c.args.target.id c.args.opcode
+    (on_wire c.map_or.result list) (tokens_of (given list))) opened))
 
 pub returns-clause-answer : goal.returns-clause-answer
 returns-clause-answer g c =
-    let fit = fits-known c.args.self.now.outbox c.args.args.now c.args.call.len c.following_len.result
-    (following_len c.args.side c.args.call.signature.now.destroys) c.args.call.tokens true
-    (c.requires.len 0) (c.following_len.ensures ∙ ap (following_len c.args.side) c.destroys-what.ensures)
-    c.requires.tokens c.if-not-fits.ensures in
-    answered c.args.self.now c.args.side c.args.target c.args.opcode c.args.args.now c.args.call.signature.now
-    c.args.call.entry (Ok c.in_ok-new.new) c.requires.passes c.requires.entry (sym fit)
+    let core = c.args.self.now in
+    let side = c.args.side in
+    let call = c.args.call in
+    let list = c.args.args.now in
+    let new = c.match-call.new in
+    let follows : c.match-side.following ≡ following_len side c.destroys-what.result = search rules in
+    let fit = fits-known core.outbox list call.len c.match-side.following
+    (following_len side call.signature.now.destroys) call.tokens true (c.requires.len 0)
+    (follows ∙ ap (following_len side) c.destroys-what.ensures) c.requires.tokens c.if-not-fits.ensures in
+    let opening : AnswersOrMemory refusals.Memory (is_some call.makes)
+    (opening_answer core (maker_by side) (next_object (maker_by side) core.view call.entry.version call.makes))
+    (Ok new) = elim c.match-call.branch [
+      | in-Some+in_ok-open_next-in-Some w ↦ (
+          let same : some_object w.open_next.result ≡ Ok new = ap some_object w.in_ok-open_next-in-Some.was
+          ∙ ap (λ (n : Option Object). let r : Result (Option Object) SendError = Ok n in r) (sym w.new-is) in
+          subst (λ (i : Option Iface). AnswersOrMemory refusals.Memory (is_some i)
+          (opening_answer core (maker_by side) (next_object (maker_by side) core.view call.entry.version i)) (Ok new))
+          (sym w.in-Some.is)
+          (subst (λ (r : Result (Option Object) SendError). AnswersOrMemory refusals.Memory true
+          (opening_answer core (maker_by side)
+          (next_object (maker_by side) core.view call.entry.version (Some w.in-Some.iface))) r) same
+          (subst (λ (k : Maker). AnswersOrMemory refusals.Memory true
+          (opening_answer core k (next_object k core.view call.entry.version (Some w.in-Some.iface)))
+          (some_object w.open_next.result)) w.maker_by.ensures w.open_next.ensures.answer)))
+      | in-None w ↦ (
+          subst (λ (i : Option Iface). AnswersOrMemory refusals.Memory (is_some i)
+          (opening_answer core (maker_by side) (next_object (maker_by side) core.view call.entry.version i)) (Ok new))
+          (sym w.in-None.is)
+          (inl (ap (λ (n : Option Object). let r : Result (Option Object) SendError = Ok n in r) w.new-is)))
+    ] in
+    answered core side c.args.target c.args.opcode list call.signature.now call.entry (Ok new) c.requires.passes
+    c.requires.entry (sym fit)
     (subst (λ (i : Option Iface). AnswersOrMemory refusals.Memory (is_some i)
-    (opening_answer c.args.self.now (maker_by c.args.side) (next_object (maker_by c.args.side) c.args.self.now.view c.args.call.entry.version i))
-    (Ok c.in_ok-new.new)) c.requires.makes c.in_ok-new.ensures.answer)
+    (opening_answer core (maker_by side) (next_object (maker_by side) core.view call.entry.version i)) (Ok new))
+    c.requires.makes opening)
 
 pub returns-clause-ok : goal.returns-clause-ok
 returns-clause-ok g c =
-    let w = written-known c.args.self.now c.open_new.new.self c.write_call.new.self c.args.side c.args.target
-    c.args.opcode c.args.args.now c.args.call.signature.now c.args.call.entry c.in_ok-new.new c.args.call.makes
-    (tokens_of (given c.args.args.now)) c.requires.passes c.requires.entry c.requires.makes c.in_ok-new.ensures.ok
-    c.in_ok-new.ensures.id
-    (c.write_call.ensures ∙ ap (λ (id : ℕ). with_sent c.open_new.new.self c.args.target.id c.args.opcode
-    (on_wire id c.args.args.now) (tokens_of (given c.args.args.now))) c.id_of.ensures) refl in
-    ended-known c.args.self.now c.write_call.new.self c.end_object.new.self c.args.side c.args.target c.args.opcode
-    c.args.args.now c.args.call.signature.now c.destroys-what.result c.ended_id.result w c.end_object.ensures
-    c.destroys-what.ensures c.ended_id.ensures
+    let core = c.args.self.now in
+    let side = c.args.side in
+    let call = c.args.call in
+    let list = c.args.args.now in
+    let new = c.match-call.new in
+    let opened : c.match-call.self
+    ≡ with_view core (opens core.view (next_object (maker_by side) core.view call.entry.version call.makes)) =
+    elim c.match-call.branch [
+      | in-Some+in_ok-open_next-in-Some w ↦ w.self-is ∙ (w.in_ok-open_next-in-Some.ensures.ok
+          ∙ (ap (λ (k : Maker). with_view core (opened_at core.view (next_id k core.view) w.in-Some.iface call.entry.version))
+          w.maker_by.ensures
+          ∙ ap (λ (o : Option Iface). with_view core
+          (opens core.view (next_object (maker_by side) core.view call.entry.version o))) (sym w.in-Some.is)))
+      | in-None w ↦ w.self-is ∙ ap (λ (o : Option Iface). with_view core
+          (opens core.view (next_object (maker_by side) core.view call.entry.version o))) (sym w.in-None.is)
+    ] in
+    let at_next : IfSome call.makes (λ _. id_of new ≡ next_id (maker_by side) core.view) =
+    elim c.match-call.branch [
+      | in-Some+in_ok-open_next-in-Some w ↦ subst (λ (i : Option Iface). IfSome i
+          (λ _. id_of new ≡ next_id (maker_by side) core.view)) (sym w.in-Some.is)
+          (ap id_of w.new-is ∙ (w.in_ok-open_next-in-Some.ensures.id
+          ∙ ap (λ (k : Maker). next_id k core.view) w.maker_by.ensures))
+      | in-None w ↦ subst (λ (i : Option Iface). IfSome i
+          (λ _. id_of new ≡ next_id (maker_by side) core.view)) (sym w.in-None.is) tt
+    ] in
+    let id : c.map_or.result ≡ id_of new = search rules in
+    let w = written-known core c.match-call.self c.write_call.new.self side c.args.target c.args.opcode list
+    call.signature.now call.entry new call.makes (tokens_of (given list)) c.requires.passes c.requires.entry
+    c.requires.makes opened at_next
+    (c.write_call.ensures ∙ ap (λ (n : ℕ). with_sent c.match-call.self c.args.target.id c.args.opcode
+    (on_wire n list) (tokens_of (given list))) id) refl in
+    ended-known core c.write_call.new.self c.end_object.new.self side c.args.target c.args.opcode list
+    call.signature.now c.destroys-what.result (ended_id c.destroys-what.result c.args.target.id (on_wire 0 list)) w
+    c.end_object.ensures c.destroys-what.ensures refl
 
 pub returns-then-not-fits-clause-err : goal.returns-then-not-fits-clause-err
 returns-then-not-fits-clause-err g c = search rules
