@@ -32,8 +32,8 @@ fn add_kind(digest: &mut Digest, kind: Kind) {
 
 fn add_signature(digest: &mut Digest, signature: &Signature) {
     digest.bytes(signature.name());
-    digest.word(signature.since());
-    match signature.destroys() {
+    digest.word(signature.since);
+    match signature.destroys {
         Destroys::Nothing => digest.number(1),
         Destroys::Target => digest.number(2),
         Destroys::Arg(place) => {

@@ -150,8 +150,8 @@ impl Proxy<'_> {
             let Some(request) = self.tables.message(iface, Side::Request, opcode) else {
                 break;
             };
-            let ends = request.destroys() == Destroys::Target && request.kinds().is_empty();
-            if ends && request.since() <= version {
+            let ends = request.destroys == Destroys::Target && request.kinds().is_empty();
+            if ends && request.since <= version {
                 client.send(made, opcode, &[])?;
                 break;
             }

@@ -96,7 +96,7 @@ fn pops(inbox: &mut Inbox<Global>, message: &[u8], tokens: &[u32]) -> bool {
         return false;
     }
     inbox.pop(popped);
-    &*popped == tokens && inbox.last() == body && inbox.last_tokens() == tokens
+    &*popped == tokens && inbox.last() == (body, tokens)
 }
 
 /// Whether messages come out of an inbox as they went in.

@@ -101,13 +101,13 @@ fn put_message<A: Allocator, B: Allocator>(
     for kind in signature.kinds() {
         put_kind(text, tables, *kind)?;
     }
-    match signature.destroys() {
+    match signature.destroys {
         Destroys::Nothing => {}
         Destroys::Target => put(text, b" D")?,
         Destroys::Arg(place) => write!(text, " D({place})")?,
     }
-    if signature.since() != 1 {
-        write!(text, " @{}", signature.since())?;
+    if signature.since != 1 {
+        write!(text, " @{}", signature.since)?;
     }
     Ok(())
 }

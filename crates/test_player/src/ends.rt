@@ -231,7 +231,7 @@ fn write_range<T: Table>(
 ) -> Result<(), AllocError> {
     let (used, births, count) = (
         objects.used(maker),
-        objects.births(first),
+        objects.births(maker),
         objects.len(maker),
     );
     write!(text, "used {used}, births {births}, objects {count}: ")?;

@@ -21,7 +21,7 @@ fn is_as_meant<T: Table>(meant: &MeantRange, objects: &Objects<T>, maker: Maker)
     }
     objects.look(id).is_none()
         && objects.used(maker) == meant.used()
-        && objects.births(meant.first) == meant.births
+        && objects.births(maker) == meant.births
 }
 
 /// Whether an entry is that of the model.

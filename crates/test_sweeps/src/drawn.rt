@@ -210,11 +210,10 @@ impl Drawer {
     /// Whether another message is drawn instead: mostly if the message ends an object of the client
     /// or would be refused, often if it makes no object.
     fn passes_over(&mut self, row: Meant, side: Side, signature: &Signature) -> bool {
-        let ends = signature.destroys().destroys_one() && row.object.id < FIRST_SERVER_ID;
+        let ends = signature.destroys.destroys_one() && row.object.id < FIRST_SERVER_ID;
         let is_hidden = side == Side::Event && row.iface.0 < 2;
-        let is_rare = (ends && !signature.has_new_object()) || is_hidden;
-        (is_rare && self.dice.below(8) > 0)
-            || (!signature.has_new_object() && self.dice.below(3) > 0)
+        let is_rare = (ends && !signature.has_new_object) || is_hidden;
+        (is_rare && self.dice.below(8) > 0) || (!signature.has_new_object && self.dice.below(3) > 0)
     }
 
     /// Appends a target, now and then with an old birth, and arguments.

@@ -12,7 +12,6 @@ use test_player::{Actor, Playable, Trouble, Words, write_stop};
 use wl_client::Client;
 use wl_connection::{End, read_all};
 use wl_message::{Limit, Piece, Sizes};
-use wl_object_map::{DISPLAY_ID, FIRST_SERVER_ID};
 use wl_objects::{Fault, Maker, NextError, Objects as ObjectsOf, SlotTable, Table};
 use wl_recording::Direction;
 use wl_server::Server;
@@ -312,8 +311,8 @@ impl<'a, E: Playable + Drop> Replay<'a, E> {
     /// message must report it.
     fn finish(&mut self, outcome: &mut Outcome) -> Result<(), Trouble> {
         let objects = self.end.objects();
-        write_counts(&mut outcome.text, objects, Maker::Client, DISPLAY_ID)?;
-        write_counts(&mut outcome.text, objects, Maker::Server, FIRST_SERVER_ID)?;
+        write_counts(&mut outcome.text, objects, Maker::Client)?;
+        write_counts(&mut outcome.text, objects, Maker::Server)?;
         outcome.written = vec![in self.props.alloc; 0u8; 4160]?;
         let mut tokens = vec![in self.props.alloc; 0u32; 64]?;
         let taken = self.end.take(&mut outcome.written, &mut tokens);
@@ -331,9 +330,8 @@ fn write_counts<T: Table>(
     text: &mut String,
     objects: &ObjectsOf<T>,
     maker: Maker,
-    first: u32,
 ) -> Result<(), AllocError> {
-    let (used, births) = (objects.used(maker), objects.births(first));
+    let (used, births) = (objects.used(maker), objects.births(maker));
     write!(text, "{used} {births} {} ", objects.len(maker))
 }
 

@@ -73,7 +73,7 @@ impl<'a> Model<'a> {
 
     /// The refusal of a message, if there is one.
     fn refusal(&self, signature: &Signature, call: Call<'_>) -> Option<SendError> {
-        if signature.since() > call.target.version {
+        if signature.since > call.target.version {
             return Some(SendError::TooOld);
         }
         if let Some(place) = first_wrong(signature.kinds(), call.args) {
@@ -84,7 +84,7 @@ impl<'a> Model<'a> {
             return Some(SendError::BadObject(place));
         }
         let size = size_of(call.args);
-        let behind = match (call.side, signature.destroys()) {
+        let behind = match (call.side, signature.destroys) {
             (Side::Event, Destroys::Target) => DELETE_ID_LEN,
             _ => 0,
         };
@@ -278,7 +278,7 @@ fn is_hidden(side: Side, iface: Iface, opcode: u16) -> bool {
 
 /// The object that a message destroys.
 fn ended_by(signature: &Signature, call: Call<'_>) -> Option<Object> {
-    match signature.destroys() {
+    match signature.destroys {
         Destroys::Nothing => None,
         Destroys::Target => Some(call.target.object),
         Destroys::Arg(place) => named(call.args.split_whitespace().nth(place)?),

@@ -205,7 +205,7 @@ fn message_since<'t>(set: &MessageSet<'t>, opcode: u16) -> Option<&'t Signature>
     ensures few { IfSome result (λ message. length message.now.kinds ≤ max_args) }
 {
     let message = set.tables.message(set.interface, set.side, opcode)?;
-    if message.since() <= set.version {
+    if message.since <= set.version {
         Some(message)
     } else {
         None

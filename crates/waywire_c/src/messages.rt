@@ -122,9 +122,9 @@ pub extern "C" fn waywire_c_tables_message(
     match tables.message(Iface(interface), side, opcode) {
         Some(found) => {
             *message = CMessage {
-                since: found.since(),
-                destroys: destroys_number(found.destroys()),
-                destroyed: destroyed_place(found.destroys()),
+                since: found.since,
+                destroys: destroys_number(found.destroys),
+                destroyed: destroyed_place(found.destroys),
                 arg_count: found.kinds().len(),
             };
             *name = start_of(found.name());

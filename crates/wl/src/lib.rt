@@ -468,11 +468,7 @@
 //!     fn has_server_objects(&self) -> bool
 //! Signature<A>
 //!     fn name(&self) -> &[u8]
-//!     fn since(&self) -> u32
 //!     fn kinds(&self) -> &[Kind]
-//!     fn has_new_object(&self) -> bool
-//!     fn descriptors(&self) -> usize
-//!     fn destroys(&self) -> Destroys
 //! Destroys
 //!     fn destroys_one(self) -> bool
 //! trait Table: a SlotTable or a MapTable
@@ -502,7 +498,7 @@
 //!     fn can_open(&self, maker: Maker) -> bool
 //!     fn used(&self, maker: Maker) -> u32
 //!     fn len(&self, maker: Maker) -> u32
-//!     fn births(&self, id: u32) -> u64
+//!     fn births(&self, maker: Maker) -> u64
 //!     fn open_next(
 //!         &mut self, maker: Maker, iface: Iface, version: u32,
 //!     ) -> Result<Object, TableError>
@@ -602,6 +598,7 @@
 //! Direction: ToServer, ToClient
 //! Kind: Int, Uint, Fixed, Str { null: bool }, Obj { null: bool, iface: Option<Iface> },
 //!     New(Option<Iface>), NewByServer(Iface), Array, Fd
+//! Signature { since: u32, destroys: Destroys, has_new_object: bool, descriptors: usize, .. }
 //! Destroys: Nothing, Target, Arg(usize)
 //! Passed<A> { direction: Direction, bytes: Bytes<A>, tokens: u32 }
 //! Verdict:

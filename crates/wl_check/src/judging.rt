@@ -256,6 +256,7 @@ pub(crate) fn changes_of(
     ensures { result ≡ changes tables.now (call_of direction opcode message.now) }
 {
     let iface = message.entry.iface;
+    let signature = message.signature;
     let values = &message.values();
     MessageChanges {
         direction,
@@ -265,7 +266,7 @@ pub(crate) fn changes_of(
         } else {
             None
         },
-        destroyed: match message.signature.destroys() {
+        destroyed: match signature.destroys {
             Destroys::Target => Some(message.target.id),
             Destroys::Arg(place) => Some(values.id_at(place)),
             Destroys::Nothing => None,

@@ -105,7 +105,7 @@ pub(crate) fn change_of(tables: &Tables, opcode: u16, message: &Received<'_, '_>
     let made = made_by_message(tables, message);
     Change {
         made,
-        objects: match signature.destroys() {
+        objects: match signature.destroys {
             Destroys::Target => ObjectChange::Zombie(message.target.id),
             // No event destroys an argument.
             Destroys::Nothing | Destroys::Arg(_) => ObjectChange::Nothing,

@@ -7,7 +7,7 @@ use crate::pending::PendingEvent;
 use crate::report::OwnedIncoming;
 use std::alloc::{AllocError, Allocator};
 use wl_connection::{Endpoint, Meaning, Role, first_message};
-use wl_object_map::FIRST_SERVER_ID;
+use wl_object_map::Maker;
 use wl_objects::{DISPLAY, Fault, NextError, Object, Objects, Received, State, Table};
 use wl_sigs::event::wl_display::{DELETE_ID, ERROR};
 use wl_sigs::{Side, Tables};
@@ -30,13 +30,11 @@ impl<T: Table> Meaning<T> for ClientRole<T::Alloc> {
 
     type Pending = PendingEvent;
 
-    ghost reads = { event_side };
+    const SIDE: Side = Side::Event;
+
+    ghost SIDE = { event_side };
 
     ghost Means = { λ kept. IsPendingOf };
-
-    fn side(&self) -> Side {
-        Side::Event
-    }
 
     fn pending_of(
         &self,
@@ -60,7 +58,7 @@ impl<T: Table> Meaning<T> for ClientRole<T::Alloc> {
                     State::Live => Outline::Event {
                         target,
                         opcode,
-                        birth: objects.births(FIRST_SERVER_ID),
+                        birth: objects.births(Maker::Server),
                     },
                 };
                 let change = change_of(tables, opcode, message);

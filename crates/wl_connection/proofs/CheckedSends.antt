@@ -40,6 +40,7 @@ use Rattle.wl_connection.specs.Core.{Core, HasDisplay, with_view}
 use Rattle.wl_connection.specs.Outcomes.{AnswersOrMemory}
 use Rattle.wl_connection.specs.Sending.{answer_of, fits, following_len, made_at, next_object}
 use Rattle.wl_connection.specs.Sending.{opening_answer, sent, with_following, following, with_sent}
+use Rattle.wl_connection.specs.Sending.{IsSendAnswer, after_checked, after_send, opens_object}
 use Rattle.wl_connection.proofs.Displays.{ends-another}
 use Rattle.wl_connection.proofs.Messages.{fits-after}
 use Rattle.wl_connection.proofs.Ends.{NamesRegistry, is_the_destroy, names_registry, the_destroy}
@@ -306,3 +307,27 @@ ended-other core side target opcode list signature v d e one = by_what signature
         (ends-other core side target opcode list signature v d e h)
     by_what (ends_arg k) h = registry-other core.view _ d
         (argument-named core side target opcode list signature k v e h)
+
+-- a call that passed its checks returns what `send` returns
+pub send-answered : (core : Core) (side : Side) (target : Object) (opcode : ℕ) (list : List Given)
+    (signature : MessageSignature) (result : Result (Option Object) SendError)
+    → core.failed ≡ false
+    → checked core.outbox.limit.bytes core.tables side core.view target opcode list ≡ Ok signature
+    → AnswersOrMemory refusals.Memory (is_some (makes signature))
+    (answer_of core side target list (Ok signature)) result
+    → IsSendAnswer core side target opcode list result
+send-answered core side target opcode list signature result alive e h =
+    let all = checked core.outbox.limit.bytes core.tables side core.view target opcode list in
+    subst (λ (b : Bool). AnswersOrMemory refusals.Memory (opens_object all)
+    (if b then Err refusals.Failed else answer_of core side target list all) result) (sym alive)
+    (subst (λ (r : Result MessageSignature SendError). AnswersOrMemory refusals.Memory (opens_object r)
+    (answer_of core side target list r) result) (sym e) h)
+
+-- and leaves what `send` leaves
+pub send-leaves : (core after : Core) (side : Side) (target : Object) (opcode : ℕ) (list : List Given)
+    (signature : MessageSignature)
+    → checked core.outbox.limit.bytes core.tables side core.view target opcode list ≡ Ok signature
+    → after ≡ sent core side target opcode list signature
+    → after ≡ after_send core side target opcode list
+send-leaves core after side target opcode list signature e h =
+    h ∙ ap (after_checked core side target opcode list) (sym e)

@@ -27,7 +27,6 @@ use Rattle.wl_objects.specs.Messages.{made, maker_by, NewObject, unless_lost, un
 use Rattle.wl_objects.specs.Messages.{unless_hidden, checked_by, checked, live_row, is_hidden}
 use Rattle.wl_sigs.proofs.ServerObjectsTold.{none_by_server}
 use Rattle.wl_connection.specs.Core.{Core}
-use Rattle.wl_connection.specs.Outcomes.{AnswersOrMemory}
 use Rattle.wl_connection.specs.Sending.{IsSendAnswer, OpensNothing, answer_of, opening_answer}
 use Rattle.wl_connection.specs.Sending.{opens_object, made_at, version_at, following_len, fits}
 
@@ -185,20 +184,10 @@ event_opens_none limit tables view target opcode given v none =
     event_by limit tables view opcode given (live_row view target) v none
 
 -- an event that passed its checks opens nothing
-pub event_sent : (core : Core) (side : Side) (target : Object) (opcode : ℕ) (given : List Given) (m : MessageSignature)
+pub event_sent : (core : Core) (side : Side) (target : Object) (opcode : ℕ) (given : List Given)
     (result : Result (Option Object) SendError) → side ≡ Event → has_server_objects core.tables ≡ false
-    → Valid core.tables
-    → checked core.outbox.limit.bytes core.tables side core.view target opcode given ≡ Ok m
-    → AnswersOrMemory refusals.Memory (is_some (makes m)) (answer_of core side target given (Ok m)) result
-    → OpensNothing result
-event_sent core side target opcode given m result s unmade v e answer = by_answer answer
-  where
-    none : is_some (makes m) ≡ false
-    none = ap opens_object (sym e) ∙ (ap (λ (x : Side). opens_object
-        (checked core.outbox.limit.bytes core.tables x core.view target opcode given)) s
-        ∙ event_opens_none core.outbox.limit.bytes core.tables core.view target opcode given v unmade)
-
-    by_answer : AnswersOrMemory refusals.Memory (is_some (makes m)) (answer_of core side target given (Ok m)) result
-        → OpensNothing result
-    by_answer (inl is) = subst OpensNothing (sym is) (nothing_of core side target given (Ok m) tt none)
-    by_answer (inr k) = absurd (let yes = k.1 in cc (yes, none))
+    → Valid core.tables → IsSendAnswer core side target opcode given result → OpensNothing result
+event_sent core side target opcode given result s unmade v answer =
+    opens_nothing core side target opcode given result answer (ap (λ (x : Side). opens_object
+    (checked core.outbox.limit.bytes core.tables x core.view target opcode given)) s
+    ∙ event_opens_none core.outbox.limit.bytes core.tables core.view target opcode given v unmade)

@@ -18,7 +18,7 @@ pub fn first_message<T: Table, R: Meaning<T>>(
     role: &R,
 ) -> Result<Option<R::Pending>, Fault>
     ensures same { end.new.core ≡ end.old.core }
-    ensures comes { IsFrontMeaning R.reads (R.Means role.now) end.old.core end.new.args
+    ensures comes { IsFrontMeaning R.SIDE (R.Means role.now) end.old.core end.new.args
         result }
 {
     let Endpoint { core, args } = end;
@@ -44,13 +44,13 @@ fn read_frame<T: Table, R: Meaning<T>>(
     requires display { HasDisplay objects.now }
     // Always true; known here because the header was read.
     ensures header { IsHeader frame.entry.header }
-    ensures comes { IsMeaningOf R.reads (R.Means role.now) tables.now objects.now
+    ensures comes { IsMeaningOf R.SIDE (R.Means role.now) tables.now objects.now
         frame.entry.header frame.entry.body.now args.new
-        (received tables.now R.reads (reader_of tables.now R.reads objects.now)
+        (received tables.now R.SIDE (reader_of tables.now R.SIDE objects.now)
         frame.entry.header frame.entry.body.now frame.entry.tokens) result }
 {
     let header = frame.header;
-    let side = role.side();
+    let side = R::SIDE;
     let lookup = ObjectsLookup {
         tables,
         side,

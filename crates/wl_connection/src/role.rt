@@ -25,17 +25,15 @@ pub trait Meaning<T: Table>: Drop {
     /// that read it.
     type Pending: Copy;
 
-    // The side whose messages arrive.
-    ghost reads: { SideOf };
+    /// The side whose messages arrive.
+    const SIDE: Side;
+
+    ghost SIDE: { SideOf };
 
     // Given these tables and objects, a message with this body and these parsed arguments means
     // this, or is this fault.
     ghost Means: { Self → List Interface → ObjectsView → List ℕ → List ParsedArg → Found
         → Result Self.Pending FaultState → Type 0 };
-
-    /// The side whose messages arrive.
-    fn side(&self) -> Side
-        ensures { result ≡ reads };
 
     /// What a message that was read means, or the fault that it is.
     fn pending_of(
@@ -45,7 +43,7 @@ pub trait Meaning<T: Table>: Drop {
         header: Header,
         message: &Received<'_, '_>,
     ) -> Result<Self::Pending, Fault>
-        requires read { IsWellFormed reads tables.now objects.now header message.now }
+        requires read { IsWellFormed SIDE tables.now objects.now header message.now }
         ensures { Means self.now tables.now objects.now message.now.body.now message.now.args.now
             (headed header (received_of message.now)) result };
 }

@@ -1,31 +1,30 @@
 //! What an end writes.
-ghost use Rattle.std.specs.Prelude.{[], ◌≡◌, ◌≢◌, ◌≤◌, ◌+◌, ℕ, false, true, Some, Ok, IfOk};
-ghost use Rattle.std.specs.Prelude.{IsTrue, OnErr, OnOk, is_some, length};
+ghost use Rattle.std.specs.Prelude.{[], ◌≡◌, ◌≢◌, ◌≤◌, false, true, Some, IfOk};
+ghost use Rattle.std.specs.Prelude.{IsTrue, OnErr, OnOk, length};
 ghost use Rattle.wl_sigs.specs.Side.TheVariants.{Event as event_side};
 ghost use Rattle.wl_sigs.specs.Rules.{has_server_objects};
-ghost use Rattle.wl_sigs.specs.Tables.{destroys_one, makes, max_args};
+ghost use Rattle.wl_sigs.specs.Tables.{destroys_one, max_args};
 ghost use Rattle.wl_sigs.specs.Valid.{Valid};
 ghost use Rattle.wl_message.specs.Cut.{usual_limit};
-ghost use Rattle.wl_objects.specs.Messages.{checked, destroys, ended_id, maker_by};
-ghost use Rattle.wl_object_map.specs.Objects.{ObjectsAreSound, closed, is_held, is_live, look};
+ghost use Rattle.wl_objects.specs.Messages.{destroys, ended_id};
+ghost use Rattle.wl_object_map.specs.Objects.{ObjectsAreSound, closed, is_held, is_live};
 ghost use Rattle.wl_object_map.specs.Objects.{next_id, opened_at};
-ghost use Rattle.wl_objects.specs.Writing.{CallFits, EachFits, bind_values, call_makes, given};
-ghost use Rattle.wl_objects.specs.Writing.{has_no_nul, message_len, on_wire, tokens_of};
-ghost use Rattle.wl_connection.specs.Core.{HasDisplay, with_view};
+ghost use Rattle.wl_objects.specs.Writing.{CallFits, EachFits, bind_values, given, has_no_nul};
+ghost use Rattle.wl_objects.specs.Writing.{message_len, on_wire, tokens_of};
+ghost use Rattle.wl_connection.specs.Core.{with_view};
 ghost use Rattle.wl_connection.specs.Outcomes.{AnswersOrMemory, some_object};
-ghost use Rattle.wl_connection.specs.Sending.{IsSendAnswer, OpensNothing, after_send, answer_of};
+ghost use Rattle.wl_connection.specs.Sending.{IsSendAnswer, OpensNothing, after_send};
 ghost use Rattle.wl_connection.specs.Sending.{delete_id_len, fits, max_error_text};
 ghost use Rattle.wl_connection.specs.Sending.{following, following_len, next_object};
-ghost use Rattle.wl_connection.specs.Sending.{opening_answer};
-ghost use Rattle.wl_connection.specs.Sending.{sent, with_delete_id, with_error_event};
+ghost use Rattle.wl_connection.specs.Sending.{opening_answer, with_delete_id, with_error_event};
 ghost use Rattle.wl_connection.specs.Sending.{with_following, with_sent};
 
 use crate::receive::MAX_TOKENS;
 use crate::shared::Core;
 use wl_object_map::{DISPLAY_ID, Maker};
 use wl_objects::{
-    Arg, BindMessage, CallMessage, CheckedCall, Object, SendError, SideTables, Table, TableError,
-    check_call, maker_by, take_tokens,
+    Arg, BindMessage, CallMessage, Object, SendError, SideTables, Table, TableError, check_call,
+    maker_by, take_tokens,
 };
 use wl_sigs::event::wl_display::{DELETE_ID, ERROR};
 use wl_sigs::{Destroys, Side};
@@ -176,60 +175,6 @@ impl<'t, T: Table> Core<'t, T> {
         }
     }
 
-    /// Writes a call that passed its checks; tests S9, then opens as `open_next`.
-    fn write_checked(
-        &mut self,
-        side: Side,
-        target: Object,
-        opcode: u16,
-        args: &[Arg<'_>],
-        call: CheckedCall<'_>,
-    ) -> Result<Option<Object>, SendError>
-        requires passes { checked self.old.outbox.limit.bytes self.old.tables side self.old.view
-            target opcode (given args.now)
-            ≡ Ok call.signature.now }
-        requires entry { look self.old.view target.id ≡ Some call.entry }
-        requires len { (id : ℕ) → call.len ≡ message_len (on_wire id args.now) }
-        requires tokens { call.tokens ≡ length (tokens_of (given args.now)) }
-        requires makes { call.makes ≡ call_makes call.signature.now.kinds }
-        requires fits { (id : ℕ) → EachFits (on_wire id args.now)
-            × (message_len (on_wire id args.now) ≤ self.old.outbox.limit.bytes) }
-        requires few { length args.now ≤ max_args }
-        requires sound { ObjectsAreSound self.old.view }
-        requires display { HasDisplay self.old.view }
-        requires valid { Valid self.old.tables }
-        ensures answer { AnswersOrMemory SendError.Memory (is_some (makes call.entry.signature.now))
-            (answer_of self.old side target (given args.now) (Ok call.entry.signature.now)) result }
-        ensures ok { OnOk result
-            (self.new
-            ≡ sent self.old side target opcode (given args.now) call.entry.signature.now) }
-        ensures err { OnErr result (self.new ≡ self.old) }
-    {
-        let what = call.signature.destroys();
-        // A delete_id follows a destroying event.
-        let following = match (side, what) {
-            (Side::Event, Destroys::Target | Destroys::Arg(_)) => DELETE_ID_LEN,
-            _ => 0,
-        };
-        if !self.fits(call.len + following, call.tokens) {
-            return Err(SendError::Full);
-        }
-        let new = match call.makes {
-            Some(iface) => Some(self.open_next(maker_by(side), iface, call.entry.version)?),
-            None => None,
-        };
-        let message = CallMessage {
-            object: target.id,
-            opcode,
-            args,
-            new_id: new.map_or(0, |object| object.id),
-            len: call.len,
-        };
-        self.write_call(&message, call.tokens);
-        self.end_object(side, what, target.id, args);
-        Ok(new)
-    }
-
     /// Writes a message with these arguments, in which `New` is the object that it makes, and
     /// returns that object. What the message destroys is ended at once; after an event that
     /// destroys, delete_id is written too.
@@ -263,6 +208,29 @@ impl<'t, T: Table> Core<'t, T> {
             side,
         };
         let call = check_call(writer, &self.objects, target, opcode, args, limit)?;
-        self.write_checked(side, target, opcode, args, call)
+        let signature = call.signature;
+        let what = signature.destroys;
+        // A delete_id follows a destroying event.
+        let following = match (side, what) {
+            (Side::Event, Destroys::Target | Destroys::Arg(_)) => DELETE_ID_LEN,
+            _ => 0,
+        };
+        if !self.fits(call.len + following, call.tokens) {
+            return Err(SendError::Full);
+        }
+        let new = match call.makes {
+            Some(iface) => Some(self.open_next(maker_by(side), iface, call.entry.version)?),
+            None => None,
+        };
+        let message = CallMessage {
+            object: target.id,
+            opcode,
+            args,
+            new_id: new.map_or(0, |object| object.id),
+            len: call.len,
+        };
+        self.write_call(&message, call.tokens);
+        self.end_object(side, what, target.id, args);
+        Ok(new)
     }
 }

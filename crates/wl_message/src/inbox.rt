@@ -161,7 +161,12 @@ impl<A: Allocator> Inbox<A> {
         ensures waits { self.new
             ≡ with_more self.old (take result.bytes bytes.now) (take result.tokens tokens.now) }
     {
-        let token_count = self.tokens.fill_from_slice(tokens);
+        // Most bytes come without tokens.
+        let token_count = if tokens.is_empty() {
+            0
+        } else {
+            self.tokens.fill_from_slice(tokens)
+        };
         let bytes = if token_count < tokens.len() {
             &bytes[..0]
         } else {
@@ -273,7 +278,7 @@ impl<A: Allocator> Inbox<A> {
     }
 
     /// Takes out the first message and enough of the first tokens to fill the slice, in order.
-    /// `last` and `last_tokens` lend them until the next message is taken out.
+    /// `last` lends them until the next message is taken out.
     pub fn pop(&mut self, tokens: &mut [u32])
         requires message { HasMessage (in_front self.old) }
         requires tokens { length tokens.old ≤ length self.old.tokens }
@@ -286,8 +291,8 @@ impl<A: Allocator> Inbox<A> {
         tokens.copy_from_slice(&self.last_tokens);
     }
 
-    /// Takes out the first message and this many of the first tokens, as `pop` does; `last` and
-    /// `last_tokens` lend them.
+    /// Takes out the first message and this many of the first tokens, as `pop` does; `last` lends
+    /// them.
     #[tactic(auto, using(crate::proofs::Fronts::has_message))]
     #[inline(always)]
     pub fn pass(&mut self, tokens: usize)
@@ -318,17 +323,11 @@ impl<A: Allocator> Inbox<A> {
         count
     }
 
-    /// The body of the message that was taken out last; empty before the first.
-    pub fn last(&self) -> &[u8]
-        ensures { result.now ≡ self.now.last }
+    /// The body and the tokens of the message that was taken out last; both empty before the first.
+    pub fn last(&self) -> (&[u8], &[u32])
+        ensures body { result.0.now ≡ self.now.last }
+        ensures tokens { result.1.now ≡ self.now.last_tokens }
     {
-        &self.last[..self.last_len][HEADER_LEN..]
-    }
-
-    /// The tokens that were taken out with the message that was taken out last.
-    pub fn last_tokens(&self) -> &[u32]
-        ensures { result.now ≡ self.now.last_tokens }
-    {
-        &self.last_tokens
+        (&self.last[..self.last_len][HEADER_LEN..], &self.last_tokens)
     }
 }

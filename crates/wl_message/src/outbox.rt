@@ -162,6 +162,7 @@ impl<A: Allocator> Outbox<A> {
     }
 
     /// Appends a whole message and its tokens, which must fit.
+    #[inline(always)]
     fn push_fitting(&mut self, message: &[u8], tokens: &[u32])
         requires whole { IsMessage self.old.limit.bytes message.now }
         requires bytes { length message.now ≤ room_of self.old }

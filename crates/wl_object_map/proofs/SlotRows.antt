@@ -7,8 +7,8 @@ use Rattle.std.proofs.lemmas.Bool.Decides.{nat_tests}
 use Rattle.std.specs.Ordering.{nat_cmp}
 use Rattle.std.specs.Cmp.{nat_cmp_total}
 use Rattle.std.specs.FinMap.{get, insert, remove, get-empty, same_map, nat_cmp-IsAntisymmetric}
-use Rattle.std.specs.Prelude.{slice_get}
-use Rattle.std.proofs.lemmas.Option.{slice_get_within}
+use Rattle.std.specs.Prelude.{slice_get, slice_index_or}
+use Rattle.std.proofs.lemmas.Option.{slice_get_read, slice_get_within}
 use Rattle.std.specs.declared.option.Option.{Option}
 use Rattle.std.specs.declared.option.Option.TheVariants.{None, Some}
 use Rattle.wl_object_map.specs.declared.object.Entry.{Entry}
@@ -104,6 +104,17 @@ rows_without old new id h = same_map nat_cmp_total nat_cmp-IsAntisymmetric _ _ (
     get_row new q ∙ h q ∙ ap (cond (eqb q id) None) (sym (get_row old q)) ∙ sym (get_gone (rows_from 1 old) id q))
 
 -- One slot.
+
+-- the slot that was read at an id's place has the id's row
+pub row_read : (slots now : List Slot) (id place : ℕ) (s : Slot)
+    → now ≡ slots → 1 ≤ id → place ≡ id - 1 → place < length now → s ≡ slice_index_or now place s
+    → row_in (Some s) ≡ get (rows_from 1 slots) id
+row_read slots now id place s same used at within is =
+    let up : id ≡ suc place = omega arith in
+    let slot : slot_at slots id ≡ Some s =
+    ap (slot_at slots) up ∙ ap (λ (l : List Slot). slice_get l place) (sym same)
+    ∙ slice_get_read now (length now) place s refl within is in
+    sym (get_row slots id ∙ ap row_in slot)
 
 some_used : (slots : List Slot) (n : ℕ) (s : Slot) → slice_get slots n ≡ Some s → n < length slots
 some_used slots n s h = slice_get_within slots n s h

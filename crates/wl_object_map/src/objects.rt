@@ -4,7 +4,7 @@ ghost use Rattle.std.specs.Prelude.{OnErr, IsTrue};
 ghost use Rattle.wl_object_map.specs.Ranges.{is_of_server, table_id, wire_id};
 ghost use Rattle.wl_object_map.specs.View.{max_ids};
 ghost use Rattle.wl_object_map.specs.Objects.{Objects, ObjectsAreSound, look, is_held, is_live};
-ghost use Rattle.wl_object_map.specs.Objects.{KeepsRangeNew, births, row_count};
+ghost use Rattle.wl_object_map.specs.Objects.{KeepsRangeNew, births, next_birth, row_count};
 ghost use Rattle.wl_object_map.specs.Objects.{ids_used, free_or_next, has_room, can_open, next_id};
 ghost use Rattle.wl_object_map.specs.Objects.{opening, opened, opened_at, closed, zombied};
 
@@ -203,12 +203,12 @@ impl<T: Table> Objects<T> {
         }
     }
 
-    /// The birth that the next object at this id gets: the number of objects opened in the id's
-    /// range (wl_display included), plus 1 in the server's range, whose births start at 1.
-    pub fn births(&self, id: u32) -> u64
-        ensures { result ≡ births self.now id }
+    /// The birth that this maker's next object gets: the number of objects opened in its range
+    /// (wl_display included), plus 1 in the server's range, whose births start at 1.
+    pub fn births(&self, maker: Maker) -> u64
+        ensures { result ≡ next_birth maker self.now }
     {
-        match Maker::of(id) {
+        match maker {
             Maker::Client => self.client.births(),
             Maker::Server => match &self.server {
                 Some(table) => table.births(),

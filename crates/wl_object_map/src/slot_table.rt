@@ -220,22 +220,20 @@ impl<A: Allocator + Clone + Drop> Table for SlotTable<A> {
     }
 
     fn look(&self, id: u32) -> Option<Entry> {
-        match slot_of(&self.slots, id) {
-            Some(
-                Slot::Row {
-                    birth,
-                    version,
-                    iface,
-                    state,
-                },
-            ) => Some(Entry {
+        let slot = self.slots.get((id as usize).checked_sub(1)?)?;
+        match *slot {
+            Slot::Row {
+                birth,
+                version,
+                iface,
+                state,
+            } => Some(Entry {
                 birth,
                 iface,
                 version,
                 state,
             }),
-            Some(Slot::Free { .. }) => None,
-            None => None,
+            Slot::Free { .. } => None,
         }
     }
 

@@ -20,7 +20,8 @@ use Rattle.wl_objects.specs.declared.argument.Got.{Got}
 use Rattle.wl_objects.specs.Seen.{got, got_values}
 use Rattle.wl_objects.specs.Parsed.{AreParsed, Both, all_of, all_parsed, parsed_argument, behind_those}
 use Rattle.wl_objects.specs.Parsed.{both, both_of, made_of, made_unless, place_after, reported_in}
-use Rattle.wl_objects.specs.Parsed.{reported_of, spelled_in, token_at, with_token}
+use Rattle.wl_objects.specs.Parsed.{is_number, reported_of, spelled_in, token_at, with_token}
+use Rattle.wl_objects.specs.declared.parsed.ParsedArg.TheVariants as parsed_as
 
 -- ---- one argument as it is read
 
@@ -54,6 +55,35 @@ after-least v place i h = by (is_descriptor v)
     by : (b : Bool) → (if b then place + 1 else place) ≤ i + 1
     by true = omega (arith, h)
     by false = omega (arith, h)
+
+-- ---- a number, for which nothing is looked up
+
+pub number-kept : (r q : Reader) (place i birth : ℕ) (body : List ℕ) (k : Kind) (p : ParsedArg) → is_number p ≡ true
+    → Ok (both_of body birth p) ≡ made_unless r place (parsed_argument [] p) (value_fault q i k (parsed_argument [] p))
+number-kept r q place i birth body k parsed_as.Null h = absurd (cc)
+number-kept r q place i birth body k (parsed_as.Int z) h = refl
+number-kept r q place i birth body k (parsed_as.Uint n) h = refl
+number-kept r q place i birth body k (parsed_as.Fixed z) h = refl
+number-kept r q place i birth body k (parsed_as.Str len start) h = absurd (cc)
+number-kept r q place i birth body k (parsed_as.NoObject id) h = absurd (cc)
+number-kept r q place i birth body k (parsed_as.Object id held state) h = absurd (cc)
+number-kept r q place i birth body k (parsed_as.New id) h = absurd (cc)
+number-kept r q place i birth body k (parsed_as.Bound len start version id) h = absurd (cc)
+number-kept r q place i birth body k (parsed_as.Array len start) h = absurd (cc)
+number-kept r q place i birth body k (parsed_as.Fd token) h = absurd (cc)
+
+pub number-place : (p : ParsedArg) (place : ℕ) → is_number p ≡ true → place_after (parsed_argument [] p) place ≡ place
+number-place parsed_as.Null place h = absurd (cc)
+number-place (parsed_as.Int z) place h = refl
+number-place (parsed_as.Uint n) place h = refl
+number-place (parsed_as.Fixed z) place h = refl
+number-place (parsed_as.Str len start) place h = absurd (cc)
+number-place (parsed_as.NoObject id) place h = absurd (cc)
+number-place (parsed_as.Object id held state) place h = absurd (cc)
+number-place (parsed_as.New id) place h = absurd (cc)
+number-place (parsed_as.Bound len start version id) place h = absurd (cc)
+number-place (parsed_as.Array len start) place h = absurd (cc)
+number-place (parsed_as.Fd token) place h = absurd (cc)
 
 -- ---- one step
 

@@ -1,7 +1,8 @@
 -- The arguments of a message after parsing: records that borrow nothing and refer to the body by
 -- position.
-use Rattle.std.specs.Prelude.{◌≡◌, ℕ, ◌+◌, ◌<◌, ◌^◌, if◌then◌else◌, List, [], ◌∷◌, ◌++◌, length}
-use Rattle.std.specs.Prelude.{map, take, drop, slice_index_or, Option, Some, None}
+use Rattle.std.specs.Prelude.{◌≡◌, ℕ, ◌+◌, ◌<◌, ◌^◌, if◌then◌else◌, Bool, true, false}
+use Rattle.std.specs.Prelude.{List, [], ◌∷◌, ◌++◌, length, map, take, drop, slice_index_or}
+use Rattle.std.specs.Prelude.{Option, Some, None}
 use Rattle.std.specs.Borrow.{Bor}
 use Rattle.std.specs.declared.result.Result.{Result}
 use Rattle.std.specs.declared.result.Result.TheVariants.{Ok, Err}
@@ -36,6 +37,13 @@ parsed_argument body (parsed_as.Bound len start version id) = NewNamed (body_par
     version id
 parsed_argument body (parsed_as.Array len start) = Array (body_part body start len)
 parsed_argument body (parsed_as.Fd place) = Fd tt
+
+-- whether an argument is a number
+abbrev pub is_number : ParsedArg → Bool
+is_number (parsed_as.Int z) = true
+is_number (parsed_as.Uint n) = true
+is_number (parsed_as.Fixed z) = true
+is_number _ = false
 
 -- An argument as reported, given the birth of a new object; a descriptor by the index of its token
 -- among the message's.

@@ -54,6 +54,7 @@ impl<'a> Args<'a> {
     }
 
     /// Takes out the next argument.
+    #[inline(always)]
     pub fn next(&mut self) -> Option<GotRef<'a>>
         ensures { MatchOption result ((seen_args self.old ≡ []) × (seen_args self.new ≡ []))
             (λ got. seen_args self.old ≡ lent_got got ∷ seen_args self.new) }

@@ -84,7 +84,7 @@ pub fn check_call<'t, T: Table>(
         Some(signature) => signature,
         None => return Err(SendError::NoSuchMessage),
     };
-    if entry.version < signature.since() {
+    if entry.version < signature.since {
         return Err(SendError::TooOld);
     }
     let Measured { len, tokens, makes } = measure(objects, signature.kinds(), args, limit)?;

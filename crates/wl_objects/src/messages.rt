@@ -3,7 +3,9 @@ ghost use Rattle.std.specs.Prelude.{◌≡◌};
 ghost use Rattle.wl_objects.specs.Messages.{is_error, is_delete_id, is_bind, is_hidden, maker_by};
 
 use wl_object_map::Maker;
-use wl_sigs::{Side, Tables, event, request};
+use wl_sigs::event::wl_display::{DELETE_ID, ERROR};
+use wl_sigs::request::wl_registry::BIND;
+use wl_sigs::{Side, Tables};
 use wl_wire::Iface;
 
 /// The tables, and the side that writes.
@@ -33,21 +35,21 @@ pub const REGISTRY: Iface = Iface(1);
 pub fn is_error(side: Side, iface: Iface, opcode: u16) -> bool
     ensures { result ≡ is_error side iface opcode }
 {
-    side == Side::Event && iface == DISPLAY && opcode == event::wl_display::ERROR
+    matches!((side, iface, opcode), (Side::Event, DISPLAY, ERROR))
 }
 
 /// Whether this is wl_display.delete_id.
 pub fn is_delete_id(side: Side, iface: Iface, opcode: u16) -> bool
     ensures { result ≡ is_delete_id side iface opcode }
 {
-    side == Side::Event && iface == DISPLAY && opcode == event::wl_display::DELETE_ID
+    matches!((side, iface, opcode), (Side::Event, DISPLAY, DELETE_ID))
 }
 
 /// Whether this is wl_registry.bind.
 pub fn is_bind(side: Side, iface: Iface, opcode: u16) -> bool
     ensures { result ≡ is_bind side iface opcode }
 {
-    side == Side::Request && iface == REGISTRY && opcode == request::wl_registry::BIND
+    matches!((side, iface, opcode), (Side::Request, REGISTRY, BIND))
 }
 
 /// Whether an end writes this message only by special calls: bind, and the events of wl_display and
@@ -56,7 +58,7 @@ pub fn is_hidden(side: Side, iface: Iface, opcode: u16) -> bool
     ensures { result ≡ is_hidden side iface opcode }
 {
     match side {
-        Side::Request => iface == REGISTRY && opcode == request::wl_registry::BIND,
-        Side::Event => iface == DISPLAY || iface == REGISTRY,
+        Side::Request => matches!((iface, opcode), (REGISTRY, BIND)),
+        Side::Event => matches!(iface, DISPLAY | REGISTRY),
     }
 }

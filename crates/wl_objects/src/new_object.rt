@@ -26,7 +26,7 @@ pub fn made_by_message(tables: &Tables, message: &Received<'_, '_>) -> Option<Ne
 {
     let signature = message.signature;
     // Fast path: most messages make nothing.
-    if !signature.has_new_object() {
+    if !signature.has_new_object {
         return None;
     }
     let values = message.values();

@@ -1,10 +1,11 @@
 //! The arguments of a message, parsed once.
-ghost use Rattle.std.specs.Prelude.{◌≡◌, ◌≤◌, ℕ, List, [], IfOk, drop, length};
+ghost use Rattle.std.specs.Prelude.{◌≡◌, ◌≤◌, ℕ, List, [], IfOk, IfSome, IsTrue, Ok, drop, length};
 ghost use Rattle.std.specs.Prelude.{option_map, slice_get};
 ghost use Rattle.wl_wire.specs.Argument.{Obj, lent};
 ghost use Rattle.wl_sigs.specs.Tables.{max_args};
 ghost use Rattle.wl_objects.specs.Reading.{arguments_at, forgiving, named, value_fault};
-ghost use Rattle.wl_objects.specs.Parsed.{AreParsed, Lies, parsed_argument, made_unless};
+ghost use Rattle.wl_wire.specs.Reading.{reading};
+ghost use Rattle.wl_objects.specs.Parsed.{AreParsed, Lies, is_number, parsed_argument, made_unless};
 ghost use Rattle.wl_objects.specs.Parsed.{parsed_object, parsed_one, body_part, placed_of};
 ghost use Rattle.wl_objects.specs.Parsed.{spelled_in, whole_in};
 
@@ -202,11 +203,18 @@ impl<'a, L: Lookup> Parser<'a, L> {
         let mut end = 0;
         let mut descriptors = 0;
         'kinds: for (place, kind) in kinds.iter().enumerate() {
+            let rest = &self.body[end..];
             let read_as = match *kind {
                 Kind::Obj { iface, .. } if self.forgives => Kind::Obj { null: true, iface },
                 kind => kind,
             };
-            let (value, len) = match read_ref(read_as, &self.body[end..]) {
+            // Most arguments are numbers, for which nothing is looked up.
+            if let Some((number, len)) = read_number(read_as, rest) {
+                args.items[place] = number;
+                end += len;
+                continue;
+            }
+            let (value, len) = match read_ref(read_as, rest) {
                 Ok(found) => found,
                 Err(fault) => return Err(Fault::BadArgument(place, fault)),
             };
@@ -300,5 +308,24 @@ fn object_of(id: u32, entry: Option<Entry>) -> ParsedArg
             birth: entry.birth,
             state: entry.state,
         },
+    }
+}
+
+/// The number at the front of these bytes, with its length, if the kind is a number's.
+#[inline(always)]
+fn read_number(kind: Kind, bytes: &[u8]) -> Option<(ParsedArg, usize)>
+    ensures read { IfSome result
+        (λ found. reading kind bytes.now ≡ Ok (parsed_argument [] found.0, found.1)) }
+    ensures number { IfSome result (λ found. IsTrue (is_number found.0)) }
+    ensures within { IfSome result (λ found. found.1 ≤ length bytes.now) }
+{
+    match kind {
+        Kind::Int | Kind::Uint | Kind::Fixed => match read_ref(kind, bytes) {
+            Ok((ValueRef::Int(number), len)) => Some((ParsedArg::Int(number), len)),
+            Ok((ValueRef::Uint(number), len)) => Some((ParsedArg::Uint(number), len)),
+            Ok((ValueRef::Fixed(number), len)) => Some((ParsedArg::Fixed(number), len)),
+            _ => None,
+        },
+        _ => None,
     }
 }

@@ -88,7 +88,7 @@ pub fn receive<'t, 'a, L: Lookup>(
         Some(signature) => signature,
         None => return Err(Fault::UnknownMessage),
     };
-    if entry.version < signature.since() {
+    if entry.version < signature.since {
         return Err(Fault::UnknownMessage);
     }
     let is_error = is_error(side, entry.iface, header.opcode);
@@ -102,7 +102,7 @@ pub fn receive<'t, 'a, L: Lookup>(
     if !rest.is_empty() {
         return Err(Fault::TrailingBytes);
     }
-    let tokens = signature.descriptors();
+    let tokens = signature.descriptors;
     if waiting < tokens {
         return Err(Fault::MissingDescriptor);
     }

@@ -152,7 +152,7 @@ fn write_header(out: &mut [u8], object: u32, size: usize, opcode: u16)
         size: size as u16,
         opcode,
     };
-    out[..HEADER_LEN].copy_from_slice(&header.to_bytes());
+    header.write(out);
 }
 
 /// Writes the tokens of a call, in order, and returns their number.

@@ -43,7 +43,7 @@ pub(crate) fn change_of(tables: &Tables, message: &Received<'_, '_>) -> Change
     let signature = message.signature;
     Change {
         made: made_by_message(tables, message),
-        ended: ended_by(signature.destroys(), message.target, message.args),
+        ended: ended_by(signature.destroys, message.target, message.args),
     }
 }
 

@@ -34,13 +34,11 @@ impl<T: Table> Meaning<T> for ServerRole<T::Alloc> {
 
     type Pending = PendingRequest;
 
-    ghost reads = { request_side };
+    const SIDE: Side = Side::Request;
+
+    ghost SIDE = { request_side };
 
     ghost Means = { λ kept. IsPendingOf kept.globals.items };
-
-    fn side(&self) -> Side {
-        Side::Request
-    }
 
     fn pending_of(
         &self,

@@ -84,7 +84,7 @@ fn same_of_server<T: Table>(client: &Objects<T>, server: &Objects<T>) -> bool
     if used != used_ids(server, Maker::Server) {
         return false;
     }
-    if client.births(FIRST_SERVER_ID) != server.births(FIRST_SERVER_ID) {
+    if client.births(Maker::Server) != server.births(Maker::Server) {
         return false;
     }
     same_by_server(client, server, used)

@@ -9,7 +9,7 @@ ghost use Rattle.wl_sigs.specs.Joined.{message_placed, interface_placed};
 ghost use Rattle.wl_sigs.specs.NameHash.{name_hash};
 ghost use Rattle.wl_sigs.specs.Places.{PlacesFit, place_in};
 ghost use Rattle.wl_sigs.specs.Tables.{has_destroying_event, has_destroying_request};
-ghost use Rattle.wl_sigs.specs.Tables.{has_server_object, message_of, messages_of};
+ghost use Rattle.wl_sigs.specs.Tables.{has_server_object, messages_of};
 ghost use Rattle.wl_sigs.specs.Written.{message_written, interface_written};
 
 use crate::core_interfaces::{CoreInterface, CoreMessage};
@@ -28,8 +28,8 @@ pub(crate) struct StoredInterface<A: Allocator = Global> {
     /// `name_hash` of the name.
     hash: u64,
     version: u32,
-    requests: Vec<Signature<A>, A>,
-    events: Vec<Signature<A>, A>,
+    pub(crate) requests: Vec<Signature<A>, A>,
+    pub(crate) events: Vec<Signature<A>, A>,
 }
 
 impl<A: Allocator> Model for StoredInterface<A> {
@@ -90,15 +90,6 @@ impl<A: Allocator> StoredInterface<A> {
         self.version
     }
 
-    pub(crate) fn message(&self, side: Side, opcode: u16) -> Option<&Signature<A>>
-        ensures { option_copied result ≡ message_of side opcode self.now }
-    {
-        match side {
-            Side::Request => self.requests.get(opcode as usize),
-            Side::Event => self.events.get(opcode as usize),
-        }
-    }
-
     /// The opcode of the first message of a side with this name.
     pub(crate) fn opcode(&self, side: Side, name: &[u8]) -> Option<usize>
         ensures { result ≡ position (λ m. bytes_eq m.name name.now) (messages_of side self.now) }
@@ -116,7 +107,7 @@ impl<A: Allocator> StoredInterface<A> {
     {
         self.events
             .iter()
-            .any(|event| event.destroys() == Destroys::Target)
+            .any(|event| event.destroys == Destroys::Target)
     }
 
     /// Whether a request destroys its target, if the target has this version.

@@ -5,8 +5,7 @@ ghost use Rattle.std.specs.List.{list_any};
 ghost use Rattle.wl_sigs.specs.Extending.{is_object_of, is_server_object_of};
 ghost use Rattle.wl_sigs.specs.Places.{PlacesFit, place_in};
 ghost use Rattle.wl_sigs.specs.Stored.{kinds_listed, name_bytes};
-ghost use Rattle.wl_sigs.specs.Tables.{descriptors, destroys_target};
-ghost use Rattle.wl_sigs.specs.Tables.{has_new_object, has_server_object};
+ghost use Rattle.wl_sigs.specs.Tables.{destroys_target, has_server_object};
 ghost use Rattle.wl_sigs.specs.Written.{message_written};
 
 use crate::core_interfaces::CoreMessage;
@@ -23,14 +22,15 @@ use wl_wire::{Iface, Kind};
 #[derive(Drop)]
 pub struct Signature<A: Allocator = Global> {
     name: Name<A>,
-    since: u32,
+    /// The version of its interface that introduced the message.
+    pub since: u32,
     kinds: Kinds<A>,
-    destroys: Destroys,
-    /// Whether one of the kinds is a new object. This is asked for each message read, and most have
-    /// none.
-    has_new_object: bool,
-    /// How many of the kinds are descriptors. It is asked of each message that is read.
-    descriptors: usize,
+    /// What the message destroys.
+    pub destroys: Destroys,
+    /// Whether one of its arguments is a new object, of the client or of the server.
+    pub has_new_object: bool,
+    /// How many of its arguments are descriptors: so many tokens the message takes.
+    pub descriptors: usize,
 }
 
 impl<A: Allocator> Model for Signature<A> {
@@ -98,37 +98,12 @@ impl<A: Allocator> Signature<A> {
         self.name.as_slice()
     }
 
-    /// The version of its interface that introduced the message.
-    pub fn since(&self) -> u32
-        ensures { result ≡ self.now.since }
-    {
-        self.since
-    }
-
     /// The kinds of its arguments, in order.
     #[inline]
     pub fn kinds(&self) -> &[Kind]
         ensures { result.now ≡ self.now.kinds }
     {
         self.kinds.as_slice()
-    }
-
-    /// Whether one of its arguments is a new object, of the client or of the server. Takes constant
-    /// time.
-    #[inline]
-    pub fn has_new_object(&self) -> bool
-        ensures { result ≡ has_new_object self.now }
-    {
-        self.has_new_object
-    }
-
-    /// How many of its arguments are descriptors: so many tokens the message takes. It looks at no
-    /// kind.
-    #[inline]
-    pub fn descriptors(&self) -> usize
-        ensures { result ≡ descriptors self.now.kinds }
-    {
-        self.descriptors
     }
 
     /// Whether one of its arguments is a new object of the server.
@@ -161,13 +136,6 @@ impl<A: Allocator> Signature<A> {
         ensures { result ≡ (destroys_target self.now.destroys && nat_le self.now.since version) }
     {
         matches!(self.destroys, Destroys::Target) && self.since <= version
-    }
-
-    /// What the message destroys.
-    pub fn destroys(&self) -> Destroys
-        ensures { result ≡ self.now.destroys }
-    {
-        self.destroys
     }
 }
 

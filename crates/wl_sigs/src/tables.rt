@@ -91,8 +91,11 @@ impl<A: Allocator> Tables<A> {
         ensures answer { option_copied result ≡ signature_at self.now iface.0 side opcode }
         ensures valid { Valid self.now }
     {
-        let entry = self.entry(iface)?;
-        entry.message(side, opcode)
+        let entry = self.interfaces.get(iface.0 as usize)?;
+        match side {
+            Side::Request => entry.requests.get(opcode as usize),
+            Side::Event => entry.events.get(opcode as usize),
+        }
     }
 
     /// The opcode of the request or event with this name. `None` past the tables, or if the

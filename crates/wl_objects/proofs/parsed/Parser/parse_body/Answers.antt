@@ -1,12 +1,14 @@
-use Rattle.std.proofs.Common.{◌≡◌, ◌∙◌, ◌<◌, ℕ, List, length, take, get_or, ap, subst, arith, rules}
+use Rattle.std.proofs.Common.{◌≡◌, ◌∙◌, ◌+◌, ◌<◌, ℕ, List, [], length, take, drop, get_or, ap, sym, subst}
+use Rattle.std.proofs.Common.{arith, rules}
+use Rattle.std.specs.Prelude.{set}
 use Rattle.std.specs.declared.result.Result.TheVariants.{Err}
 use Rattle.std.proofs.lemmas.List.{length-set, length-drop}
 use Rattle.wl_wire.specs.declared.kind.Kind.TheVariants.{Int}
 use Rattle.wl_wire.specs.Argument.{lent}
 use Rattle.wl_objects.specs.Reading.{arguments_at, forgiving, forgiving_kind}
-use Rattle.wl_objects.specs.Parsed.{Lies, place_after}
+use Rattle.wl_objects.specs.Parsed.{Lies, all_parsed, behind_those, made_of, parsed_argument, place_after}
 use Rattle.wl_objects.proofs.ValueBytes.{read-lies}
-use Rattle.wl_objects.proofs.ParsedLemmas.{rest-is, read-at}
+use Rattle.wl_objects.proofs.ParsedLemmas.{rest-is, read-at, number-kept, number-place}
 use Rattle.wl_objects.proofs.ParsedLemmas.{after-fd, after-other, after-least, parsed-next, parsed-fault}
 use Rattle.wl_objects.proofs.ParsedLemmas.{parsed-end, parsed_whole, parsed_err}
 use Rattle.wl_objects.proofs.parsed.Parser.parse_body.Goals.{in-Fd, in_default-value}
@@ -38,6 +40,41 @@ returns-in_err-args-inside-clause-answer g c =
     c.kinds.args-inside.items (lent c.in-Ok.found.0) fault c.kinds-test.true
     (read-at (forgiving_kind c.args.self.now.forgives kind) c.match-kind.read_as c.kinds.end body _ same
     c.in-Ok.ensures.computes) c.in_err-args-inside.ensures ∙ c.kinds.invariant.made))
+
+pub kinds-preserved-in-Some : goal.kinds-preserved-in-Some
+kinds-preserved-in-Some g c =
+    let r = g.L.Lookup.reader c.args.self.now.lookup.now in
+    let q = forgiving c.args.self.now.forgives r in
+    let body = c.args.self.now.body.now in
+    let list = c.args.kinds.now in
+    let i = c.kinds.place in
+    let kind = get_or list i Int in
+    let items = c.kinds.args-inside.items in
+    let number = c.in-Some.number in
+    let end = c.kinds.end + c.in-Some.len in
+    let same : c.match-kind.read_as ≡ forgiving_kind c.args.self.now.forgives kind = search rules in
+    let room : i < length items = omega (arith, c.kinds.invariant.room, c.kinds-test.true, c.requires.few) in
+    record {
+      made = ap (λ (d : ℕ). behind_those (all_parsed body r.birth (take (i + 1) (set items i number)))
+          (made_of r d (arguments_at q (i + 1) (drop (i + 1) list) (drop end body))))
+          (sym (number-place number c.kinds.descriptors c.in-Some.ensures.number))
+          ∙ parsed-next r q i c.kinds.end c.in-Some.len c.kinds.descriptors r.birth list Int body items number
+          (parsed_argument [] number) c.kinds-test.true room
+          (read-at (forgiving_kind c.args.self.now.forgives kind) c.match-kind.read_as c.kinds.end body _ same
+          (sym c.in-Some.ensures.read))
+          (number-kept r q c.kinds.descriptors i r.birth body kind number c.in-Some.ensures.number)
+          ∙ c.kinds.invariant.made;
+      within = omega (
+        arith,
+        c.in-Some.ensures.within,
+        ap length (rest-is c.kinds.end body),
+        length-drop c.kinds.end body,
+        c.kinds.invariant.within,
+      );
+      room = length-set items i number ∙ c.kinds.invariant.room;
+      few = omega (arith, c.kinds.invariant.few);
+      held = c.kinds.invariant.held;
+    }
 
 pub kinds-preserved : goal.kinds-preserved
 kinds-preserved g c =
