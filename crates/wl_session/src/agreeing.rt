@@ -4,6 +4,7 @@ ghost use Rattle.wl_object_map.specs.declared.object.State.TheVariants.{Live, Zo
 ghost use Rattle.wl_object_map.specs.View.{max_ids};
 ghost use Rattle.wl_object_map.specs.Objects.{ObjectsAreSound, ids_used};
 ghost use Rattle.wl_sigs.specs.Rules.{has_server_objects};
+ghost use Rattle.wl_connection.specs.ServerRange.{IsRangeNewUnlessMade};
 ghost use Rattle.theory_connection.specs.World.{World};
 ghost use Rattle.theory_connection.specs.Pair.{drained};
 ghost use Rattle.theory_connection.specs.Stands.{Stands};
@@ -43,8 +44,7 @@ pub fn same_rows<T: Table>(client: &Client<'_, T>, server: &Server<'_, T>) -> bo
     ensures rows { NoEventMakes client.now.core server.now.core
         → IsTrue result ↔ HaveSameRows client.now.core.view server.now.core.view }
 {
-    let client = client.objects();
-    let server = server.objects();
+    let (client, server) = objects_of(client, server);
     same_of_client(client, server) && same_of_server(client, server)
 }
 
@@ -57,9 +57,21 @@ pub fn object_count<T: Table>(client: &Client<'_, T>, server: &Server<'_, T>) ->
     ensures of_client { has_server_objects server.now.core.tables ≡ false
         → result ≡ client_count client.now.core.view }
 {
-    let of_client = client.objects().len(Maker::Client);
-    let of_server = server.objects().len(Maker::Server);
-    of_client as usize + of_server as usize
+    let (client, server) = objects_of(client, server);
+    client.len(Maker::Client) as usize + server.len(Maker::Server) as usize
+}
+
+/// The objects of a client and those of a server.
+fn objects_of<'a, T: Table>(
+    client: &'a Client<'_, T>,
+    server: &'a Server<'_, T>,
+) -> (&'a Objects<T>, &'a Objects<T>)
+    ensures client { result.0.now ≡ client.now.core.view }
+    ensures server { result.1.now ≡ server.now.core.view }
+    ensures client_range { IsRangeNewUnlessMade client.now.core.tables client.now.core.view }
+    ensures server_range { IsRangeNewUnlessMade server.now.core.tables server.now.core.view }
+{
+    (client.objects(), server.objects())
 }
 
 /// Whether the two have the same live object, or none, at each id of the client's range.
