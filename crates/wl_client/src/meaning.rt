@@ -1,4 +1,4 @@
-//! The meaning of a message to a client: its report, and its changes.
+//! What the events of wl_display mean to a client: their reports and changes.
 ghost use Rattle.std.specs.Prelude.{◌≡◌, ℕ, List, None, true, false};
 ghost use Rattle.wl_sigs.specs.Side.TheVariants.{Event};
 ghost use Rattle.wl_sigs.specs.Tables.{Interface};

@@ -50,13 +50,11 @@ fn read_frame<T: Table, R: Meaning<T>>(
         frame.entry.header frame.entry.body.now frame.entry.tokens) result }
 {
     let header = frame.header;
-    let side = R::SIDE;
-    let lookup = ObjectsLookup {
+    let writer = SideTables {
         tables,
-        side,
-        objects,
+        side: R::SIDE,
     };
-    let writer = SideTables { tables, side };
+    let lookup = ObjectsLookup { writer, objects };
     let received = receive(args, writer, &lookup, header, frame.body, frame.tokens);
     let message = match received {
         Ok(message) => message,

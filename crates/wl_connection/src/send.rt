@@ -150,8 +150,8 @@ impl<'t, T: Table> Core<'t, T> {
             .push_encoded(message, &places[..count], &mut self.store);
     }
 
-    /// Ends the object that a message destroys, if it destroys one: at a client it becomes a
-    /// zombie; at a server it is closed, and delete_id follows.
+    /// Ends the object that a message destroys, if it destroys one. At a client it becomes a
+    /// zombie; at a server its id is free again, and delete_id follows.
     fn end_object(&mut self, side: Side, what: Destroys, target: u32, args: &[Arg<'_>])
         requires live { IsTrue (is_live self.old.view (ended_id what target (on_wire 0 args.now))) }
         requires other { destroys_one what ≡ true
@@ -166,6 +166,7 @@ impl<'t, T: Table> Core<'t, T> {
             Destroys::Target => target,
             Destroys::Arg(place) => match args.get(place) {
                 Some(Arg::Obj(Some(object))) => object.id,
+                // No object, which `check_call` refuses.
                 _ => 0,
             },
         };

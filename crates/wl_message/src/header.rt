@@ -1,4 +1,4 @@
-//! The header at the front of bytes.
+//! The header at the front of a ring.
 ghost use Rattle.std.specs.Prelude.{◌≡◌, ◌<◌, ◌≤◌, length, take};
 ghost use Rattle.wl_wire.specs.Word.{header_bytes};
 ghost use Rattle.wl_message.specs.Cut.{told_size};

@@ -61,7 +61,7 @@ impl<'a> Args<'a> {
     {
         let (parsed, left) = self.left.split_first()?;
         self.left = left;
-        let birth = self.birth;
+        let new_birth = self.birth;
         Some(match *parsed {
             ParsedArg::Null => GotRef::Str(None),
             ParsedArg::Int(number) => GotRef::Int(number),
@@ -74,7 +74,10 @@ impl<'a> Args<'a> {
             ParsedArg::Object { id, birth, state } => {
                 GotRef::Obj(in_state(state, Object { id, birth }))
             }
-            ParsedArg::New { id } => GotRef::New(Object { id, birth }),
+            ParsedArg::New { id } => GotRef::New(Object {
+                id,
+                birth: new_birth,
+            }),
             ParsedArg::Bound {
                 len,
                 start,
@@ -83,7 +86,10 @@ impl<'a> Args<'a> {
             } => GotRef::Bound {
                 iface: part(self.body, start, len as usize),
                 version,
-                object: Object { id, birth },
+                object: Object {
+                    id,
+                    birth: new_birth,
+                },
             },
             ParsedArg::Array { len, start } => GotRef::Array(part(self.body, start, len as usize)),
             ParsedArg::Fd { place } => GotRef::Fd(token_at(self.tokens, place)),

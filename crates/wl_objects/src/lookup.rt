@@ -3,8 +3,9 @@ ghost use Rattle.std.specs.Prelude.{◌≡◌};
 ghost use Rattle.wl_objects.specs.Reading.{Reader};
 ghost use Rattle.wl_objects.specs.Messages.{server_may_use, reader_of, waits_for_request};
 
+use crate::messages::SideTables;
 use wl_object_map::{Entry, FIRST_SERVER_ID, Maker, Objects, State, Table};
-use wl_sigs::{Side, Tables};
+use wl_sigs::Tables;
 
 /// What a reader finds for an id that a new object is to have.
 #[derive(Clone, Copy, Debug, PartialEq, Eq)]
@@ -36,17 +37,17 @@ pub trait Lookup {
         ensures { result ≡ (reader self.now).new_server_id id };
 }
 
-/// An end's objects, as a reader of one side's messages sees them, given the tables.
+/// An end's objects, as a reader of one side's messages sees them.
 #[derive(Drop)]
 pub struct ObjectsLookup<'a, T: Table> {
-    pub tables: &'a Tables,
-    /// The side that writes the messages, and so makes the new objects. Only contracts read it.
-    pub side: Side,
+    /// The tables, and the side that writes the messages and so makes the new objects. (Only
+    /// contracts read the side.)
+    pub writer: SideTables<'a>,
     pub objects: &'a Objects<T>,
 }
 
 impl<'a, T: Table> Lookup for ObjectsLookup<'a, T> {
-    ghost reader = { λ held. reader_of held.tables.now held.side held.objects.now };
+    ghost reader = { λ held. reader_of held.writer.tables.now held.writer.side held.objects.now };
 
     fn object(&self, id: u32) -> Option<Entry> {
         self.objects.look(id)
@@ -64,7 +65,7 @@ impl<'a, T: Table> Lookup for ObjectsLookup<'a, T> {
     }
 
     fn new_server_id(&self, id: u32) -> NewId {
-        if !server_may_use(self.tables, self.objects, id) {
+        if !server_may_use(self.writer.tables, self.objects, id) {
             NewId::Wrong
         } else if !self.objects.has_room(id) {
             NewId::TooMany

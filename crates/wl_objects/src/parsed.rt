@@ -204,11 +204,13 @@ impl<'a, L: Lookup> Parser<'a, L> {
         let mut descriptors = 0;
         'kinds: for (place, kind) in kinds.iter().enumerate() {
             let rest = &self.body[end..];
+            // In wl_display.error an object may be null. What else the kind asks of it is judged by
+            // `resolve`.
             let read_as = match *kind {
                 Kind::Obj { iface, .. } if self.forgives => Kind::Obj { null: true, iface },
                 kind => kind,
             };
-            // Most arguments are numbers, for which nothing is looked up.
+            // Most arguments are numbers. `resolve` would keep them in the same way, but slower.
             if let Some((number, len)) = read_number(read_as, rest) {
                 args.items[place] = number;
                 end += len;
@@ -228,7 +230,8 @@ impl<'a, L: Lookup> Parser<'a, L> {
         Ok(&self.body[end..])
     }
 
-    /// Judges a value whose spelling starts here, and keeps its position.
+    /// Judges a value whose spelling starts at `start`, and keeps where it lies. (No number comes
+    /// here: `parse_body` keeps those itself.)
     fn resolve(
         &self,
         place: usize,
@@ -244,6 +247,7 @@ impl<'a, L: Lookup> Parser<'a, L> {
             (value_fault (forgiving self.now.forgives (L.reader self.now.lookup.now)) place kind
             (lent value.entry)) }
     {
+        // Behind the word with the length.
         let text = start + 4;
         match value {
             ValueRef::Int(number) => Ok(ParsedArg::Int(number)),

@@ -50,9 +50,9 @@ impl<'t, 'a> Received<'t, 'a> {
     }
 }
 
-/// Reads one whole message of the writer's side while this number of tokens waits, for anything
-/// that knows the objects and the ids. Its arguments are parsed over those of the message before,
-/// and borrowed from there. Allocates nothing.
+/// Reads one whole message that `writer.side` wrote, while `waiting` tokens wait. `lookup` knows
+/// the objects and the ids. The arguments are parsed over those of the message before, and borrowed
+/// from there. Allocates nothing.
 ///
 /// Returns the first fault: F2; F3; for each argument from the left F4, F5, F6, F10; then F7 and
 /// F8. An object may be a zombie. In wl_display.error the object may be null or unknown.

@@ -27,9 +27,9 @@ pub struct Signature<A: Allocator = Global> {
     kinds: Kinds<A>,
     /// What the message destroys.
     pub destroys: Destroys,
-    /// Whether one of its arguments is a new object, of the client or of the server.
+    /// Whether one of its kinds is a new object, of the client or of the server.
     pub has_new_object: bool,
-    /// How many of its arguments are descriptors: so many tokens the message takes.
+    /// How many of its kinds are descriptors, which is how many tokens the message takes.
     pub descriptors: usize,
 }
 
@@ -57,7 +57,7 @@ impl<A: Allocator> Model for Signature<A> {
     } };
 }
 
-// Without whether there is a new object, which the kinds give.
+// Without what the kinds give: `has_new_object` and `descriptors`.
 impl<A: Allocator> Debug for Signature<A> {
     fn fmt<W: fmt::Write>(&self, f: &mut Formatter<W>) -> fmt::Result {
         f.debug_struct("Signature")
