@@ -7,6 +7,10 @@ mod message;
 #[cfg(test)]
 mod objects;
 #[cfg(test)]
+mod outboxes;
+#[cfg(test)]
+mod replies;
+#[cfg(test)]
 mod rings;
 #[cfg(test)]
 mod sigs;

@@ -2,6 +2,7 @@
 // `&mut`.
 ghost use Rattle.std.specs.Prelude.{◌≡◌, false};
 
+use crate::outboxes::{Act, plays, plays_anew};
 use std::alloc::{AllocError, Global};
 use std::test::Fail;
 use test_allocator::RefusingAllocator;
@@ -24,39 +25,51 @@ const BIND: [u8; 40] = [
     b'o', b's', b'i', b't', b'o', b'r', 0, 0, 0, 6, 0, 0, 0, 4, 0, 0, 0,
 ];
 
-/// What is at the front: the header of a whole message, or a bad size.
-fn front(inbox: &mut Inbox<Global>) -> Result<Option<Header>, BadSize> {
+/// Whether this bad size is at the front; `None`: neither a whole message nor a bad size.
+fn has_front(inbox: &mut Inbox<Global>, bad: Option<BadSize>) -> bool {
     match inbox.frame() {
-        Ok(Some(frame)) => Ok(Some(frame.header)),
-        Ok(None) => Ok(None),
-        Err(bad) => Err(bad),
+        Ok(None) => bad.is_none(),
+        Ok(Some(_)) => false,
+        Err(found) => bad == Some(found),
     }
 }
 
-/// Whether this is at the front of fresh bytes, with this limit.
-fn begin_at(
-    limit: Limit,
-    alloc: Global,
-    bytes: &[u8],
-    want: Result<Option<Header>, BadSize>,
-) -> bool {
+/// Whether neither a whole message nor a bad size is at the front.
+fn waits(inbox: &mut Inbox<Global>) -> bool {
+    has_front(inbox, None)
+}
+
+/// Fresh bytes for an inbox with this limit in bytes, and the bad size at their front.
+#[derive(Clone, Copy)]
+struct Beginning {
+    limit: u32,
+    bytes: &'static [u8],
+    bad: Option<BadSize>,
+}
+
+/// Whether an inbox with this limit finds that at the front.
+fn begins(alloc: Global, limit: Limit, beginning: Beginning) -> bool {
     match Inbox::new(alloc, 65_536, 64, limit) {
         Ok(mut inbox) => {
-            inbox.feed(bytes, &[]);
-            front(&mut inbox) == want
+            inbox.feed(beginning.bytes, &[]);
+            has_front(&mut inbox, beginning.bad)
         }
         Err(_) => false,
     }
 }
 
-/// Whether this is at the front of fresh bytes, with the usual limit.
-fn begin_with(alloc: Global, bytes: &[u8], want: Result<Option<Header>, BadSize>) -> bool {
-    begin_at(Limit::USUAL, alloc, bytes, want)
-}
-
-/// Whether neither a whole message nor a bad size is at the front.
-fn waits(inbox: &mut Inbox<Global>) -> bool {
-    front(inbox) == Ok(None)
+/// Whether each of the rows is true.
+fn all_begin(alloc: Global, rows: &[Beginning]) -> bool {
+    for row in rows {
+        let is_true = match Limit::new(row.limit) {
+            Some(limit) => begins(alloc, limit, *row),
+            None => false,
+        };
+        if !is_true {
+            return false;
+        }
+    }
+    true
 }
 
 /// Whether a message with this header and body is at the front, and this number of tokens waits.
@@ -78,20 +91,34 @@ fn pops(inbox: &mut Inbox<Global>) -> bool {
     }
 }
 
-/// Whether sizes of 7 and 4100 are reported as soon as the header is there, and a message of 4096
-/// is waited for.
-fn tells_bad_sizes(alloc: Global) -> bool {
-    let seven = Err(BadSize { size: 7 });
-    let above = Err(BadSize { size: 4100 });
-    begin_with(alloc, b"\x01\0\0\0\0\0\x07\0", seven)
-        && begin_with(alloc, b"\x01\0\0\0\0\0\x04\x10", above)
-        && begin_with(alloc, b"\x01\0\0\0\0\0\0\x10", Ok(None))
-        && begin_with(alloc, b"\x01\0\0\0\0\0\x07", Ok(None))
-}
+/// Sizes of 7 and 4100 are reported as soon as the header is there, and a message of 4096 is waited
+/// for.
+const USUAL_BEGINNINGS: [Beginning; 4] = [
+    Beginning {
+        limit: 4096,
+        bytes: b"\x01\0\0\0\0\0\x07\0",
+        bad: Some(BadSize { size: 7 }),
+    },
+    Beginning {
+        limit: 4096,
+        bytes: b"\x01\0\0\0\0\0\x04\x10",
+        bad: Some(BadSize { size: 4100 }),
+    },
+    Beginning {
+        limit: 4096,
+        bytes: b"\x01\0\0\0\0\0\0\x10",
+        bad: None,
+    },
+    Beginning {
+        limit: 4096,
+        bytes: b"\x01\0\0\0\0\0\x07",
+        bad: None,
+    },
+];
 
 #[test]
 fn a_size_that_no_message_has_is_told_with_its_header(rt: HostRuntime) {
-    assert!(rt; tells_bad_sizes(rt.alloc()));
+    assert!(rt; all_begin(rt.alloc(), &USUAL_BEGINNINGS));
 }
 
 /// Whether a limit is made from each allowed number of bytes, and from no other.
@@ -114,22 +141,34 @@ fn limits_are_the_multiples_of_4_from_4096_to_65532(rt: HostRuntime) {
     assert!(rt; makes_the_limits());
 }
 
-/// Whether an inbox with the greatest limit waits for messages above the usual one, and reports a
-/// size that no limit allows.
-fn tells_what_no_limit_allows(alloc: Global) -> bool {
-    let Some(greatest) = Limit::new(65_532) else {
-        return false;
-    };
-    let above = Err(BadSize { size: 65_534 });
-    begin_at(greatest, alloc, b"\x01\0\0\0\0\0\x04\x10", Ok(None))
-        && begin_at(greatest, alloc, b"\x01\0\0\0\0\0\xfc\xff", Ok(None))
-        && begin_at(greatest, alloc, b"\x01\0\0\0\0\0\xfe\xff", above)
-        && begin_with(alloc, b"\x01\0\0\0\0\0\xfe\xff", above)
-}
+/// An inbox with the greatest limit waits for messages above the usual one, and reports a size that
+/// no limit allows.
+const GREATEST_BEGINNINGS: [Beginning; 4] = [
+    Beginning {
+        limit: 65_532,
+        bytes: b"\x01\0\0\0\0\0\x04\x10",
+        bad: None,
+    },
+    Beginning {
+        limit: 65_532,
+        bytes: b"\x01\0\0\0\0\0\xfc\xff",
+        bad: None,
+    },
+    Beginning {
+        limit: 65_532,
+        bytes: b"\x01\0\0\0\0\0\xfe\xff",
+        bad: Some(BadSize { size: 65_534 }),
+    },
+    Beginning {
+        limit: 4096,
+        bytes: b"\x01\0\0\0\0\0\xfe\xff",
+        bad: Some(BadSize { size: 65_534 }),
+    },
+];
 
 #[test]
 fn the_limit_tells_which_size_is_bad(rt: HostRuntime) {
-    assert!(rt; tells_what_no_limit_allows(rt.alloc()));
+    assert!(rt; all_begin(rt.alloc(), &GREATEST_BEGINNINGS));
 }
 
 /// Whether a message of 4096 bytes is there with its last byte.
@@ -149,7 +188,9 @@ fn comes_with_its_last_byte(inbox: &mut Inbox<Global>) -> bool {
 #[test]
 fn a_message_of_4096_bytes_is_waited_for(rt: HostRuntime) -> Result<(), Fail> {
     let mut inbox = Inbox::new(rt.alloc(), 65_536, 64, Limit::USUAL)?;
-    assert!(rt; comes_with_its_last_byte(&mut inbox));
+    let is_right = comes_with_its_last_byte(&mut inbox);
+    drop(inbox);
+    assert!(rt; is_right);
     Ok(())
 }
 
@@ -179,176 +220,181 @@ fn comes_byte_by_byte(inbox: &mut Inbox<Global>) -> bool {
 #[test]
 fn a_message_comes_byte_by_byte(rt: HostRuntime) -> Result<(), Fail> {
     let mut inbox = Inbox::new(rt.alloc(), 4096, 20, Limit::USUAL)?;
-    assert!(rt; comes_byte_by_byte(&mut inbox));
+    let is_right = comes_byte_by_byte(&mut inbox);
+    drop(inbox);
+    assert!(rt; is_right);
     Ok(())
 }
 
-/// Whether exactly these numbers of bytes and tokens are taken in.
-fn takes_in(
-    inbox: &mut Inbox<Global>,
-    from: &[u8],
-    with: &[u32],
-    bytes: usize,
-    tokens: usize,
-) -> bool {
-    inbox.feed(from, with) == Fed { bytes, tokens }
+/// What is fed to an inbox, how much of it is taken in, and how many bytes fit then.
+#[derive(Clone, Copy)]
+struct Feeding {
+    bytes: &'static [u8],
+    tokens: &'static [u32],
+    fed: Fed,
+    room: usize,
+}
+
+/// Tokens that do not fit hold back the bytes. Bytes without tokens are then taken in as far as
+/// there is room.
+const HELD_BACK: [Feeding; 4] = [
+    Feeding {
+        bytes: &SYNC,
+        tokens: &[7; 21],
+        fed: Fed {
+            bytes: 0,
+            tokens: 20,
+        },
+        room: 4096,
+    },
+    Feeding {
+        bytes: &SYNC,
+        tokens: &[7],
+        fed: Fed {
+            bytes: 0,
+            tokens: 0,
+        },
+        room: 4096,
+    },
+    Feeding {
+        bytes: &[0; 4090],
+        tokens: &[],
+        fed: Fed {
+            bytes: 4090,
+            tokens: 0,
+        },
+        room: 6,
+    },
+    Feeding {
+        bytes: &SYNC,
+        tokens: &[],
+        fed: Fed {
+            bytes: 6,
+            tokens: 0,
+        },
+        room: 0,
+    },
+];
+
+/// Whether exactly this is taken in, and 20 tokens wait then, the last of which is 7.
+fn takes_in(inbox: &mut Inbox<Global>, feeding: Feeding) -> bool {
+    inbox.feed(feeding.bytes, feeding.tokens) == feeding.fed
+        && inbox.room() == feeding.room
+        && inbox.token_room() == 0
+        && inbox.token(19) == Some(7)
+        && inbox.token(20).is_none()
 }
 
 /// Whether tokens that do not fit hold back the bytes.
 fn holds_back_bytes(inbox: &mut Inbox<Global>) -> bool {
-    let tokens = [7; 21];
-    takes_in(inbox, &SYNC, &tokens, 0, 20)
-        && inbox.token_room() == 0
-        && inbox.token(19) == Some(7)
-        && inbox.token(20).is_none()
-        && takes_in(inbox, &SYNC, &tokens[..1], 0, 0)
-        && inbox.room() == 4096
-}
-
-/// Whether bytes without tokens are then taken in as far as there is room.
-fn takes_bytes_alone(inbox: &mut Inbox<Global>) -> bool {
-    holds_back_bytes(inbox)
-        && takes_in(inbox, &[0; 4090], &[], 4090, 0)
-        && takes_in(inbox, &SYNC, &[], 6, 0)
-        && inbox.room() == 0
+    for feeding in HELD_BACK {
+        if !takes_in(inbox, feeding) {
+            return false;
+        }
+    }
+    true
 }
 
 #[test]
 fn tokens_that_do_not_fit_hold_back_the_bytes(rt: HostRuntime) -> Result<(), Fail> {
     let mut inbox = Inbox::new(rt.alloc(), 4096, 20, Limit::USUAL)?;
-    assert!(rt; takes_bytes_alone(&mut inbox));
+    let is_right = holds_back_bytes(&mut inbox);
+    drop(inbox);
+    assert!(rt; is_right);
     Ok(())
 }
 
-/// Pushes a message. True if it is whole and fits.
-fn pushes(outbox: &mut Outbox<Global>, message: &[u8], tokens: &[u32]) -> bool {
-    outbox.limit().is_message(message) && outbox.push(message, tokens).is_ok()
-}
+const BEGINS: Taken = Taken {
+    bytes: 3,
+    tokens: 1,
+};
 
-/// Whether a message is whole and does not fit.
-fn is_full(outbox: &mut Outbox<Global>, message: &[u8], tokens: &[u32]) -> bool {
-    outbox.limit().is_message(message) && outbox.push(message, tokens) == Err(Full)
-}
-
-/// Whether exactly these bytes and tokens are taken, if there is room for as many.
-fn gives<const BYTES: usize, const TOKENS: usize>(
-    outbox: &mut Outbox<Global>,
-    bytes: [u8; BYTES],
-    tokens: [u32; TOKENS],
-) -> bool {
-    let mut some = [0xff; BYTES];
-    let mut some_tokens = [0xff; TOKENS];
-    let taken = outbox.take(&mut some, &mut some_tokens);
-    let wanted = Taken {
-        bytes: BYTES,
-        tokens: TOKENS,
-    };
-    taken == wanted && some == bytes && some_tokens == tokens
-}
-
-/// Whether the token of `CREATE_POOL` goes with its first byte.
-fn gives_the_token_first(outbox: &mut Outbox<Global>) -> bool {
-    let mut bytes = [0; 16];
-    let nothing = Taken {
-        bytes: 0,
-        tokens: 0,
-    };
-    let begins = Taken {
-        bytes: 3,
-        tokens: 1,
-    };
-    pushes(outbox, &CREATE_POOL, &[77])
-        && outbox.take(&mut bytes, &mut []) == nothing
-        && outbox.goes(3, 1) == begins
-        && gives(outbox, [4, 0, 0], [77])
-        && outbox.token_room() == 64
-        && gives(outbox, [0, 0, 0, 16, 0, 5, 0, 0, 0, 0, 16, 0, 0], [])
-        && outbox.is_empty()
-}
+/// The token of `CREATE_POOL` goes with its first byte.
+const TOKEN_FIRST: [Act; 7] = [
+    Act::Push(&CREATE_POOL, &[77], Ok(())),
+    Act::Take(16, 0, &[], &[]),
+    Act::Goes(3, 1, BEGINS),
+    Act::Take(3, 1, &[4, 0, 0], &[77]),
+    Act::Room(65_523, 64),
+    Act::Take(13, 0, &[0, 0, 0, 16, 0, 5, 0, 0, 0, 0, 16, 0, 0], &[]),
+    Act::IsEmpty,
+];
 
 #[test]
-fn tokens_go_with_the_first_byte(rt: HostRuntime) -> Result<(), Fail> {
-    let mut outbox = Outbox::new(rt.alloc(), 65_536, 64, Limit::USUAL)?;
-    assert!(rt; gives_the_token_first(&mut outbox));
-    Ok(())
+fn tokens_go_with_the_first_byte(rt: HostRuntime) {
+    assert!(rt; plays_anew(rt.alloc(), 65_536, 64, &TOKEN_FIRST));
 }
 
-/// Whether 28 bytes and a token fit, and no more.
-fn fills_up(outbox: &mut Outbox<Global>) -> bool {
-    is_full(outbox, &CREATE_POOL, &[1, 2])
-        && pushes(outbox, &CREATE_POOL, &[1])
-        && is_full(outbox, &SYNC, &[2])
-        && is_full(outbox, &CREATE_POOL, &[])
-        && pushes(outbox, &SYNC, &[])
-        && outbox.room() == 0
-        && outbox.token_room() == 0
-}
+/// `CREATE_POOL` and `SYNC`.
+const BOTH: [u8; 28] = [
+    4, 0, 0, 0, 0, 0, 16, 0, 5, 0, 0, 0, 0, 16, 0, 0, 1, 0, 0, 0, 0, 0, 12, 0, 3, 0, 0, 0,
+];
 
-/// Whether a take with more room then gets exactly what was pushed.
-fn fills_up_and_gives_both(outbox: &mut Outbox<Global>) -> bool {
-    let mut bytes = [0; 40];
-    let all = Taken {
-        bytes: 28,
-        tokens: 1,
-    };
-    fills_up(outbox)
-        && outbox.take(&mut bytes, &mut [0]) == all
-        && &bytes[..16] == CREATE_POOL.as_slice()
-        && &bytes[16..28] == SYNC.as_slice()
-}
+/// 28 bytes and a token fit, and no more. A take with more room then gets exactly what was pushed.
+const FILLS_UP: [Act; 7] = [
+    Act::Push(&CREATE_POOL, &[1, 2], Err(Full)),
+    Act::Push(&CREATE_POOL, &[1], Ok(())),
+    Act::Push(&SYNC, &[2], Err(Full)),
+    Act::Push(&CREATE_POOL, &[], Err(Full)),
+    Act::Push(&SYNC, &[], Ok(())),
+    Act::Room(0, 0),
+    Act::Take(40, 1, &BOTH, &[1]),
+];
 
 #[test]
-fn an_outbox_fills_to_the_last_byte_and_token(rt: HostRuntime) -> Result<(), Fail> {
-    let mut outbox = Outbox::new(rt.alloc(), 28, 1, Limit::USUAL)?;
-    assert!(rt; fills_up_and_gives_both(&mut outbox));
-    Ok(())
+fn an_outbox_fills_to_the_last_byte_and_token(rt: HostRuntime) {
+    assert!(rt; plays_anew(rt.alloc(), 28, 1, &FILLS_UP));
 }
 
 /// An event of 64 bytes.
-fn long_event() -> [u8; 64] {
-    let mut event = [1; 64];
-    event[..8].copy_from_slice(&[1, 0, 0, 0, 0, 0, 64, 0]);
-    event
-}
+const LONG_EVENT: [u8; 64] = [
+    1, 0, 0, 0, 0, 0, 64, 0, 1, 1, 1, 1, 1, 1, 1, 1, 1, 1, 1, 1, 1, 1, 1, 1, 1, 1, 1, 1, 1, 1, 1,
+    1, 1, 1, 1, 1, 1, 1, 1, 1, 1, 1, 1, 1, 1, 1, 1, 1, 1, 1, 1, 1, 1, 1, 1, 1, 1, 1, 1, 1, 1, 1, 1,
+    1,
+];
+
+/// All but its first four bytes.
+const LONG_REST: [u8; 60] = [
+    0, 0, 64, 0, 1, 1, 1, 1, 1, 1, 1, 1, 1, 1, 1, 1, 1, 1, 1, 1, 1, 1, 1, 1, 1, 1, 1, 1, 1, 1, 1,
+    1, 1, 1, 1, 1, 1, 1, 1, 1, 1, 1, 1, 1, 1, 1, 1, 1, 1, 1, 1, 1, 1, 1, 1, 1, 1, 1, 1, 1,
+];
+
+/// The first bytes of the event went after the message that filled the outbox, and the rest waits.
+/// One ordinary message fits after it, and no other.
+const BEHIND_AN_ERROR: [Act; 9] = [
+    Act::Room(0, 0),
+    Act::Take(12, 0, &SYNC, &[]),
+    Act::Take(4, 0, &[1, 0, 0, 0], &[]),
+    Act::Room(12, 0),
+    Act::Push(&SYNC, &[], Ok(())),
+    Act::Push(&SYNC, &[], Err(Full)),
+    Act::Take(60, 0, &LONG_REST, &[]),
+    Act::Take(12, 0, &SYNC, &[]),
+    Act::IsEmpty,
+];
 
 /// Whether the error event fits after a message that fills the outbox.
-fn fits_a_full_outbox(outbox: &mut Outbox<Global>) -> bool
+fn fits_a_full_outbox(alloc: Global, outbox: &mut Outbox<Global>) -> bool
     requires { outbox.old.has_error ≡ false }
 {
-    let event = long_event();
     let limit = outbox.limit();
-    if !limit.is_message(&SYNC) || !limit.is_message(&event) || outbox.push(&SYNC, &[]).is_err() {
+    if !limit.is_message(&SYNC)
+        || !limit.is_message(&LONG_EVENT)
+        || outbox.push(&SYNC, &[]).is_err()
+    {
         return false;
     }
-    outbox.push_error(&event);
-    outbox.room() == 0
-        && gives(outbox, SYNC, [])
-        && gives(outbox, [1, 0, 0, 0], [])
-        && outbox.room() == 12
-}
-
-/// Whether one ordinary message then fits after the rest of it, and no other.
-fn goes_behind(outbox: &mut Outbox<Global>) -> bool
-    requires { outbox.old.has_error ≡ false }
-{
-    let mut behind = [0; 60];
-    let rest = Taken {
-        bytes: 60,
-        tokens: 0,
-    };
-    fits_a_full_outbox(outbox)
-        && pushes(outbox, &SYNC, &[])
-        && is_full(outbox, &SYNC, &[])
-        && outbox.take(&mut behind, &mut []) == rest
-        && behind.as_slice() == &long_event()[4..]
-        && gives(outbox, SYNC, [])
-        && outbox.is_empty()
+    outbox.push_error(&LONG_EVENT);
+    plays(alloc, outbox, &BEHIND_AN_ERROR)
 }
 
 #[test]
 fn an_error_event_fits_a_full_outbox(rt: HostRuntime) -> Result<(), Fail> {
-    let mut outbox = Outbox::new(rt.alloc(), 12, 0, Limit::USUAL)?;
-    assert!(rt; goes_behind(&mut outbox));
+    let alloc = rt.alloc();
+    let mut outbox = Outbox::new(alloc, 12, 0, Limit::USUAL)?;
+    let fits = fits_a_full_outbox(alloc, &mut outbox);
+    drop(outbox);
+    assert!(rt; fits);
     Ok(())
 }
 

@@ -1,12 +1,14 @@
 //! The objects of an end in both ranges of ids, with each kind of table.
 ghost use Rattle.std.specs.Prelude.{◌<◌};
 
+use crate::replies::{DONE, NOT_ALLOWED, Reply, opened, row};
+use crate::table::TableKind;
 use std::alloc::{AllocError, Allocator, Global};
 use std::test::Fail;
 use test_allocator::RefusingAllocator;
 use wl_object_map::{
-    DISPLAY_ID, Entry, FIRST_SERVER_ID as FIRST, MAX_IDS, MAX_SERVER_ID, Maker, MapTable, Object,
-    Objects, SlotTable, State, Table, TableError,
+    DISPLAY_ID, FIRST_SERVER_ID as FIRST, MAX_IDS, MAX_SERVER_ID, Maker, MapTable, Objects,
+    SlotTable, State, Table, TableError,
 };
 use wl_wire::Iface;
 
@@ -23,36 +25,16 @@ enum Call {
     End(u32),
     Close(u32),
     Look(u32),
-}
-
-/// What a call returned: an object's id and birth, a row's birth and state.
-#[derive(Clone, Copy, PartialEq)]
-enum Reply {
-    Opened(u32, u64),
-    Refused(TableError),
-    Row(u64, State),
-    NoRow,
-    Done,
-    NotAllowed,
-}
-
-fn opened(answer: Result<Object, TableError>) -> Reply {
-    match answer {
-        Ok(object) => Reply::Opened(object.id, object.birth),
-        Err(error) => Reply::Refused(error),
-    }
-}
-
-fn row(entry: Option<Entry>) -> Reply {
-    match entry {
-        Some(entry) => Reply::Row(entry.birth, entry.state),
-        None => Reply::NoRow,
-    }
+    CanOpen(Maker),
+    /// Whether this maker's range has used so many ids.
+    HasUsed(Maker, u32),
+    /// Openings of all ids of the server's range.
+    Fill,
 }
 
 fn reopen<T: Table>(objects: &mut Objects<T>, id: u32) -> Reply {
     if id == DISPLAY_ID || objects.look(id).is_none() || !objects.has_room(id) {
-        return Reply::NotAllowed;
+        return NOT_ALLOWED;
     }
     let object = objects.reopen(id, OFFER, 1);
     Reply::Opened(object.id, object.birth)
@@ -62,18 +44,29 @@ fn end<T: Table>(objects: &mut Objects<T>, id: u32) -> Reply {
     match objects.look(id) {
         Some(entry) if id != DISPLAY_ID && entry.state == State::Live => {
             objects.make_zombie(id);
-            Reply::Done
+            DONE
         }
-        _ => Reply::NotAllowed,
+        _ => NOT_ALLOWED,
     }
 }
 
 fn close<T: Table>(objects: &mut Objects<T>, id: u32) -> Reply {
     if id == DISPLAY_ID || objects.look(id).is_none() {
-        return Reply::NotAllowed;
+        return NOT_ALLOWED;
     }
     objects.close(id);
-    Reply::Done
+    DONE
+}
+
+/// Opens all ids of the server's range. True if each was given its id and birth.
+fn fill<T: Table>(objects: &mut Objects<T>) -> bool {
+    for birth in 1..MAX_IDS {
+        let id = FIRST - 1 + birth;
+        if opened(objects.open_next(Maker::Server, OFFER, 1)) != Reply::Opened(id, birth as u64) {
+            return false;
+        }
+    }
+    true
 }
 
 fn reply_of<T: Table>(objects: &mut Objects<T>, call: Call) -> Reply {
@@ -84,6 +77,9 @@ fn reply_of<T: Table>(objects: &mut Objects<T>, call: Call) -> Reply {
         Call::End(id) => end(objects, id),
         Call::Close(id) => close(objects, id),
         Call::Look(id) => row(objects.look(id)),
+        Call::CanOpen(maker) => Reply::Is(objects.can_open(maker)),
+        Call::HasUsed(maker, ids) => Reply::Is(objects.used(maker) == ids),
+        Call::Fill => Reply::Is(fill(objects)),
     }
 }
 
@@ -99,7 +95,9 @@ fn replies<T: Table>(objects: &mut Objects<T>, rows: &[(Call, Reply)]) -> bool {
 }
 
 /// Each range has its own ids, births and freed ids, and the server's begins at 0xff000000.
-const BOTH_RANGES: [(Call, Reply); 27] = [
+const BOTH_RANGES: [(Call, Reply); 31] = [
+    (Call::HasUsed(Maker::Client, 1), Reply::Is(true)),
+    (Call::HasUsed(Maker::Server, 0), Reply::Is(true)),
     (Call::OpenNext(Maker::Server), Reply::Opened(FIRST, 1)),
     (Call::OpenNext(Maker::Client), Reply::Opened(2, 1)),
     (Call::OpenNext(Maker::Server), Reply::Opened(FIRST + 1, 2)),
@@ -109,28 +107,36 @@ const BOTH_RANGES: [(Call, Reply); 27] = [
     (Call::OpenAt(FIRST + 4), Reply::Refused(TableError::NotNext)),
     (Call::OpenAt(FIRST - 1), Reply::Refused(TableError::NotNext)),
     (Call::OpenAt(FIRST - 2), Reply::Refused(TableError::NotNext)),
-    (Call::Look(DISPLAY_ID), Reply::Row(0, State::Live)),
+    (
+        Call::Look(DISPLAY_ID),
+        Reply::Row(0, DISPLAY, 1, State::Live),
+    ),
     (Call::Look(FIRST - 1), Reply::NoRow),
-    (Call::Look(FIRST), Reply::Row(1, State::Live)),
+    (Call::Look(FIRST), Reply::Row(1, OFFER, 1, State::Live)),
     (Call::Look(u32::MAX), Reply::NoRow),
-    (Call::Close(FIRST + 1), Reply::Done),
-    (Call::Close(FIRST), Reply::Done),
-    (Call::Close(2), Reply::Done),
+    (Call::Close(FIRST + 1), DONE),
+    (Call::Close(FIRST), DONE),
+    (Call::Close(2), DONE),
     (Call::OpenNext(Maker::Server), Reply::Opened(FIRST, 4)),
     (Call::OpenAt(FIRST + 1), Reply::Opened(FIRST + 1, 5)),
     (Call::OpenNext(Maker::Client), Reply::Opened(2, 3)),
-    (Call::End(FIRST + 1), Reply::Done),
-    (Call::Look(FIRST + 1), Reply::Row(5, State::Zombie)),
+    (Call::End(FIRST + 1), DONE),
+    (
+        Call::Look(FIRST + 1),
+        Reply::Row(5, OFFER, 1, State::Zombie),
+    ),
     (Call::Reopen(FIRST + 1), Reply::Opened(FIRST + 1, 6)),
-    (Call::Look(FIRST + 1), Reply::Row(6, State::Live)),
-    (Call::Reopen(FIRST + 3), Reply::NotAllowed),
+    (Call::Look(FIRST + 1), Reply::Row(6, OFFER, 1, State::Live)),
+    (Call::Reopen(FIRST + 3), NOT_ALLOWED),
     (Call::Reopen(3), Reply::Opened(3, 4)),
     (Call::OpenNext(Maker::Server), Reply::Opened(FIRST + 3, 7)),
     (Call::OpenNext(Maker::Client), Reply::Opened(4, 5)),
+    (Call::HasUsed(Maker::Client, 4), Reply::Is(true)),
+    (Call::HasUsed(Maker::Server, 4), Reply::Is(true)),
 ];
 
 /// Without a table of the server's range there is nothing, and nothing is opened.
-const ONE_RANGE: [(Call, Reply); 12] = [
+const ONE_RANGE: [(Call, Reply); 14] = [
     (Call::Look(FIRST - 1), Reply::NoRow),
     (Call::Look(FIRST), Reply::NoRow),
     (
@@ -140,17 +146,21 @@ const ONE_RANGE: [(Call, Reply); 12] = [
     (Call::OpenAt(FIRST), Reply::Refused(TableError::Memory)),
     (Call::OpenAt(FIRST - 1), Reply::Refused(TableError::NotNext)),
     (Call::OpenAt(FIRST + 1), Reply::Refused(TableError::NotNext)),
-    (Call::Reopen(FIRST), Reply::NotAllowed),
-    (Call::Close(FIRST), Reply::NotAllowed),
+    (Call::Reopen(FIRST), NOT_ALLOWED),
+    (Call::Close(FIRST), NOT_ALLOWED),
     (Call::OpenNext(Maker::Client), Reply::Opened(2, 1)),
-    (Call::End(2), Reply::Done),
+    (Call::End(2), DONE),
     (Call::Reopen(2), Reply::Opened(2, 2)),
     (Call::OpenAt(3), Reply::Opened(3, 3)),
+    (Call::HasUsed(Maker::Client, 3), Reply::Is(true)),
+    (Call::HasUsed(Maker::Server, 0), Reply::Is(true)),
 ];
 
 /// The server's range is full with 1,048,575 objects, one fewer than the client's. An object can
 /// still replace another.
-const FULL_RANGE: [(Call, Reply); 8] = [
+const FULL_RANGE: [(Call, Reply); 12] = [
+    (Call::Fill, DONE),
+    (Call::CanOpen(Maker::Server), Reply::Is(false)),
     (
         Call::OpenNext(Maker::Server),
         Reply::Refused(TableError::NoIds),
@@ -168,7 +178,7 @@ const FULL_RANGE: [(Call, Reply); 8] = [
         Reply::Opened(MAX_SERVER_ID, 1_048_576),
     ),
     (Call::OpenNext(Maker::Client), Reply::Opened(2, 1)),
-    (Call::Close(FIRST + 77), Reply::Done),
+    (Call::Close(FIRST + 77), DONE),
     (
         Call::OpenNext(Maker::Server),
         Reply::Opened(FIRST + 77, 1_048_577),
@@ -177,41 +187,33 @@ const FULL_RANGE: [(Call, Reply); 8] = [
         Call::OpenNext(Maker::Server),
         Reply::Refused(TableError::NoIds),
     ),
+    (Call::HasUsed(Maker::Client, 2), Reply::Is(true)),
+    (Call::HasUsed(Maker::Server, 1_048_575), Reply::Is(true)),
 ];
 
-/// Opens all ids of the server's range. True if each was given its id and birth.
-fn fill<T: Table>(objects: &mut Objects<T>) -> bool {
-    for birth in 1..MAX_IDS {
-        let id = FIRST - 1 + birth;
-        if opened(objects.open_next(Maker::Server, OFFER, 1)) != Reply::Opened(id, birth as u64) {
-            return false;
-        }
+/// Whether new objects, in both ranges or in the client's alone, reply as these rows say.
+fn plays_in<T: Table<Alloc = Global> + Drop>(
+    alloc: Global,
+    has_both_ranges: bool,
+    rows: &[(Call, Reply)],
+) -> bool {
+    let made = if has_both_ranges {
+        Objects::<T>::with_server_range(alloc, DISPLAY)
+    } else {
+        Objects::<T>::new(alloc, DISPLAY)
+    };
+    match made {
+        Ok(mut objects) => replies(&mut objects, rows),
+        Err(_) => false,
     }
-    true
 }
 
-fn counts<T: Table>(objects: &Objects<T>, client: u32, server: u32) -> bool {
-    objects.used(Maker::Client) == client && objects.used(Maker::Server) == server
-}
-
-fn has_both_ranges<T: Table<Alloc = Global> + Drop>(alloc: Global) -> Result<bool, AllocError> {
-    let mut objects = Objects::<T>::with_server_range(alloc, DISPLAY)?;
-    Ok(counts(&objects, 1, 0) && replies(&mut objects, &BOTH_RANGES) && counts(&objects, 4, 4))
-}
-
-fn has_one_range<T: Table<Alloc = Global> + Drop>(alloc: Global) -> Result<bool, AllocError> {
-    let mut objects = Objects::<T>::new(alloc, DISPLAY)?;
-    Ok(replies(&mut objects, &ONE_RANGE) && counts(&objects, 3, 0))
-}
-
-fn fills_up<T: Table<Alloc = Global> + Drop>(alloc: Global) -> Result<bool, AllocError> {
-    let mut objects = Objects::<T>::with_server_range(alloc, DISPLAY)?;
-    Ok(
-        fill(&mut objects)
-            && !objects.can_open(Maker::Server)
-            && replies(&mut objects, &FULL_RANGE)
-            && counts(&objects, 2, 1_048_575),
-    )
+/// The same for objects in tables of this kind.
+fn plays(alloc: Global, kind: TableKind, has_both_ranges: bool, rows: &[(Call, Reply)]) -> bool {
+    match kind {
+        TableKind::Map => plays_in::<MapTable<Global>>(alloc, has_both_ranges, rows),
+        TableKind::Slots => plays_in::<SlotTable<Global>>(alloc, has_both_ranges, rows),
+    }
 }
 
 /// Whether both tables are made if and only if none of their allocations is refused.
@@ -240,52 +242,53 @@ fn is_refused_in_turn<T: Table<Alloc = RefusingAllocator> + Drop>(
     Ok(false)
 }
 
-#[test]
-fn map_objects_have_both_ranges(rt: HostRuntime) -> Result<(), Fail> {
-    assert!(rt; has_both_ranges::<MapTable<Global>>(rt.alloc())?);
-    Ok(())
+/// The same for objects in tables of this kind.
+fn copes(alloc: Global, kind: TableKind) -> Result<bool, AllocError> {
+    let memory = RefusingAllocator::new(alloc)?;
+    match kind {
+        TableKind::Map => is_refused_in_turn::<MapTable<RefusingAllocator>>(&memory),
+        TableKind::Slots => is_refused_in_turn::<SlotTable<RefusingAllocator>>(&memory),
+    }
 }
 
 #[test]
-fn slot_objects_have_both_ranges(rt: HostRuntime) -> Result<(), Fail> {
-    assert!(rt; has_both_ranges::<SlotTable<Global>>(rt.alloc())?);
-    Ok(())
+fn map_objects_have_both_ranges(rt: HostRuntime) {
+    assert!(rt; plays(rt.alloc(), TableKind::Map, true, &BOTH_RANGES));
 }
 
 #[test]
-fn map_objects_have_one_range(rt: HostRuntime) -> Result<(), Fail> {
-    assert!(rt; has_one_range::<MapTable<Global>>(rt.alloc())?);
-    Ok(())
+fn slot_objects_have_both_ranges(rt: HostRuntime) {
+    assert!(rt; plays(rt.alloc(), TableKind::Slots, true, &BOTH_RANGES));
 }
 
 #[test]
-fn slot_objects_have_one_range(rt: HostRuntime) -> Result<(), Fail> {
-    assert!(rt; has_one_range::<SlotTable<Global>>(rt.alloc())?);
-    Ok(())
+fn map_objects_have_one_range(rt: HostRuntime) {
+    assert!(rt; plays(rt.alloc(), TableKind::Map, false, &ONE_RANGE));
 }
 
 #[test]
-fn map_objects_fill_up(rt: HostRuntime) -> Result<(), Fail> {
-    assert!(rt; fills_up::<MapTable<Global>>(rt.alloc())?);
-    Ok(())
+fn slot_objects_have_one_range(rt: HostRuntime) {
+    assert!(rt; plays(rt.alloc(), TableKind::Slots, false, &ONE_RANGE));
 }
 
 #[test]
-fn slot_objects_fill_up(rt: HostRuntime) -> Result<(), Fail> {
-    assert!(rt; fills_up::<SlotTable<Global>>(rt.alloc())?);
-    Ok(())
+fn map_objects_fill_up(rt: HostRuntime) {
+    assert!(rt; plays(rt.alloc(), TableKind::Map, true, &FULL_RANGE));
+}
+
+#[test]
+fn slot_objects_fill_up(rt: HostRuntime) {
+    assert!(rt; plays(rt.alloc(), TableKind::Slots, true, &FULL_RANGE));
 }
 
 #[test]
 fn map_objects_are_refused_in_turn(rt: HostRuntime) -> Result<(), Fail> {
-    let memory = RefusingAllocator::new(rt.alloc())?;
-    assert!(rt; is_refused_in_turn::<MapTable<RefusingAllocator>>(&memory)?);
+    assert!(rt; copes(rt.alloc(), TableKind::Map)?);
     Ok(())
 }
 
 #[test]
 fn slot_objects_are_refused_in_turn(rt: HostRuntime) -> Result<(), Fail> {
-    let memory = RefusingAllocator::new(rt.alloc())?;
-    assert!(rt; is_refused_in_turn::<SlotTable<RefusingAllocator>>(&memory)?);
+    assert!(rt; copes(rt.alloc(), TableKind::Slots)?);
     Ok(())
 }

@@ -1,13 +1,11 @@
 // What happens to the queues when a stream fails. What owns a queue drops it at each exit of a
 // function, so a test does everything else behind a `&mut`.
 
+use crate::outboxes::{Act, plays, plays_anew};
 use std::alloc::Global;
 use std::io::ErrorKind;
 use std::test::Fail;
-use wl_message::{
-    FillError, FlushError, Inbox, Limit, Outbox, ScriptReader, ScriptWriter, Step, Taken, fill,
-    flush,
-};
+use wl_message::{FillError, FlushError, Inbox, Limit, Outbox, ScriptReader, Step, Taken, fill};
 use wl_wire::Header;
 
 /// wl_display.get_registry with new id 2.
@@ -31,109 +29,89 @@ const COMMIT: [u8; 8] = [4, 0, 0, 0, 6, 0, 8, 0];
 /// wl_shm.create_pool with new id 5 and size 4096, for object 4. It takes a token.
 const CREATE_POOL: [u8; 16] = [4, 0, 0, 0, 0, 0, 16, 0, 5, 0, 0, 0, 0, 16, 0, 0];
 
-/// Pushes a message. True if it is whole and fits.
-fn pushes(outbox: &mut Outbox<Global>, message: &[u8], tokens: &[u32]) -> bool {
-    outbox.limit().is_message(message) && outbox.push(message, tokens).is_ok()
-}
+/// What waits of `TWICE` after its first 5 bytes.
+const REST_OF_TWICE: [u8; 19] = [0, 12, 0, 2, 0, 0, 0, 1, 0, 0, 0, 1, 0, 12, 0, 2, 0, 0, 0];
 
-/// Whether a flush to a writer with this script returns this, and the writer takes these bytes.
-fn flushes(
-    alloc: Global,
-    outbox: &mut Outbox<Global>,
-    script: &[Step],
-    want: Result<usize, FlushError>,
-    bytes: &[u8],
-) -> bool {
-    let mut writer = ScriptWriter::new(alloc, script);
-    flush(outbox, &mut writer) == want && writer.written() == bytes
-}
+const WAITS_19: Taken = Taken {
+    bytes: 19,
+    tokens: 0,
+};
 
-/// Whether this number of bytes waits, and no token.
-fn waits(outbox: &Outbox<Global>, bytes: usize) -> bool {
-    outbox.goes(100, 9) == Taken { bytes, tokens: 0 }
-}
-
-/// Whether what a failing write has not taken is flushed by the next call.
-fn goes_on_after_a_failure(alloc: Global, outbox: &mut Outbox<Global>, kind: ErrorKind) -> bool {
-    let script = [Step::Pass(5), Step::Fail(kind)];
-    let failed = Err(FlushError::Io { written: 5 });
-    pushes(outbox, &GET_REGISTRY, &[])
-        && pushes(outbox, &GET_REGISTRY, &[])
-        && flushes(alloc, outbox, &script, failed, &TWICE[..5])
-        && waits(outbox, 19)
-        && flushes(alloc, outbox, &[], Ok(19), &TWICE[5..])
-        && outbox.is_empty()
-}
+/// What a failing write has not taken is flushed by the next call, whatever the failure is.
+const GOES_ON: [Act; 12] = [
+    Act::Push(&GET_REGISTRY, &[], Ok(())),
+    Act::Push(&GET_REGISTRY, &[], Ok(())),
+    Act::Flush(
+        &[Step::Pass(5), Step::Fail(ErrorKind::Other)],
+        Err(FlushError::Io { written: 5 }),
+        &[1, 0, 0, 0, 1],
+    ),
+    Act::Goes(100, 9, WAITS_19),
+    Act::Flush(&[], Ok(19), &REST_OF_TWICE),
+    Act::IsEmpty,
+    Act::Push(&GET_REGISTRY, &[], Ok(())),
+    Act::Push(&GET_REGISTRY, &[], Ok(())),
+    Act::Flush(
+        &[Step::Pass(5), Step::Fail(ErrorKind::Interrupted)],
+        Err(FlushError::Io { written: 5 }),
+        &[1, 0, 0, 0, 1],
+    ),
+    Act::Goes(100, 9, WAITS_19),
+    Act::Flush(&[], Ok(19), &REST_OF_TWICE),
+    Act::IsEmpty,
+];
 
 #[test]
-fn a_flush_goes_on_after_a_failure(rt: HostRuntime) -> Result<(), Fail> {
-    let alloc = rt.alloc();
-    let mut outbox = Outbox::new(alloc, 65_536, 64, Limit::USUAL)?;
-    assert!(rt; goes_on_after_a_failure(alloc, &mut outbox, ErrorKind::Other));
-    assert!(rt; goes_on_after_a_failure(alloc, &mut outbox, ErrorKind::Interrupted));
-    Ok(())
+fn a_flush_goes_on_after_a_failure(rt: HostRuntime) {
+    assert!(rt; plays_anew(rt.alloc(), 65_536, 64, &GOES_ON));
 }
 
-/// Whether a flush stops before a message with a token, and goes on after the token is taken.
-fn stops_before_a_token(alloc: Global, outbox: &mut Outbox<Global>) -> bool {
-    let stopped = Err(FlushError::NeedsTokens { written: 8 });
-    let again = Err(FlushError::NeedsTokens { written: 0 });
-    let mut bytes = [0; 3];
-    let mut tokens = [0; 1];
-    let begins = Taken {
-        bytes: 3,
-        tokens: 1,
-    };
-    pushes(outbox, &COMMIT, &[])
-        && pushes(outbox, &CREATE_POOL, &[77])
-        && flushes(alloc, outbox, &[], stopped, &COMMIT)
-        && flushes(alloc, outbox, &[], again, &[])
-        && outbox.take(&mut bytes, &mut tokens) == begins
-        && bytes == [4, 0, 0]
-        && tokens == [77]
-        && flushes(alloc, outbox, &[], Ok(13), &CREATE_POOL[3..])
-}
+/// A flush stops before a message with a token, and goes on after the token is taken.
+const STOPS_BEFORE_A_TOKEN: [Act; 6] = [
+    Act::Push(&COMMIT, &[], Ok(())),
+    Act::Push(&CREATE_POOL, &[77], Ok(())),
+    Act::Flush(&[], Err(FlushError::NeedsTokens { written: 8 }), &COMMIT),
+    Act::Flush(&[], Err(FlushError::NeedsTokens { written: 0 }), &[]),
+    Act::Take(3, 1, &[4, 0, 0], &[77]),
+    Act::Flush(&[], Ok(13), &[0, 0, 0, 16, 0, 5, 0, 0, 0, 0, 16, 0, 0]),
+];
 
 #[test]
-fn a_flush_stops_before_a_token(rt: HostRuntime) -> Result<(), Fail> {
-    let alloc = rt.alloc();
-    let mut outbox = Outbox::new(alloc, 65_536, 64, Limit::USUAL)?;
-    assert!(rt; stops_before_a_token(alloc, &mut outbox));
-    Ok(())
+fn a_flush_stops_before_a_token(rt: HostRuntime) {
+    assert!(rt; plays_anew(rt.alloc(), 65_536, 64, &STOPS_BEFORE_A_TOKEN));
 }
 
-/// Whether a writer that takes no byte leaves all of them.
-fn stays_where_none_is_taken(alloc: Global, outbox: &mut Outbox<Global>) -> bool {
-    let failed = Err(FlushError::Io { written: 0 });
-    pushes(outbox, &GET_REGISTRY, &[])
-        && flushes(alloc, outbox, &[Step::Pass(0)], failed, &[])
-        && waits(outbox, 12)
-        && flushes(alloc, outbox, &[], Ok(12), &GET_REGISTRY)
-        && flushes(alloc, outbox, &[Step::Pass(0)], Ok(0), &[])
-}
+const WAITS_12: Taken = Taken {
+    bytes: 12,
+    tokens: 0,
+};
+
+/// A writer that takes no byte leaves all of them.
+const STAYS: [Act; 5] = [
+    Act::Push(&GET_REGISTRY, &[], Ok(())),
+    Act::Flush(&[Step::Pass(0)], Err(FlushError::Io { written: 0 }), &[]),
+    Act::Goes(100, 9, WAITS_12),
+    Act::Flush(&[], Ok(12), &GET_REGISTRY),
+    Act::Flush(&[Step::Pass(0)], Ok(0), &[]),
+];
 
 #[test]
-fn a_flush_fails_where_no_byte_is_taken(rt: HostRuntime) -> Result<(), Fail> {
-    let alloc = rt.alloc();
-    let mut outbox = Outbox::new(alloc, 65_536, 64, Limit::USUAL)?;
-    assert!(rt; stays_where_none_is_taken(alloc, &mut outbox));
-    Ok(())
+fn a_flush_fails_where_no_byte_is_taken(rt: HostRuntime) {
+    assert!(rt; plays_anew(rt.alloc(), 65_536, 64, &STAYS));
 }
+
+/// Two messages, written in three pieces.
+const IN_PIECES: [Act; 3] = [
+    Act::Push(&GET_REGISTRY, &[], Ok(())),
+    Act::Push(&GET_REGISTRY, &[], Ok(())),
+    Act::Flush(&[Step::Pass(7), Step::Pass(1)], Ok(24), &TWICE),
+];
 
 /// Whether a flush writes all, at each place of the ring, to a writer that takes some bytes per
 /// call.
 fn writes_across_the_seam(alloc: Global, outbox: &mut Outbox<Global>) -> bool {
     for _ in 0..40 {
-        let written = pushes(outbox, &GET_REGISTRY, &[])
-            && pushes(outbox, &GET_REGISTRY, &[])
-            && flushes(
-                alloc,
-                outbox,
-                &[Step::Pass(7), Step::Pass(1)],
-                Ok(24),
-                &TWICE,
-            );
-        if !written {
+        if !plays(alloc, outbox, &IN_PIECES) {
             return false;
         }
     }
@@ -144,19 +122,44 @@ fn writes_across_the_seam(alloc: Global, outbox: &mut Outbox<Global>) -> bool {
 fn a_flush_writes_across_the_seam(rt: HostRuntime) -> Result<(), Fail> {
     let alloc = rt.alloc();
     let mut outbox = Outbox::new(alloc, 25, 0, Limit::USUAL)?;
-    assert!(rt; writes_across_the_seam(alloc, &mut outbox));
+    let is_written = writes_across_the_seam(alloc, &mut outbox);
+    drop(outbox);
+    assert!(rt; is_written);
     Ok(())
 }
+
+/// Whether fills return these results, and leave room for these numbers of bytes.
+fn fills(
+    inbox: &mut Inbox<Global>,
+    reader: &mut ScriptReader<'_>,
+    rows: &[(Result<usize, FillError>, usize)],
+) -> bool {
+    for row in rows {
+        let (want, room) = *row;
+        if fill(inbox, reader) != want || inbox.room() != room {
+            return false;
+        }
+    }
+    true
+}
+
+/// Fills of 3 and 9 bytes with a failure between them.
+const WITH_A_FAILURE: [(Result<usize, FillError>, usize); 3] = [
+    (Ok(3), 65_533),
+    (Err(FillError::Io), 65_533),
+    (Ok(9), 65_524),
+];
+
+/// A fill that finds the end of the bytes.
+const AT_THE_END: [(Result<usize, FillError>, usize); 1] = [(Ok(0), 65_536)];
 
 /// Whether a message arrives whole although a read fails within it.
 fn comes_after_a_failure(inbox: &mut Inbox<Global>, kind: ErrorKind) -> bool {
     let script = [Step::Pass(3), Step::Fail(kind)];
     let mut reader = ScriptReader::new(&GET_REGISTRY, &script);
-    fill(inbox, &mut reader) == Ok(3)
-        && fill(inbox, &mut reader) == Err(FillError::Io)
-        && fill(inbox, &mut reader) == Ok(9)
+    fills(inbox, &mut reader, &WITH_A_FAILURE)
         && pops_get_registry(inbox)
-        && fill(inbox, &mut reader) == Ok(0)
+        && fills(inbox, &mut reader, &AT_THE_END)
         && inbox.is_empty()
 }
 
@@ -183,13 +186,24 @@ fn pops(inbox: &mut Inbox<Global>) -> bool {
 #[test]
 fn a_fill_goes_on_after_a_failure(rt: HostRuntime) -> Result<(), Fail> {
     let mut inbox = Inbox::new(rt.alloc(), 65_536, 64, Limit::USUAL)?;
-    assert!(rt; comes_after_a_failure(&mut inbox, ErrorKind::Other));
-    assert!(rt; comes_after_a_failure(&mut inbox, ErrorKind::Interrupted));
+    let comes = comes_after_a_failure(&mut inbox, ErrorKind::Other)
+        && comes_after_a_failure(&mut inbox, ErrorKind::Interrupted);
+    drop(inbox);
+    assert!(rt; comes);
     Ok(())
 }
 
-/// Whether a fill reads at most 4096 bytes and at most as many as are free, down to a single one,
-/// and does not read if none is free.
+/// A fill reads at most 4096 bytes and at most as many as are free, down to a single one, and does
+/// not read if none is free.
+const READS_WHAT_IS_FREE: [(Result<usize, FillError>, usize); 6] = [
+    (Ok(4096), 904),
+    (Err(FillError::Io), 904),
+    (Err(FillError::Io), 904),
+    (Ok(903), 1),
+    (Ok(1), 0),
+    (Err(FillError::NoRoom), 0),
+];
+
 fn reads_what_is_free(inbox: &mut Inbox<Global>) -> bool {
     let bytes = [0; 6000];
     let fails = [
@@ -199,20 +213,14 @@ fn reads_what_is_free(inbox: &mut Inbox<Global>) -> bool {
         Step::Pass(903),
     ];
     let mut reader = ScriptReader::new(&bytes, &fails);
-    fill(inbox, &mut reader) == Ok(4096)
-        && fill(inbox, &mut reader) == Err(FillError::Io)
-        && inbox.room() == 904
-        && fill(inbox, &mut reader) == Err(FillError::Io)
-        && fill(inbox, &mut reader) == Ok(903)
-        && inbox.room() == 1
-        && fill(inbox, &mut reader) == Ok(1)
-        && fill(inbox, &mut reader) == Err(FillError::NoRoom)
-        && inbox.room() == 0
+    fills(inbox, &mut reader, &READS_WHAT_IS_FREE)
 }
 
 #[test]
 fn a_fill_reads_what_is_free(rt: HostRuntime) -> Result<(), Fail> {
     let mut inbox = Inbox::new(rt.alloc(), 5000, 64, Limit::USUAL)?;
-    assert!(rt; reads_what_is_free(&mut inbox));
+    let reads = reads_what_is_free(&mut inbox);
+    drop(inbox);
+    assert!(rt; reads);
     Ok(())
 }

@@ -2,6 +2,7 @@
 // (Everything is done behind a `&mut`: what owns a table drops it at each exit of a function.)
 ghost use Rattle.std.specs.Prelude.{◌<◌};
 
+use crate::replies::{DONE, NOT_ALLOWED, Reply, opened, row};
 use std::alloc::{AllocError, Allocator, Global};
 use std::test::Fail;
 use test_allocator::RefusingAllocator;
@@ -12,23 +13,30 @@ const DISPLAY: Iface = Iface(0);
 
 const CALLBACK: Iface = Iface(2);
 
-/// Whether the next opening returns this object.
-fn opens<T: Table>(table: &mut T, version: u32, id: u32, birth: u64) -> bool {
-    table.open_next(CALLBACK, version) == Ok(Object { id, birth })
-}
-
-/// Whether an opening at this id returns an object with this birth.
-fn opens_at<T: Table>(table: &mut T, id: u32, birth: u64) -> bool {
-    table.open_at(id, CALLBACK, 1) == Ok(Object { id, birth })
-}
-
-/// Whether an opening at this id is refused for this reason.
-fn refuses_at<T: Table>(table: &mut T, id: u32, why: TableError) -> bool {
-    table.open_at(id, CALLBACK, 1) == Err(why)
+/// One call of a table. An ending, a closing and a reopening are made only if they are allowed.
+#[derive(Clone, Copy)]
+enum Call {
+    /// An opening with this version.
+    OpenNext(u32),
+    OpenAt(u32),
+    Look(u32),
+    IsFree(u32),
+    HasRoom(u32),
+    CanOpen,
+    Count,
+    End(u32),
+    Close(u32),
+    Reopen(u32),
+    /// Openings of all ids from 2 on, below this one.
+    OpenBelow(u32),
+    /// Closings of the ids from 2 on, below this one.
+    CloseBelow(u32),
+    /// Openings of the ids below the first one, the greatest first, except the second one.
+    OpenDownwards(u32, u32),
 }
 
 /// Closes an object, if the table has it and it is not the first. True if it did.
-fn closes<T: Table>(table: &mut T, id: u32) -> bool {
+fn close<T: Table>(table: &mut T, id: u32) -> bool {
     if id == 1 || table.look(id).is_none() {
         return false;
     }
@@ -37,7 +45,7 @@ fn closes<T: Table>(table: &mut T, id: u32) -> bool {
 }
 
 /// Makes a live object a zombie, if it is not the first. True if it did.
-fn ends<T: Table>(table: &mut T, id: u32) -> bool {
+fn end<T: Table>(table: &mut T, id: u32) -> bool {
     match table.look(id) {
         Some(entry) if id != 1 && entry.state == State::Live => {
             table.make_zombie(id);
@@ -48,137 +56,33 @@ fn ends<T: Table>(table: &mut T, id: u32) -> bool {
 }
 
 /// Opens an object in place of an entry, if the id has one, is not the first, and has room.
-fn reopened<T: Table>(table: &mut T, id: u32) -> Option<Object> {
+fn reopen<T: Table>(table: &mut T, id: u32) -> Reply {
     if id == 1 || table.look(id).is_none() || !table.has_room(id) {
-        return None;
+        return NOT_ALLOWED;
     }
-    Some(table.reopen(id, CALLBACK, 5))
+    let object = table.reopen(id, CALLBACK, 5);
+    Reply::Opened(object.id, object.birth)
 }
 
-/// Whether an opening in place of an entry returns an object with this birth, which is then live.
-fn reopens<T: Table>(table: &mut T, id: u32, birth: u64) -> bool {
-    let entry = Entry {
-        birth,
-        iface: CALLBACK,
-        version: 5,
-        state: State::Live,
-    };
-    reopened(table, id) == Some(Object { id, birth }) && table.look(id) == Some(entry)
-}
-
-/// Whether the table has used this number of ids, has `len` entries and has counted `births`.
-fn counts<T: Table>(table: &T, used: u32, len: u32, births: u64) -> bool {
-    table.used() == used && table.len() == len && table.births() == births
-}
-
-fn opens_three<T: Table>(table: &mut T) -> bool {
-    let opened = Entry {
-        birth: 3,
-        iface: CALLBACK,
-        version: 7,
-        state: State::Live,
-    };
-    opens(table, 1, 2, 1)
-        && opens(table, 1, 3, 2)
-        && opens(table, 7, 4, 3)
-        && table.look(4) == Some(opened)
-}
-
-/// The freed ids, the latest first: 3, 4, 2.
-fn frees_three<T: Table>(table: &mut T) -> bool {
-    closes(table, 2) && closes(table, 4) && closes(table, 3) && counts(table, 4, 1, 4)
-}
-
-fn uses_freed_ids_again<T: Table>(table: &mut T) -> bool {
-    opens_at(table, 4, 4)
-        && opens(table, 1, 3, 5)
-        && refuses_at(table, 6, TableError::NotNext)
-        && refuses_at(table, 3, TableError::InUse)
-        && refuses_at(table, 0, TableError::NotNext)
-        && opens_at(table, 5, 6)
-}
-
-/// The only freed id is 2.
-fn has_one_freed_id<T: Table>(table: &T) -> bool {
-    table.is_free(2)
-        && table.is_free(6)
-        && !table.is_free(0)
-        && !table.is_free(1)
-        && !table.is_free(7)
-}
-
-/// Whether three objects are opened and closed, and their ids opened again: the one freed last on
-/// its own, the others by id.
-fn reuses_ids<T: Table>(table: &mut T) -> bool {
-    opens_three(table)
-        && frees_three(table)
-        && uses_freed_ids_again(table)
-        && has_one_freed_id(table)
-        && opens(table, 1, 2, 7)
-        && counts(table, 5, 5, 8)
-}
-
-/// Whether a zombie keeps its id until it is closed.
-fn keeps_zombies<T: Table>(table: &mut T) -> bool {
-    let ended = Entry {
-        birth: 1,
-        iface: CALLBACK,
-        version: 1,
-        state: State::Zombie,
-    };
-    opens(table, 1, 2, 1)
-        && ends(table, 2)
-        && table.look(2) == Some(ended)
-        && refuses_at(table, 2, TableError::InUse)
-        && opens(table, 1, 3, 2)
-        && closes(table, 2)
-        && opens(table, 1, 2, 3)
-}
-
-/// Whether objects replace a zombie and a live one, each with the next birth: the freed ids stay,
-/// and so does the number of ids used.
-fn replaces<T: Table>(table: &mut T) -> bool {
-    opens_three(table)
-        && ends(table, 2)
-        && closes(table, 4)
-        && reopens(table, 2, 4)
-        && reopens(table, 3, 5)
-        && reopens(table, 2, 6)
-        && reopened(table, 1).is_none()
-        && reopened(table, 4).is_none()
-        && counts(table, 4, 3, 7)
-        && opens(table, 1, 4, 7)
-        && opens(table, 1, 5, 8)
-        && ends(table, 2)
-        && closes(table, 2)
-        && opens(table, 1, 2, 9)
+/// Whether the next opening returns this object.
+fn opens<T: Table>(table: &mut T, id: u32, birth: u64) -> bool {
+    table.open_next(CALLBACK, 1) == Ok(Object { id, birth })
 }
 
 /// Opens the objects from id 2 on, below this id. True if each was given its id and birth.
 fn opens_below<T: Table>(table: &mut T, limit: u32) -> bool {
     for id in 2..limit {
-        if !table.can_open() || !opens(table, 1, id, (id - 1) as u64) {
+        if !table.can_open() || !opens(table, id, (id - 1) as u64) {
             return false;
         }
     }
     true
 }
 
-/// Whether all 1,048,576 ids are in use.
-fn is_full<T: Table>(table: &mut T) -> bool {
-    !table.can_open()
-        && !table.has_room(1_048_577)
-        && table.is_free(1_048_577)
-        && table.open_next(CALLBACK, 1) == Err(TableError::NoIds)
-        && refuses_at(table, 1_048_577, TableError::NoIds)
-        && refuses_at(table, 1_048_578, TableError::NotNext)
-        && counts(table, 1_048_576, 1_048_576, 1_048_576)
-}
-
 /// Frees the ids from 2 on, below this id. True if each was in use.
 fn closes_below<T: Table>(table: &mut T, limit: u32) -> bool {
     for id in 2..limit {
-        if !closes(table, id) {
+        if !close(table, id) {
             return false;
         }
     }
@@ -190,29 +94,141 @@ fn opens_downwards<T: Table>(table: &mut T, limit: u32, in_use: u32) -> bool {
     for back in 2..limit {
         let id = limit - back + 1;
         let birth = table.births();
-        if id != in_use && !opens(table, 1, id, birth) {
+        if id != in_use && !opens(table, id, birth) {
             return false;
         }
     }
     true
 }
 
-/// Whether all ids can be used, and a freed one is used next. If many are freed, one in their
-/// middle can be opened, and the others then follow in order. A full table can still replace an
-/// object.
-fn fills_up<T: Table>(table: &mut T) -> bool {
-    opens_below(table, 1_048_577)
-        && is_full(table)
-        && closes(table, 77)
-        && table.can_open()
-        && opens(table, 1, 77, 1_048_576)
-        && closes_below(table, 10_002)
-        && opens_at(table, 5_001, 1_048_577)
-        && opens_downwards(table, 10_002, 5_001)
-        && !table.can_open()
-        && reopens(table, 1_048_576, 1_058_577)
-        && counts(table, 1_048_576, 1_048_576, 1_058_578)
+fn reply_of<T: Table>(table: &mut T, call: Call) -> Reply {
+    match call {
+        Call::OpenNext(version) => opened(table.open_next(CALLBACK, version)),
+        Call::OpenAt(id) => opened(table.open_at(id, CALLBACK, 1)),
+        Call::Look(id) => row(table.look(id)),
+        Call::IsFree(id) => Reply::Is(table.is_free(id)),
+        Call::HasRoom(id) => Reply::Is(table.has_room(id)),
+        Call::CanOpen => Reply::Is(table.can_open()),
+        Call::Count => Reply::Counts(table.used(), table.len(), table.births()),
+        Call::End(id) => Reply::Is(end(table, id)),
+        Call::Close(id) => Reply::Is(close(table, id)),
+        Call::Reopen(id) => reopen(table, id),
+        Call::OpenBelow(limit) => Reply::Is(opens_below(table, limit)),
+        Call::CloseBelow(limit) => Reply::Is(closes_below(table, limit)),
+        Call::OpenDownwards(limit, in_use) => { Reply::Is(opens_downwards(table, limit, in_use)) }
+    }
 }
+
+/// Whether each call returns the reply given with it.
+fn replies<T: Table>(table: &mut T, rows: &[(Call, Reply)]) -> bool {
+    for row in rows {
+        let (call, reply) = *row;
+        if reply_of(table, call) != reply {
+            return false;
+        }
+    }
+    true
+}
+
+/// Three objects are opened and closed, and their ids opened again: the one freed last on its own,
+/// the others by id.
+const REUSES_IDS: [(Call, Reply); 21] = [
+    (Call::OpenNext(1), Reply::Opened(2, 1)),
+    (Call::OpenNext(1), Reply::Opened(3, 2)),
+    (Call::OpenNext(7), Reply::Opened(4, 3)),
+    (Call::Look(4), Reply::Row(3, CALLBACK, 7, State::Live)),
+    (Call::Close(2), DONE),
+    (Call::Close(4), DONE),
+    (Call::Close(3), DONE),
+    // The freed ids, the latest first: 3, 4, 2.
+    (Call::Count, Reply::Counts(4, 1, 4)),
+    (Call::OpenAt(4), Reply::Opened(4, 4)),
+    (Call::OpenNext(1), Reply::Opened(3, 5)),
+    (Call::OpenAt(6), Reply::Refused(TableError::NotNext)),
+    (Call::OpenAt(3), Reply::Refused(TableError::InUse)),
+    (Call::OpenAt(0), Reply::Refused(TableError::NotNext)),
+    (Call::OpenAt(5), Reply::Opened(5, 6)),
+    // The only freed id is 2.
+    (Call::IsFree(2), Reply::Is(true)),
+    (Call::IsFree(6), Reply::Is(true)),
+    (Call::IsFree(0), Reply::Is(false)),
+    (Call::IsFree(1), Reply::Is(false)),
+    (Call::IsFree(7), Reply::Is(false)),
+    (Call::OpenNext(1), Reply::Opened(2, 7)),
+    (Call::Count, Reply::Counts(5, 5, 8)),
+];
+
+/// A zombie keeps its id until it is closed.
+const KEEPS_ZOMBIES: [(Call, Reply); 7] = [
+    (Call::OpenNext(1), Reply::Opened(2, 1)),
+    (Call::End(2), DONE),
+    (Call::Look(2), Reply::Row(1, CALLBACK, 1, State::Zombie)),
+    (Call::OpenAt(2), Reply::Refused(TableError::InUse)),
+    (Call::OpenNext(1), Reply::Opened(3, 2)),
+    (Call::Close(2), DONE),
+    (Call::OpenNext(1), Reply::Opened(2, 3)),
+];
+
+/// Objects replace a zombie and a live one, each with the next birth: the freed ids stay, and so
+/// does the number of ids used.
+const REPLACES: [(Call, Reply); 20] = [
+    (Call::OpenNext(1), Reply::Opened(2, 1)),
+    (Call::OpenNext(1), Reply::Opened(3, 2)),
+    (Call::OpenNext(7), Reply::Opened(4, 3)),
+    (Call::Look(4), Reply::Row(3, CALLBACK, 7, State::Live)),
+    (Call::End(2), DONE),
+    (Call::Close(4), DONE),
+    (Call::Reopen(2), Reply::Opened(2, 4)),
+    (Call::Look(2), Reply::Row(4, CALLBACK, 5, State::Live)),
+    (Call::Reopen(3), Reply::Opened(3, 5)),
+    (Call::Look(3), Reply::Row(5, CALLBACK, 5, State::Live)),
+    (Call::Reopen(2), Reply::Opened(2, 6)),
+    (Call::Look(2), Reply::Row(6, CALLBACK, 5, State::Live)),
+    (Call::Reopen(1), NOT_ALLOWED),
+    (Call::Reopen(4), NOT_ALLOWED),
+    (Call::Count, Reply::Counts(4, 3, 7)),
+    (Call::OpenNext(1), Reply::Opened(4, 7)),
+    (Call::OpenNext(1), Reply::Opened(5, 8)),
+    (Call::End(2), DONE),
+    (Call::Close(2), DONE),
+    (Call::OpenNext(1), Reply::Opened(2, 9)),
+];
+
+/// All ids can be used, and a freed one is used next. If many are freed, one in their middle can be
+/// opened, and the others then follow in order. A full table can still replace an object.
+const FILLS_UP: [(Call, Reply); 18] = [
+    (Call::OpenBelow(1_048_577), DONE),
+    (Call::CanOpen, Reply::Is(false)),
+    (Call::HasRoom(1_048_577), Reply::Is(false)),
+    (Call::IsFree(1_048_577), Reply::Is(true)),
+    (Call::OpenNext(1), Reply::Refused(TableError::NoIds)),
+    (Call::OpenAt(1_048_577), Reply::Refused(TableError::NoIds)),
+    (Call::OpenAt(1_048_578), Reply::Refused(TableError::NotNext)),
+    (Call::Count, Reply::Counts(1_048_576, 1_048_576, 1_048_576)),
+    (Call::Close(77), DONE),
+    (Call::CanOpen, Reply::Is(true)),
+    (Call::OpenNext(1), Reply::Opened(77, 1_048_576)),
+    (Call::CloseBelow(10_002), DONE),
+    (Call::OpenAt(5_001), Reply::Opened(5_001, 1_048_577)),
+    (Call::OpenDownwards(10_002, 5_001), DONE),
+    (Call::CanOpen, Reply::Is(false)),
+    (Call::Reopen(1_048_576), Reply::Opened(1_048_576, 1_058_577)),
+    (
+        Call::Look(1_048_576),
+        Reply::Row(1_058_577, CALLBACK, 5, State::Live),
+    ),
+    (Call::Count, Reply::Counts(1_048_576, 1_048_576, 1_058_578)),
+];
+
+/// In a table of five objects, the last three of which are closed, two are replaced, a zombie and
+/// a live one.
+const REPLACES_TWO: [(Call, Reply); 5] = [
+    (Call::End(2), DONE),
+    (Call::Reopen(2), Reply::Opened(2, 6)),
+    (Call::Look(2), Reply::Row(6, CALLBACK, 5, State::Live)),
+    (Call::Reopen(3), Reply::Opened(3, 7)),
+    (Call::Look(3), Reply::Row(7, CALLBACK, 5, State::Live)),
+];
 
 /// Whether two tables have the same entries under the same ids, and the same counts.
 fn are_same<T: Table, U: Table>(one: &T, other: &U) -> bool {
@@ -235,8 +251,7 @@ fn fill<T: Table>(table: &mut T, objects: u32) -> bool
     if !opens_below(table, objects + 2) {
         return false;
     }
-    objects < 4
-        || closes(table, objects - 1) && closes(table, objects + 1) && closes(table, objects)
+    objects < 4 || close(table, objects - 1) && close(table, objects + 1) && close(table, objects)
 }
 
 /// A table with this number of objects, if it could be filled.
@@ -383,8 +398,11 @@ fn openings_are_refused<T: Table<Alloc = RefusingAllocator> + Drop>(
 /// Whether each allocation for making a table and for its openings is refused correctly in turn.
 fn is_refused_in_turn<T: Table<Alloc = RefusingAllocator> + Drop>(
     memory: &RefusingAllocator,
-) -> Result<bool, AllocError> {
-    Ok(is_made_in_the_end::<T>(memory)? && openings_are_refused::<T>(memory))
+) -> bool {
+    match is_made_in_the_end::<T>(memory) {
+        Ok(true) => openings_are_refused::<T>(memory),
+        _ => false,
+    }
 }
 
 /// Whether an opening in place of an entry allocates nothing.
@@ -396,145 +414,142 @@ fn replaces_in_place<T: Table<Alloc = RefusingAllocator> + Drop>(
         return false;
     };
     memory.refuse_nth(0);
-    ends(&mut table, 2)
-        && reopens(&mut table, 2, 6)
-        && reopens(&mut table, 3, 7)
-        && memory.asked() == 0
+    replies(&mut table, &REPLACES_TWO) && memory.asked() == 0
 }
 
-/// Whether this holds for a new table.
-fn holds<T: Table<Alloc = Global> + Drop, F: FnOnce(&mut T) -> bool>(
-    alloc: Global,
-    scene: F,
-) -> Result<bool, AllocError>
-    requires { F.IsAlwaysCallable scene }
-{
-    let mut table = T::new(alloc, DISPLAY)?;
-    Ok(scene(&mut table))
+/// Whether a new table replies as these rows say.
+fn plays_in<T: Table<Alloc = Global> + Drop>(alloc: Global, rows: &[(Call, Reply)]) -> bool {
+    match T::new(alloc, DISPLAY) {
+        Ok(mut table) => replies(&mut table, rows),
+        Err(_) => false,
+    }
+}
+
+/// Which table is tested.
+#[derive(Clone, Copy)]
+pub(crate) enum TableKind {
+    Map,
+    Slots,
+}
+
+/// The same for a table of this kind.
+fn plays(alloc: Global, kind: TableKind, rows: &[(Call, Reply)]) -> bool {
+    match kind {
+        TableKind::Map => plays_in::<MapTable<Global>>(alloc, rows),
+        TableKind::Slots => plays_in::<SlotTable<Global>>(alloc, rows),
+    }
+}
+
+/// What is tested with an allocator that refuses.
+#[derive(Clone, Copy)]
+enum Shortage {
+    /// Each allocation is refused in turn.
+    InTurn,
+    /// An opening in place of an entry needs none.
+    InPlace,
+}
+
+/// Whether a table does what it has to without memory.
+fn copes_in<T: Table<Alloc = RefusingAllocator> + Drop>(
+    memory: &RefusingAllocator,
+    shortage: Shortage,
+) -> bool {
+    match shortage {
+        Shortage::InTurn => is_refused_in_turn::<T>(memory),
+        Shortage::InPlace => replaces_in_place::<T>(memory),
+    }
+}
+
+/// The same for a table of this kind.
+fn copes(alloc: Global, kind: TableKind, shortage: Shortage) -> Result<bool, AllocError> {
+    let memory = RefusingAllocator::new(alloc)?;
+    Ok(match kind {
+        TableKind::Map => copes_in::<MapTable<RefusingAllocator>>(&memory, shortage),
+        TableKind::Slots => copes_in::<SlotTable<RefusingAllocator>>(&memory, shortage),
+    })
 }
 
 #[test]
-fn map_table_reuses_ids(rt: HostRuntime) -> Result<(), Fail> {
-    assert!(rt; holds(rt.alloc(), reuses_ids::<MapTable<Global>>)?);
-    Ok(())
+fn map_table_reuses_ids(rt: HostRuntime) {
+    assert!(rt; plays(rt.alloc(), TableKind::Map, &REUSES_IDS));
 }
 
 #[test]
-fn slot_table_reuses_ids(rt: HostRuntime) -> Result<(), Fail> {
-    assert!(rt; holds(rt.alloc(), reuses_ids::<SlotTable<Global>>)?);
-    Ok(())
+fn slot_table_reuses_ids(rt: HostRuntime) {
+    assert!(rt; plays(rt.alloc(), TableKind::Slots, &REUSES_IDS));
 }
 
 #[test]
-fn map_table_keeps_zombies(rt: HostRuntime) -> Result<(), Fail> {
-    assert!(rt; holds(rt.alloc(), keeps_zombies::<MapTable<Global>>)?);
-    Ok(())
+fn map_table_keeps_zombies(rt: HostRuntime) {
+    assert!(rt; plays(rt.alloc(), TableKind::Map, &KEEPS_ZOMBIES));
 }
 
 #[test]
-fn slot_table_keeps_zombies(rt: HostRuntime) -> Result<(), Fail> {
-    assert!(rt; holds(rt.alloc(), keeps_zombies::<SlotTable<Global>>)?);
-    Ok(())
+fn slot_table_keeps_zombies(rt: HostRuntime) {
+    assert!(rt; plays(rt.alloc(), TableKind::Slots, &KEEPS_ZOMBIES));
 }
 
 #[test]
-fn map_table_replaces(rt: HostRuntime) -> Result<(), Fail> {
-    assert!(rt; holds(rt.alloc(), replaces::<MapTable<Global>>)?);
-    Ok(())
+fn map_table_replaces(rt: HostRuntime) {
+    assert!(rt; plays(rt.alloc(), TableKind::Map, &REPLACES));
 }
 
 #[test]
-fn slot_table_replaces(rt: HostRuntime) -> Result<(), Fail> {
-    assert!(rt; holds(rt.alloc(), replaces::<SlotTable<Global>>)?);
-    Ok(())
+fn slot_table_replaces(rt: HostRuntime) {
+    assert!(rt; plays(rt.alloc(), TableKind::Slots, &REPLACES));
+}
+
+#[test]
+fn map_table_fills_up(rt: HostRuntime) {
+    assert!(rt; plays(rt.alloc(), TableKind::Map, &FILLS_UP));
+}
+
+#[test]
+fn slot_table_fills_up(rt: HostRuntime) {
+    assert!(rt; plays(rt.alloc(), TableKind::Slots, &FILLS_UP));
 }
 
 #[test]
 fn map_table_replaces_in_place(rt: HostRuntime) -> Result<(), Fail> {
-    let memory = RefusingAllocator::new(rt.alloc())?;
-    assert!(rt; replaces_in_place::<MapTable<RefusingAllocator>>(&memory));
+    assert!(rt; copes(rt.alloc(), TableKind::Map, Shortage::InPlace)?);
     Ok(())
 }
 
 #[test]
 fn slot_table_replaces_in_place(rt: HostRuntime) -> Result<(), Fail> {
-    let memory = RefusingAllocator::new(rt.alloc())?;
-    assert!(rt; replaces_in_place::<SlotTable<RefusingAllocator>>(&memory));
-    Ok(())
-}
-
-#[test]
-fn map_table_fills_up(rt: HostRuntime) -> Result<(), Fail> {
-    assert!(rt; holds(rt.alloc(), fills_up::<MapTable<Global>>)?);
-    Ok(())
-}
-
-#[test]
-fn slot_table_fills_up(rt: HostRuntime) -> Result<(), Fail> {
-    assert!(rt; holds(rt.alloc(), fills_up::<SlotTable<Global>>)?);
+    assert!(rt; copes(rt.alloc(), TableKind::Slots, Shortage::InPlace)?);
     Ok(())
 }
 
 #[test]
 fn map_table_is_refused_in_turn(rt: HostRuntime) -> Result<(), Fail> {
-    let memory = RefusingAllocator::new(rt.alloc())?;
-    assert!(rt; is_refused_in_turn::<MapTable<RefusingAllocator>>(&memory)?);
+    assert!(rt; copes(rt.alloc(), TableKind::Map, Shortage::InTurn)?);
     Ok(())
 }
 
 #[test]
 fn slot_table_is_refused_in_turn(rt: HostRuntime) -> Result<(), Fail> {
-    let memory = RefusingAllocator::new(rt.alloc())?;
-    assert!(rt; is_refused_in_turn::<SlotTable<RefusingAllocator>>(&memory)?);
+    assert!(rt; copes(rt.alloc(), TableKind::Slots, Shortage::InTurn)?);
     Ok(())
 }
 
-const WANT_OF_MEMORY: Reply = Reply::Opened(Err(TableError::Memory));
+const WANT_OF_MEMORY: Reply = Reply::Refused(TableError::Memory);
 
-/// One call of a table.
-#[derive(Clone, Copy)]
-enum Move {
-    OpenNext,
-    OpenAt(u32),
-    End(u32),
-    Close(u32),
-    Reopen(u32),
-}
-
-/// What a call returned. An ending, a closing and a reopening are made only if they are allowed,
-/// and say whether they were.
-#[derive(Clone, Copy, PartialEq)]
-enum Reply {
-    Opened(Result<Object, TableError>),
-    Made(bool),
-    Reopened(Option<Object>),
-}
-
-/// The move that a number represents.
-fn move_of(drawn: u32) -> Move {
+/// The call that a number represents.
+fn call_of(drawn: u32) -> Call {
     let id = drawn / 9 % 100;
     match drawn % 9 {
-        0 | 1 => Move::OpenNext,
-        2 | 3 => Move::OpenAt(id),
-        4 => Move::End(id),
-        5 => Move::Reopen(id),
-        _ => Move::Close(id),
-    }
-}
-
-fn reply_of<T: Table>(table: &mut T, next: Move) -> Reply {
-    match next {
-        Move::OpenNext => Reply::Opened(table.open_next(CALLBACK, 1)),
-        Move::OpenAt(id) => Reply::Opened(table.open_at(id, CALLBACK, 1)),
-        Move::End(id) => Reply::Made(ends(table, id)),
-        Move::Close(id) => Reply::Made(closes(table, id)),
-        Move::Reopen(id) => Reply::Reopened(reopened(table, id)),
+        0 | 1 => Call::OpenNext(1),
+        2 | 3 => Call::OpenAt(id),
+        4 => Call::End(id),
+        5 => Call::Reopen(id),
+        _ => Call::Close(id),
     }
 }
 
 /// How often each kind of reply came.
 #[derive(Clone, Copy, PartialEq)]
-struct Replies {
+struct Tally {
     opened: u32,
     not_next: u32,
     in_use: u32,
@@ -542,25 +557,25 @@ struct Replies {
     reopened: u32,
 }
 
-impl Replies {
-    fn count(&mut self, reply: Reply) {
-        let counter = match reply {
-            Reply::Opened(Ok(_)) => &mut self.opened,
-            Reply::Opened(Err(TableError::NotNext)) => &mut self.not_next,
-            Reply::Opened(Err(TableError::InUse)) => &mut self.in_use,
-            Reply::Made(true) => &mut self.made,
-            Reply::Reopened(Some(_)) => &mut self.reopened,
+impl Tally {
+    fn count(&mut self, call: Call, reply: Reply) {
+        let counter = match (call, reply) {
+            (Call::Reopen(_), Reply::Opened(..)) => &mut self.reopened,
+            (_, Reply::Opened(..)) => &mut self.opened,
+            (_, Reply::Refused(TableError::NotNext)) => &mut self.not_next,
+            (_, Reply::Refused(TableError::InUse)) => &mut self.in_use,
+            (_, Reply::Is(true)) => &mut self.made,
             _ => return,
         };
         *counter = counter.saturating_add(1);
     }
 }
 
-/// Whether two tables reply alike to 2,000 moves, never with lack of memory, and are equal in the
-/// end. The moves are drawn from a fixed sequence of numbers; 17 of them open an object in the
+/// Whether two tables reply alike to 2,000 calls, never with lack of memory, and are equal in the
+/// end. The calls are drawn from a fixed sequence of numbers; 17 of them open an object in the
 /// middle of the freed ids.
 fn reply_alike<T: Table, U: Table>(one: &mut T, other: &mut U) -> bool {
-    let mut replies = Replies {
+    let mut tally = Tally {
         opened: 0,
         not_next: 0,
         in_use: 0,
@@ -570,21 +585,23 @@ fn reply_alike<T: Table, U: Table>(one: &mut T, other: &mut U) -> bool {
     let mut state = 1u32;
     for _ in 0u32..2000 {
         state = state.wrapping_mul(1_664_525).wrapping_add(1_013_904_223);
-        let next = move_of(state / 65_536);
-        let reply = reply_of(one, next);
-        if reply != reply_of(other, next) || reply == WANT_OF_MEMORY {
+        let call = call_of(state / 65_536);
+        let reply = reply_of(one, call);
+        if reply != reply_of(other, call) || reply == WANT_OF_MEMORY {
             return false;
         }
-        replies.count(reply);
+        tally.count(call, reply);
     }
-    let wanted = Replies {
+    let wanted = Tally {
         opened: 475,
         not_next: 136,
         in_use: 280,
         made: 512,
         reopened: 123,
     };
-    are_same(one, other) && replies == wanted && counts(one, 78, 69, 599)
+    are_same(one, other)
+        && tally == wanted
+        && reply_of(one, Call::Count) == Reply::Counts(78, 69, 599)
 }
 
 #[test]
