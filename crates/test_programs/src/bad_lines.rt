@@ -3,10 +3,10 @@
 use std::alloc::AllocError;
 use std::test::Fail;
 use test_allocator::RefusingAllocator;
-use wl_recording::{Appended, PieceReader, Recording, RecordingError};
+use wl_recording::{Appended, Passed, PieceReader, Recording, RecordingError};
 
 /// Lines that are no piece, each for a different reason.
-const BAD: [&[u8]; 28] = [
+const BAD: &[&[u8]] = &[
     b"x 00",
     b">",
     b">00",
@@ -21,6 +21,7 @@ const BAD: [&[u8]; 28] = [
     b"> 0 020304 +1",
     b"< 010 ",
     b"> 01 2",
+    // A count without its sign.
     b"< 0a0b0c 0",
     b"> 0 000000000000000000000000000000000000000000000000000000000000000000000000",
     b"> 00 ",
@@ -48,7 +49,7 @@ struct Beginning {
     to_client: &'static [u8],
 }
 
-const BEGINNINGS: [Beginning; 6] = [
+const BEGINNINGS: &[Beginning] = &[
     Beginning {
         text: b"",
         pieces: 0,
@@ -100,11 +101,18 @@ struct Bytes {
     to_client: Vec<u8, RefusingAllocator>,
 }
 
+/// What was read with a text.
+type Read<'a> = (Result<Option<Appended>, RecordingError>, &'a [u8]);
+
 impl Bytes {
-    fn new(memory: &RefusingAllocator) -> Result<Bytes, AllocError> {
+    fn new(
+        memory: &RefusingAllocator,
+        to_server: &[u8],
+        to_client: &[u8],
+    ) -> Result<Bytes, AllocError> {
         Ok(Bytes {
-            to_server: Vec::new(memory.clone()?),
-            to_client: Vec::new(memory.clone()?),
+            to_server: filled(memory, to_server)?,
+            to_client: filled(memory, to_client)?,
         })
     }
 
@@ -112,11 +120,14 @@ impl Bytes {
         self.to_server.as_slice() == to_server && self.to_client.as_slice() == to_client
     }
 
+    /// Whether they are these, and then these to the client.
+    fn are_followed(&self, to_server: &[u8], to_client: &[u8], last: &[u8]) -> bool {
+        self.to_server.as_slice() == to_server
+            && is_joined(self.to_client.as_slice(), to_client, last)
+    }
+
     /// Appends the first piece of a text, and returns the text after it.
-    fn append_first<'a>(
-        &mut self,
-        text: &'a [u8],
-    ) -> (Result<Option<Appended>, RecordingError>, &'a [u8]) {
+    fn append_first<'a>(&mut self, text: &'a [u8]) -> Read<'a> {
         let mut reader = PieceReader {
             rest: text,
             number: 0,
@@ -124,6 +135,78 @@ impl Bytes {
         let read = reader.append_next(&mut self.to_server, &mut self.to_client);
         (read, reader.rest)
     }
+
+    /// Whether the bad line after a beginning is refused without an allocation, and leaves what was
+    /// read before it. The next piece must then follow that.
+    fn are_left(&mut self, memory: &RefusingAllocator, beginning: &Beginning, text: &[u8]) -> bool {
+        let mut rest = text;
+        for _ in 0..beginning.pieces {
+            let (_, behind) = self.append_first(rest);
+            rest = behind;
+        }
+        memory.refuse_nth(0);
+        let (refused, behind) = self.append_first(rest);
+        let asked = memory.asked();
+        memory.refuse_none();
+        let is_left = self.are(beginning.to_server, beginning.to_client);
+        let is_next = self.append_last(behind)
+            && self.are_followed(beginning.to_server, beginning.to_client, b"\x0d\x0e");
+        is_bad_line_at(&refused, beginning.next_line) && asked == 0 && is_left && is_next
+    }
+
+    /// Whether the first piece of a text can be appended.
+    fn append_last(&mut self, text: &[u8]) -> bool {
+        let (read, _) = self.append_first(text);
+        is_piece(&read)
+    }
+
+    /// Reads a piece while the allocation with this number is refused, and then one more piece.
+    /// Both directions have one byte.
+    fn append_refused(&mut self, memory: &RefusingAllocator, refused: u64, text: &[u8]) -> Outcome {
+        memory.refuse_nth(refused);
+        let (read, rest) = self.append_first(text);
+        let has_refused = memory.has_refused();
+        memory.refuse_none();
+        if !has_refused && is_piece(&read) {
+            return Outcome::Read;
+        }
+        let is_left = is_out_of_memory(&read) && self.are(b"\x09", b"\x08");
+        if self.append_last(rest) && self.are(b"\x09", b"\x08\x0d\x0e") && is_left {
+            Outcome::LeftAll
+        } else {
+            Outcome::Wrong
+        }
+    }
+
+    /// Whether pieces, each refused memory, leave one byte in both directions.
+    fn are_left_by(
+        &mut self,
+        memory: &RefusingAllocator,
+        pieces: &[Passed<RefusingAllocator>],
+    ) -> bool {
+        let mut are_refused = true;
+        for piece in pieces {
+            memory.refuse_nth(0);
+            let appended = piece.append_to(&mut self.to_server, &mut self.to_client);
+            are_refused = appended.is_err() && are_refused;
+        }
+        memory.refuse_none();
+        are_refused && self.are(b"\x09", b"\x08")
+    }
+}
+
+fn filled(
+    memory: &RefusingAllocator,
+    bytes: &[u8],
+) -> Result<Vec<u8, RefusingAllocator>, AllocError> {
+    let mut all = Vec::new(memory.clone()?);
+    all.extend_from_slice(bytes)?;
+    Ok(all)
+}
+
+/// Whether bytes consist of these two parts.
+fn is_joined(bytes: &[u8], first: &[u8], last: &[u8]) -> bool {
+    bytes.strip_prefix(first) == Some(last)
 }
 
 fn is_bad_line_at<T>(read: &Result<T, RecordingError>, place: usize) -> bool {
@@ -162,70 +245,48 @@ fn text_of(
     beginning: &Beginning,
     line: &[u8],
 ) -> Result<Vec<u8, RefusingAllocator>, AllocError> {
-    let mut text = Vec::new(memory.clone()?);
-    text.extend_from_slice(beginning.text)?;
+    let mut text = filled(memory, beginning.text)?;
     text.extend_from_slice(line)?;
     text.extend_from_slice(b"\n< 0d0e\n")?;
     Ok(text)
 }
 
-/// Whether a bad line after a beginning is refused without an allocation, and leaves what was read
-/// before it. The next piece must then follow that.
+/// Whether a bad line after a beginning leaves what was read before it.
 fn leaves_all(
     memory: &RefusingAllocator,
     beginning: &Beginning,
     line: &[u8],
 ) -> Result<bool, AllocError> {
     let text = text_of(memory, beginning, line)?;
-    let mut bytes = Bytes::new(memory)?;
-    let mut rest = text.as_slice();
-    for _ in 0..beginning.pieces {
-        let (_, behind) = bytes.append_first(rest);
-        rest = behind;
-    }
-    memory.refuse_nth(0);
-    let (refused, behind) = bytes.append_first(rest);
-    let asked = memory.asked();
-    memory.refuse_none();
-    let is_left = bytes.are(beginning.to_server, beginning.to_client);
-    let (next, _) = bytes.append_first(behind);
-    let mut to_client = Vec::new(memory.clone()?);
-    to_client.extend_from_slice(beginning.to_client)?;
-    to_client.extend_from_slice(b"\x0d\x0e")?;
-    let is_next = is_piece(&next) && bytes.are(beginning.to_server, to_client.as_slice());
-    Ok(is_bad_line_at(&refused, beginning.next_line) && asked == 0 && is_left && is_next)
+    is_left(memory, beginning, text.as_slice())
+}
+
+fn is_left(
+    memory: &RefusingAllocator,
+    beginning: &Beginning,
+    text: &[u8],
+) -> Result<bool, AllocError> {
+    let mut bytes = Bytes::new(memory, b"", b"")?;
+    Ok(bytes.are_left(memory, beginning, text))
+}
+
+fn bad_lines() -> &'static [&'static [u8]] {
+    BAD
+}
+
+fn beginnings() -> &'static [Beginning] {
+    BEGINNINGS
 }
 
 #[test]
-fn bad_lines_leave_what_was_read(rt: HostRuntime) -> Result<(), Fail> {
+fn bad_lines_leave_what_was_read_and_need_no_memory(rt: HostRuntime) -> Result<(), Fail> {
     let memory = RefusingAllocator::new(rt.alloc())?;
-    for beginning in BEGINNINGS.iter() {
-        for line in BAD.iter() {
+    for line in bad_lines().iter() {
+        for beginning in beginnings().iter() {
             assert!(rt; leaves_all(&memory, beginning, line)?);
         }
-    }
-    Ok(())
-}
-
-#[test]
-fn bad_lines_need_no_memory(rt: HostRuntime) -> Result<(), Fail> {
-    let memory = RefusingAllocator::new(rt.alloc())?;
-    for line in BAD.iter() {
         assert!(rt; is_not_parsed(&memory, line)?);
     }
-    Ok(())
-}
-
-#[test]
-fn a_count_without_its_sign_is_passed_over(rt: HostRuntime) -> Result<(), Fail> {
-    let memory = RefusingAllocator::new(rt.alloc())?;
-    let mut bytes = Bytes::new(&memory)?;
-    let (refused, rest) = bytes.append_first(b"< 0a0b0c 0\n< 0d0e\n");
-    assert!(rt; is_bad_line_at(&refused, 1));
-    assert!(rt; bytes.are(b"", b""));
-    let (next, _) = bytes.append_first(rest);
-    assert!(rt; is_piece(&next));
-    assert!(rt; bytes.are(b"", b"\x0d\x0e"));
     Ok(())
 }
 
@@ -239,68 +300,59 @@ enum Outcome {
     Wrong,
 }
 
-/// Reads a piece while the allocation with this number is refused, and then one more piece. Both
-/// directions already have bytes.
+/// A piece for each direction, and one more piece.
+const TO_SERVER: &[u8] = b"> 000102030405060708090a0b0c0d0e0f1011\n< 0d0e\n";
+
+const TO_CLIENT: &[u8] = b"< 000102030405060708090a0b0c0d0e0f1011 +1\n< 0d0e\n";
+
+/// Texts, each with the number of the refused allocation, and what happens.
+const REFUSALS: &[(&[u8], u64, Outcome)] = &[
+    (TO_SERVER, 0, Outcome::LeftAll),
+    (TO_SERVER, 1, Outcome::Read),
+    (TO_CLIENT, 0, Outcome::LeftAll),
+    (TO_CLIENT, 1, Outcome::Read),
+];
+
+fn refusals() -> &'static [(&'static [u8], u64, Outcome)] {
+    REFUSALS
+}
+
+/// What happens to a piece if the allocation with this number is refused.
 fn append_without_memory(
     memory: &RefusingAllocator,
     refused: u64,
     text: &[u8],
 ) -> Result<Outcome, AllocError> {
-    let mut bytes = Bytes::new(memory)?;
-    bytes.to_server.push(9)?;
-    bytes.to_client.push(8)?;
-    memory.refuse_nth(refused);
-    let (read, rest) = bytes.append_first(text);
-    let has_refused = memory.has_refused();
-    memory.refuse_none();
-    if !has_refused && is_piece(&read) {
-        return Ok(Outcome::Read);
-    }
-    let is_left = is_out_of_memory(&read) && bytes.are(b"\x09", b"\x08");
-    let (next, _) = bytes.append_first(rest);
-    if is_left && is_piece(&next) && bytes.are(b"\x09", b"\x08\x0d\x0e") {
-        return Ok(Outcome::LeftAll);
-    }
-    Ok(Outcome::Wrong)
-}
-
-#[test]
-fn pieces_without_memory_leave_what_was_read(rt: HostRuntime) -> Result<(), Fail> {
-    let memory = RefusingAllocator::new(rt.alloc())?;
-    let to_server = b"> 000102030405060708090a0b0c0d0e0f1011\n< 0d0e\n";
-    let to_client = b"< 000102030405060708090a0b0c0d0e0f1011 +1\n< 0d0e\n";
-    assert!(rt; append_without_memory(&memory, 0, to_server)? == Outcome::LeftAll);
-    assert!(rt; append_without_memory(&memory, 1, to_server)? == Outcome::Read);
-    assert!(rt; append_without_memory(&memory, 0, to_client)? == Outcome::LeftAll);
-    assert!(rt; append_without_memory(&memory, 1, to_client)? == Outcome::Read);
-    Ok(())
+    let mut bytes = Bytes::new(memory, b"\x09", b"\x08")?;
+    Ok(bytes.append_refused(memory, refused, text))
 }
 
 /// Whether the pieces of a recording, each refused memory, leave the bytes of both directions
 /// unchanged.
-fn are_left_by_pieces(memory: &RefusingAllocator, text: &[u8]) -> Result<bool, AllocError> {
-    let mut bytes = Bytes::new(memory)?;
-    bytes.to_server.push(9)?;
-    bytes.to_client.push(8)?;
-    let Ok(recording) = Recording::parse(memory.clone()?, text) else {
-        return Ok(false);
-    };
-    let mut are_refused = true;
-    for piece in recording.pieces() {
-        memory.refuse_nth(0);
-        let appended = piece.append_to(&mut bytes.to_server, &mut bytes.to_client);
-        are_refused = are_refused && appended.is_err();
+fn are_left_by_recording(memory: &RefusingAllocator, text: &[u8]) -> Result<bool, AllocError> {
+    match Recording::parse(memory.clone()?, text) {
+        Ok(recording) => are_left_by_pieces(memory, recording.pieces()),
+        Err(_) => Ok(false),
     }
-    memory.refuse_none();
-    Ok(are_refused && bytes.are(b"\x09", b"\x08"))
 }
 
+fn are_left_by_pieces(
+    memory: &RefusingAllocator,
+    pieces: &[Passed<RefusingAllocator>],
+) -> Result<bool, AllocError> {
+    let mut bytes = Bytes::new(memory, b"\x09", b"\x08")?;
+    Ok(bytes.are_left_by(memory, pieces))
+}
+
+const PASSED: &[u8] =
+    b"> 000102030405060708090a0b0c0d0e0f1011\n< 000102030405060708090a0b0c0d0e0f10\n";
+
 #[test]
-fn pieces_that_passed_leave_what_was_read_where_memory_runs_out(
-    rt: HostRuntime,
-) -> Result<(), Fail> {
+fn pieces_without_memory_leave_what_was_read(rt: HostRuntime) -> Result<(), Fail> {
     let memory = RefusingAllocator::new(rt.alloc())?;
-    let text = b"> 000102030405060708090a0b0c0d0e0f1011\n< 000102030405060708090a0b0c0d0e0f10\n";
-    assert!(rt; are_left_by_pieces(&memory, text)?);
+    for (text, refused, wanted) in refusals().iter() {
+        assert!(rt; append_without_memory(&memory, *refused, text)? == *wanted);
+    }
+    assert!(rt; are_left_by_recording(&memory, PASSED)?);
     Ok(())
 }

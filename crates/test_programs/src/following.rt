@@ -1,6 +1,6 @@
 //! A follower goes past each message of a session. If memory runs out, it is unchanged.
 use crate::recordings::{DEVICES, MADE, SURFACE};
-use std::alloc::AllocError;
+use std::alloc::{AllocError, Global};
 use std::test::Fail;
 use test_allocator::RefusingAllocator;
 use wl_check::Follower;
@@ -88,31 +88,43 @@ fn follows_piece(
 /// How many messages of a session a follower reads and goes past, if it can read all of them;
 /// `None` if something is wrong.
 fn follows(
-    rt: &HostRuntime,
+    alloc: Global,
     memory: &RefusingAllocator,
     tables: &Tables,
     text: &[u8],
 ) -> Result<Option<u64>, AllocError> {
-    let Ok(recording) = Recording::parse(rt.alloc(), text) else {
-        return Ok(None);
-    };
+    match Recording::parse(alloc, text) {
+        Ok(recording) => follows_pieces(memory, tables, recording.pieces()),
+        Err(_) => Ok(None),
+    }
+}
+
+fn follows_pieces(
+    memory: &RefusingAllocator,
+    tables: &Tables,
+    pieces: &[Passed],
+) -> Result<Option<u64>, AllocError> {
     memory.refuse_none();
     let mut follower = Follower::new(memory.clone()?, tables, Limit::USUAL)?;
     let mut next = 1;
-    for piece in recording.pieces() {
+    for piece in pieces {
         next = follows_piece(memory, &mut follower, piece, next);
     }
     Ok(next.checked_sub(1))
 }
 
-/// The last message of `MADE` breaks a rule, and is still read.
+/// Sessions and their number of messages. The last message of `MADE` breaks a rule, and is still
+/// read.
+const SESSIONS: [(&[u8], u64); 2] = [(SURFACE, 11), (MADE, 14)];
+
 #[test]
 fn follows_sessions_to_their_end(rt: HostRuntime) -> Result<(), Fail> {
     let tables = Tables::core(rt.alloc())?
         .read_more(DEVICES)
         .expect(&rt, "the text is read");
     let memory = RefusingAllocator::new(rt.alloc())?;
-    assert!(rt; follows(&rt, &memory, &tables, SURFACE)? == Some(11));
-    assert!(rt; follows(&rt, &memory, &tables, MADE)? == Some(14));
+    for (text, count) in SESSIONS.iter() {
+        assert!(rt; follows(rt.alloc(), &memory, &tables, text)? == Some(*count));
+    }
     Ok(())
 }

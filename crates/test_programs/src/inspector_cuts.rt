@@ -1,9 +1,9 @@
 //! An inspector prints the trace of a recording, however the bytes are split.
 ghost use Rattle.std.specs.Prelude.{◌<◌};
 
-use crate::inspecting::inspect;
-use crate::recordings::{ALL, DEVICES};
-use std::alloc::Global;
+use crate::inspecting::{Told, inspect};
+use crate::recordings::{DEVICES, all};
+use std::alloc::{AllocError, Global};
 use std::test::Fail;
 use wl_check::trace;
 use wl_message::Limit;
@@ -11,32 +11,52 @@ use wl_recording::Recording;
 use wl_sigs::Tables;
 
 /// Whether passing the pieces in parts of this size gives the lines and the verdict of the trace.
-fn agrees(alloc: Global, tables: &Tables, text: &[u8], size: usize) -> bool
+fn agrees(alloc: Global, tables: &Tables, text: &[u8], size: usize) -> Result<bool, AllocError>
     requires { 0 < size }
 {
-    let Ok(recording) = Recording::parse(alloc, text) else {
-        return false;
-    };
-    let Ok((lines, verdict)) = trace(alloc, &recording, tables, Limit::USUAL) else {
-        return false;
-    };
-    match inspect(alloc, tables, &recording, size) {
-        Ok(told) => told.lines.as_slice() == lines.as_slice() && told.verdict == verdict,
-        Err(_) => false,
+    match Recording::parse(alloc, text) {
+        Ok(recording) => agrees_with_trace(alloc, tables, &recording, size),
+        Err(_) => Ok(false),
     }
 }
 
-/// How many of the recordings do.
-fn agreeing(alloc: Global, tables: &Tables, size: usize) -> u64
+fn agrees_with_trace(
+    alloc: Global,
+    tables: &Tables,
+    recording: &Recording,
+    size: usize,
+) -> Result<bool, AllocError>
     requires { 0 < size }
 {
-    let mut count = 0u64;
-    for text in ALL.iter() {
-        if agrees(alloc, tables, text, size) {
-            count = count.saturating_add(1);
-        }
+    let told = inspect(alloc, tables, recording, size)?;
+    is_trace(alloc, tables, recording, &told)
+}
+
+fn is_trace(
+    alloc: Global,
+    tables: &Tables,
+    recording: &Recording,
+    told: &Told,
+) -> Result<bool, AllocError> {
+    let (lines, verdict) = trace(alloc, recording, tables, Limit::USUAL)?;
+    Ok(told.lines.as_slice() == lines.as_slice() && told.verdict == verdict)
+}
+
+/// Whether all of the recordings do.
+fn agree(alloc: Global, tables: &Tables, size: usize) -> Result<bool, AllocError>
+    requires { 0 < size }
+{
+    let mut is_so = true;
+    for text in all().iter() {
+        is_so = agrees(alloc, tables, text, size)? && is_so;
     }
-    count
+    Ok(is_so)
+}
+
+/// Whether they do in parts of these sizes.
+fn agree_in_parts(alloc: Global, tables: &Tables) -> Result<bool, AllocError> {
+    let in_small = agree(alloc, tables, 1)? && agree(alloc, tables, 5)?;
+    Ok(agree(alloc, tables, 12)? && agree(alloc, tables, 4096)? && in_small)
 }
 
 #[test]
@@ -44,9 +64,6 @@ fn says_what_the_trace_says(rt: HostRuntime) -> Result<(), Fail> {
     let tables = Tables::core(rt.alloc())?
         .read_more(DEVICES)
         .expect(&rt, "the text is read");
-    assert_eq!(rt; agreeing(rt.alloc(), &tables, 1), 6);
-    assert_eq!(rt; agreeing(rt.alloc(), &tables, 5), 6);
-    assert_eq!(rt; agreeing(rt.alloc(), &tables, 12), 6);
-    assert_eq!(rt; agreeing(rt.alloc(), &tables, 4096), 6);
+    assert!(rt; agree_in_parts(rt.alloc(), &tables)?);
     Ok(())
 }

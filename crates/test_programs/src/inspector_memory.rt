@@ -1,7 +1,7 @@
 //! If memory runs out, an inspector is unchanged, and the piece can be passed again.
 use crate::inspecting::Told;
-use crate::recordings::{ALL, DEVICES};
-use std::alloc::{AllocError, Allocator, Global};
+use crate::recordings::{DEVICES, all};
+use std::alloc::{AllocError, Global};
 use std::test::Fail;
 use test_allocator::RefusingAllocator;
 use wl_check::{Inspector, trace};
@@ -9,22 +9,38 @@ use wl_message::Limit;
 use wl_recording::{Passed, Recording};
 use wl_sigs::Tables;
 
+type Refusable<'t> = Inspector<'t, RefusingAllocator>;
+
+/// An inspector in this memory, which refuses none until then.
+fn inspector_of<'t>(
+    memory: &RefusingAllocator,
+    tables: &'t Tables,
+) -> Result<Refusable<'t>, AllocError> {
+    memory.refuse_none();
+    Inspector::new(memory.clone()?, tables, Limit::USUAL)
+}
+
+/// Passes a piece.
+fn pass(inspector: &mut Refusable<'_>, piece: &Passed) -> Result<(), AllocError> {
+    inspector.pass(
+        piece.direction,
+        piece.bytes.as_slice(),
+        piece.tokens as usize,
+    )
+}
+
 /// Passes a piece. Each of its allocations is refused in turn, until it has passed. True if each
 /// refusal leaves the lines and the verdict unchanged.
 fn passes(
     memory: &RefusingAllocator,
-    inspector: &mut Inspector<'_, RefusingAllocator>,
+    inspector: &mut Refusable<'_>,
     piece: &Passed,
     before: &[u8],
 ) -> bool {
     let verdict = inspector.verdict();
-    let tokens = piece.tokens as usize;
     for number in 0u64..1000 {
         memory.refuse_nth(number);
-        if inspector
-            .pass(piece.direction, piece.bytes.as_slice(), tokens)
-            .is_ok()
-        {
+        if pass(inspector, piece).is_ok() {
             let is_granted = !memory.has_refused();
             memory.refuse_none();
             return is_granted;
@@ -43,21 +59,39 @@ fn agrees(
     tables: &Tables,
     text: &[u8],
 ) -> Result<bool, AllocError> {
-    let Ok(recording) = Recording::parse(alloc, text) else {
-        return Ok(false);
-    };
-    let (lines, verdict) = trace(alloc, &recording, tables, Limit::USUAL)?;
-    memory.refuse_none();
-    let mut inspector = Inspector::new(memory.clone()?, tables, Limit::USUAL)?;
+    match Recording::parse(alloc, text) {
+        Ok(recording) => agrees_with_trace(alloc, memory, tables, &recording),
+        Err(_) => Ok(false),
+    }
+}
+
+fn agrees_with_trace(
+    alloc: Global,
+    memory: &RefusingAllocator,
+    tables: &Tables,
+    recording: &Recording,
+) -> Result<bool, AllocError> {
+    let (lines, verdict) = trace(alloc, recording, tables, Limit::USUAL)?;
     let told = Told { lines, verdict };
-    says(alloc, memory, &mut inspector, recording.pieces(), &told)
+    inspects(alloc, memory, tables, recording.pieces(), &told)
+}
+
+fn inspects(
+    alloc: Global,
+    memory: &RefusingAllocator,
+    tables: &Tables,
+    pieces: &[Passed],
+    told: &Told,
+) -> Result<bool, AllocError> {
+    let mut inspector = inspector_of(memory, tables)?;
+    says(alloc, memory, &mut inspector, pieces, told)
 }
 
 /// Whether an inspector prints this for the pieces, when they are passed in this way.
 fn says(
     alloc: Global,
     memory: &RefusingAllocator,
-    inspector: &mut Inspector<'_, RefusingAllocator>,
+    inspector: &mut Refusable<'_>,
     pieces: &[Passed],
     told: &Told,
 ) -> Result<bool, AllocError> {
@@ -74,45 +108,22 @@ fn says(
     Ok(lines.as_slice() == told.lines.as_slice() && inspector.verdict() == told.verdict)
 }
 
-#[test]
-fn is_as_it_was_where_memory_runs_out(rt: HostRuntime) -> Result<(), Fail> {
-    let tables = Tables::core(rt.alloc())?
-        .read_more(DEVICES)
-        .expect(&rt, "the text is read");
-    let memory = RefusingAllocator::new(rt.alloc())?;
-    for text in ALL.iter() {
-        assert!(rt; agrees(rt.alloc(), &memory, &tables, text)?);
+fn pass_all(inspector: &mut Refusable<'_>, pieces: &[Passed]) -> Result<(), AllocError> {
+    for piece in pieces {
+        pass(inspector, piece)?;
     }
     Ok(())
 }
 
-/// An inspector after some pieces were passed.
-fn after<'t, A: Allocator + Clone>(
-    alloc: A,
-    tables: &'t Tables,
-    pieces: &[Passed],
-) -> Result<Inspector<'t, A>, AllocError> {
-    let mut inspector = Inspector::new(alloc, tables, Limit::USUAL)?;
-    for piece in pieces {
-        inspector.pass(
-            piece.direction,
-            piece.bytes.as_slice(),
-            piece.tokens as usize,
-        )?;
-    }
-    Ok(inspector)
-}
-
 /// Whether two inspectors print the same for each of these pieces.
 fn agree(
-    one: &mut Inspector<'_, RefusingAllocator>,
-    other: &mut Inspector<'_>,
+    one: &mut Refusable<'_>,
+    other: &mut Refusable<'_>,
     pieces: &[Passed],
 ) -> Result<bool, AllocError> {
     for piece in pieces {
-        let (bytes, tokens) = (piece.bytes.as_slice(), piece.tokens as usize);
-        one.pass(piece.direction, bytes, tokens)?;
-        other.pass(piece.direction, bytes, tokens)?;
+        pass(one, piece)?;
+        pass(other, piece)?;
         if one.lines() != other.lines() || one.verdict() != other.verdict() {
             return Ok(false);
         }
@@ -140,13 +151,12 @@ enum Refused {
 /// Refuses each allocation of a piece in turn, and then passes other pieces. True if the inspector
 /// prints the same for these as one that never got the refused piece.
 fn forgets(
-    alloc: Global,
     memory: &RefusingAllocator,
     tables: &Tables,
     passing: Passing<'_>,
 ) -> Result<bool, AllocError> {
     for number in 0u64..1000 {
-        match refuse_nth(alloc, memory, tables, passing, number)? {
+        match refuse_nth(memory, tables, passing, number)? {
             Refused::Forgotten => {}
             Refused::NoMore => return Ok(true),
             Refused::Wrong => return Ok(false),
@@ -156,30 +166,37 @@ fn forgets(
 }
 
 fn refuse_nth(
-    alloc: Global,
     memory: &RefusingAllocator,
     tables: &Tables,
     passing: Passing<'_>,
     number: u64,
 ) -> Result<Refused, AllocError> {
-    let mut refused = after(memory.clone()?, tables, passing.before)?;
-    let mut other = after(alloc, tables, passing.before)?;
-    memory.refuse_nth(number);
-    refuse(memory, &mut refused, &mut other, passing)
+    let mut refused = inspector_of(memory, tables)?;
+    refuse_one(memory, tables, &mut refused, passing, number)
+}
+
+fn refuse_one(
+    memory: &RefusingAllocator,
+    tables: &Tables,
+    refused: &mut Refusable<'_>,
+    passing: Passing<'_>,
+    number: u64,
+) -> Result<Refused, AllocError> {
+    pass_all(refused, passing.before)?;
+    let mut other = inspector_of(memory, tables)?;
+    refuse(memory, refused, &mut other, passing, number)
 }
 
 fn refuse(
     memory: &RefusingAllocator,
-    refused: &mut Inspector<'_, RefusingAllocator>,
-    other: &mut Inspector<'_>,
+    refused: &mut Refusable<'_>,
+    other: &mut Refusable<'_>,
     passing: Passing<'_>,
+    number: u64,
 ) -> Result<Refused, AllocError> {
-    let piece = passing.piece;
-    let passed = refused.pass(
-        piece.direction,
-        piece.bytes.as_slice(),
-        piece.tokens as usize,
-    );
+    pass_all(other, passing.before)?;
+    memory.refuse_nth(number);
+    let passed = pass(refused, passing.piece);
     let has_refused = memory.has_refused();
     memory.refuse_none();
     if passed.is_ok() && !has_refused {
@@ -201,35 +218,41 @@ fn leaves_nothing(
     tables: &Tables,
     text: &[u8],
 ) -> Result<bool, AllocError> {
-    let Ok(recording) = Recording::parse(alloc, text) else {
-        return Ok(false);
-    };
-    let pieces = recording.pieces();
+    match Recording::parse(alloc, text) {
+        Ok(recording) => all_leave_nothing(memory, tables, recording.pieces()),
+        Err(_) => Ok(false),
+    }
+}
+
+fn all_leave_nothing(
+    memory: &RefusingAllocator,
+    tables: &Tables,
+    pieces: &[Passed],
+) -> Result<bool, AllocError> {
     for (place, piece) in pieces.iter().enumerate() {
         let (before, others) = pieces.split_at(place);
-        let then = Passing {
-            before,
-            piece,
-            others: others.get(1..).unwrap_or(&[]),
-        };
-        let again = Passing {
-            others: pieces,
-            ..then
-        };
-        if !forgets(alloc, memory, tables, then)? || !forgets(alloc, memory, tables, again)? {
-            return Ok(false);
+        for others in [others.get(1..).unwrap_or(&[]), pieces] {
+            let passing = Passing {
+                before,
+                piece,
+                others,
+            };
+            if !forgets(memory, tables, passing)? {
+                return Ok(false);
+            }
         }
     }
     Ok(true)
 }
 
 #[test]
-fn leaves_nothing_of_a_refused_piece(rt: HostRuntime) -> Result<(), Fail> {
+fn is_as_it_was_where_memory_runs_out(rt: HostRuntime) -> Result<(), Fail> {
     let tables = Tables::core(rt.alloc())?
         .read_more(DEVICES)
         .expect(&rt, "the text is read");
     let memory = RefusingAllocator::new(rt.alloc())?;
-    for text in ALL.iter() {
+    for text in all().iter() {
+        assert!(rt; agrees(rt.alloc(), &memory, &tables, text)?);
         assert!(rt; leaves_nothing(rt.alloc(), &memory, &tables, text)?);
     }
     Ok(())

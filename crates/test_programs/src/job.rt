@@ -1,47 +1,102 @@
-use program_arguments::{Job, Stop, job_of};
+use crate::words::asked;
+use program_arguments::{Job, Stop};
 use std::alloc::{AllocError, Global};
 use std::test::Fail;
 
-/// Command lines that ask for no job, each with a part of its message.
-const FAULTY: [(&[&str], &str); 15] = [
-    (&["waywire"], "Usage: waywire"),
-    (&["waywire", "draw"], "unrecognized subcommand 'draw'"),
-    (&["waywire", "trace"], "<FILE>"),
-    (&["waywire", "trace", "a", "b"], "unexpected argument 'b'"),
-    (
-        &["waywire", "trace", "--quick", "a"],
-        "unexpected argument '--quick'",
-    ),
-    (&["waywire", "check"], "<FILE>"),
-    (&["waywire", "check", "a", "b"], "unexpected argument 'b'"),
-    (&["waywire", "check", "--tables", "a"], "<FILE>"),
-    (&["waywire", "check", "a", "--tables"], "--tables <FILE>"),
-    (
-        &["waywire", "demo", "--tables", "a"],
-        "unexpected argument '--tables'",
-    ),
-    (&["waywire", "demo", "a"], "unexpected argument 'a'"),
-    (&["waywire", "demo", "--piece"], "--piece <N>"),
-    (
-        &["waywire", "demo", "--piece", "0"],
-        "invalid value '0' for '--piece <N>'",
-    ),
-    (
-        &["waywire", "demo", "--piece", "4097"],
-        "invalid value '4097' for '--piece <N>'",
-    ),
-    (
-        &["waywire", "demo", "--piece", "ten"],
-        "invalid value 'ten' for '--piece <N>'",
-    ),
-];
+/// A command line after the program's name, and the answer to it.
+type Line = (&'static [&'static str], Wanted<'static>);
 
-/// Command lines of the demonstration, each with the number of bytes that it carries at once.
-const DEMOS: [(&[&str], u32); 4] = [
-    (&["waywire", "demo"], 4096),
-    (&["waywire", "demo", "--piece", "1"], 1),
-    (&["waywire", "demo", "--piece=7"], 7),
-    (&["waywire", "demo", "--piece", "4096"], 4096),
+const LINES: &[Line] = &[
+    (&["trace", "a b.rec"], Wanted::Trace(&[], "a b.rec")),
+    (&["check", "./-x.rec"], Wanted::Check(&[], "./-x.rec")),
+    // The option `--tables` may come before or after the recording, and its value may be joined to
+    // it.
+    (&["trace", "--tables", "t", "f"], Wanted::Trace(&["t"], "f")),
+    (&["trace", "f", "--tables=t"], Wanted::Trace(&["t"], "f")),
+    (&["check", "f", "--tables", "t"], Wanted::Check(&["t"], "f")),
+    // The option may be given several times; the order is kept.
+    (
+        &["trace", "--tables", "b", "f", "--tables=a"],
+        Wanted::Trace(&["b", "a"], "f"),
+    ),
+    (
+        &["check", "--tables", "t", "--tables", "t", "f"],
+        Wanted::Check(&["t", "t"], "f"),
+    ),
+    // A limit is a multiple of 4 from 4096 to 65532.
+    (
+        &["check", "--limit", "65532", "f"],
+        Wanted::CheckBy(65_532, "f"),
+    ),
+    (&["check", "f", "--limit=4100"], Wanted::CheckBy(4100, "f")),
+    // How many bytes a demonstration carries at once.
+    (&["demo"], Wanted::Demo(4096)),
+    (&["demo", "--piece", "1"], Wanted::Demo(1)),
+    (&["demo", "--piece=7"], Wanted::Demo(7)),
+    (&["demo", "--piece", "4096"], Wanted::Demo(4096)),
+    // These ask for no job.
+    (&["check", "-x.rec"], Wanted::Stop(2, "")),
+    (&["check", "--limit", "4095", "f"], Wanted::Stop(2, "limit")),
+    (&["check", "--limit", "4092", "f"], Wanted::Stop(2, "limit")),
+    (&["check", "--limit", "4098", "f"], Wanted::Stop(2, "limit")),
+    (
+        &["check", "--limit", "65533", "f"],
+        Wanted::Stop(2, "limit"),
+    ),
+    (
+        &["check", "--limit", "65536", "f"],
+        Wanted::Stop(2, "limit"),
+    ),
+    (&["check", "--limit", "x", "f"], Wanted::Stop(2, "limit")),
+    (&["check", "--limit=-4096", "f"], Wanted::Stop(2, "limit")),
+    // A word that begins with `-` is an option of its own.
+    (&["check", "--limit", "-4096", "f"], Wanted::Stop(2, "-4")),
+    (&[], Wanted::Stop(2, "Usage: waywire")),
+    (&["draw"], Wanted::Stop(2, "unrecognized subcommand 'draw'")),
+    (&["trace"], Wanted::Stop(2, "<FILE>")),
+    (
+        &["trace", "a", "b"],
+        Wanted::Stop(2, "unexpected argument 'b'"),
+    ),
+    (
+        &["trace", "--quick", "a"],
+        Wanted::Stop(2, "unexpected argument '--quick'"),
+    ),
+    (&["check"], Wanted::Stop(2, "<FILE>")),
+    (
+        &["check", "a", "b"],
+        Wanted::Stop(2, "unexpected argument 'b'"),
+    ),
+    (&["check", "--tables", "a"], Wanted::Stop(2, "<FILE>")),
+    (
+        &["check", "a", "--tables"],
+        Wanted::Stop(2, "--tables <FILE>"),
+    ),
+    (
+        &["demo", "--tables", "a"],
+        Wanted::Stop(2, "unexpected argument '--tables'"),
+    ),
+    (&["demo", "a"], Wanted::Stop(2, "unexpected argument 'a'")),
+    (&["demo", "--piece"], Wanted::Stop(2, "--piece <N>")),
+    (
+        &["demo", "--piece", "0"],
+        Wanted::Stop(2, "invalid value '0' for '--piece <N>'"),
+    ),
+    (
+        &["demo", "--piece", "4097"],
+        Wanted::Stop(2, "invalid value '4097' for '--piece <N>'"),
+    ),
+    (
+        &["demo", "--piece", "ten"],
+        Wanted::Stop(2, "invalid value 'ten' for '--piece <N>'"),
+    ),
+    // Help names each command.
+    (&["--help"], Wanted::Stop(0, "trace")),
+    (&["--help"], Wanted::Stop(0, "check")),
+    (&["--help"], Wanted::Stop(0, "demo")),
+    (&["--version"], Wanted::Stop(0, "waywire ")),
+    (&["-V"], Wanted::Stop(0, "waywire ")),
+    (&["trace", "--version"], Wanted::Stop(2, "--version")),
 ];
 
 /// What a command line should ask for.
@@ -56,19 +111,6 @@ enum Wanted<'a> {
     Demo(u32),
     /// No job, but a stop with this status and with a text that contains this one.
     Stop(u8, &'a str),
-}
-
-fn owned(alloc: Global, words: &[&str]) -> Result<Vec<String>, AllocError> {
-    let mut all = Vec::new(alloc);
-    add_all(alloc, &mut all, words)?;
-    Ok(all)
-}
-
-fn add_all(alloc: Global, all: &mut Vec<String>, words: &[&str]) -> Result<(), AllocError> {
-    for word in words {
-        all.push(String::from_str(alloc, word)?)?;
-    }
-    Ok(())
 }
 
 /// Whether the names are these.
@@ -121,116 +163,21 @@ fn is_wanted(answer: &Result<Job, Stop>, wanted: Wanted<'_>) -> bool {
     }
 }
 
-/// Whether these words get this answer.
-fn is_answered(alloc: Global, words: &[String], wanted: Wanted<'_>) -> bool {
-    is_wanted(&job_of(alloc, words), wanted)
-}
-
 /// Whether a command line gets this answer.
-fn answers(alloc: Global, words: &[&str], wanted: Wanted<'_>) -> Result<bool, AllocError> {
-    let words = owned(alloc, words)?;
-    Ok(is_answered(alloc, words.as_slice(), wanted))
+fn is_answered(alloc: Global, line: &Line) -> Result<bool, AllocError> {
+    let (words, wanted) = *line;
+    Ok(is_wanted(&asked(alloc, words)?, wanted))
+}
+
+/// A function of its own keeps the rows out of the proof of the loop over them.
+fn lines() -> &'static [Line] {
+    LINES
 }
 
 #[test]
-fn reads_the_file_of_a_trace(rt: HostRuntime) -> Result<(), Fail> {
-    let words = ["waywire", "trace", "a b.rec"];
-    assert!(rt; answers(rt.alloc(), &words, Wanted::Trace(&[], "a b.rec"))?);
-    Ok(())
-}
-
-#[test]
-fn reads_the_file_of_a_check(rt: HostRuntime) -> Result<(), Fail> {
-    let words = ["waywire", "check", "-x.rec"];
-    assert!(rt; answers(rt.alloc(), &words, Wanted::Stop(2, ""))?);
-    let words = ["waywire", "check", "./-x.rec"];
-    assert!(rt; answers(rt.alloc(), &words, Wanted::Check(&[], "./-x.rec"))?);
-    Ok(())
-}
-
-/// The option `--tables` may come before or after the recording, and its value may be joined to it.
-#[test]
-fn reads_the_file_of_tables(rt: HostRuntime) -> Result<(), Fail> {
-    let wanted = Wanted::Trace(&["t"], "f");
-    let words = ["waywire", "trace", "--tables", "t", "f"];
-    assert!(rt; answers(rt.alloc(), &words, wanted)?);
-    let words = ["waywire", "trace", "f", "--tables=t"];
-    assert!(rt; answers(rt.alloc(), &words, wanted)?);
-    let words = ["waywire", "check", "f", "--tables", "t"];
-    assert!(rt; answers(rt.alloc(), &words, Wanted::Check(&["t"], "f"))?);
-    Ok(())
-}
-
-/// The option may be given several times; the order is kept.
-#[test]
-fn reads_all_files_of_tables(rt: HostRuntime) -> Result<(), Fail> {
-    let words = ["waywire", "trace", "--tables", "b", "f", "--tables=a"];
-    assert!(rt; answers(rt.alloc(), &words, Wanted::Trace(&["b", "a"], "f"))?);
-    let words = ["waywire", "check", "--tables", "t", "--tables", "t", "f"];
-    assert!(rt; answers(rt.alloc(), &words, Wanted::Check(&["t", "t"], "f"))?);
-    Ok(())
-}
-
-/// A limit is a multiple of 4 from 4096 to 65532.
-#[test]
-fn reads_the_limit(rt: HostRuntime) -> Result<(), Fail> {
-    let words = ["waywire", "check", "--limit", "65532", "f"];
-    assert!(rt; answers(rt.alloc(), &words, Wanted::CheckBy(65_532, "f"))?);
-    let words = ["waywire", "check", "f", "--limit=4100"];
-    assert!(rt; answers(rt.alloc(), &words, Wanted::CheckBy(4100, "f"))?);
-    for number in ["4095", "4092", "4098", "65533", "65536", "x"] {
-        let words = ["waywire", "check", "--limit", number, "f"];
-        assert!(rt; answers(rt.alloc(), &words, Wanted::Stop(2, "limit"))?);
+fn command_lines_get_their_answers(rt: HostRuntime) -> Result<(), Fail> {
+    for (number, line) in lines().iter().enumerate() {
+        assert!(rt; is_answered(rt.alloc(), line)?, "line {number}");
     }
-    let words = ["waywire", "check", "--limit=-4096", "f"];
-    assert!(rt; answers(rt.alloc(), &words, Wanted::Stop(2, "limit"))?);
-    // a word that begins with `-` is an option of its own
-    let words = ["waywire", "check", "--limit", "-4096", "f"];
-    assert!(rt; answers(rt.alloc(), &words, Wanted::Stop(2, "-4"))?);
-    Ok(())
-}
-
-#[test]
-fn reads_how_much_a_demonstration_carries(rt: HostRuntime) -> Result<(), Fail> {
-    for (words, piece) in DEMOS {
-        assert!(rt;
-            answers(rt.alloc(), words, Wanted::Demo(piece))?,
-            "in pieces of {piece}"
-        );
-    }
-    Ok(())
-}
-
-#[test]
-fn stops_at_faults_of_usage(rt: HostRuntime) -> Result<(), Fail> {
-    for (words, said) in FAULTY {
-        assert!(rt;
-            answers(rt.alloc(), words, Wanted::Stop(2, said))?,
-            "without {said}"
-        );
-    }
-    Ok(())
-}
-
-#[test]
-fn helps(rt: HostRuntime) -> Result<(), Fail> {
-    for command in ["trace", "check", "demo"] {
-        let words = ["waywire", "--help"];
-        assert!(rt;
-            answers(rt.alloc(), &words, Wanted::Stop(0, command))?,
-            "of {command}"
-        );
-    }
-    Ok(())
-}
-
-#[test]
-fn says_its_version(rt: HostRuntime) -> Result<(), Fail> {
-    for word in ["--version", "-V"] {
-        let words = ["waywire", word];
-        assert!(rt; answers(rt.alloc(), &words, Wanted::Stop(0, "waywire "))?);
-    }
-    let words = ["waywire", "trace", "--version"];
-    assert!(rt; answers(rt.alloc(), &words, Wanted::Stop(2, "--version"))?);
     Ok(())
 }

@@ -56,4 +56,9 @@ interface off 1
 request destroy D
 ";
 
-pub const ALL: [&[u8]; 6] = [SURFACE, NO_TOKEN_LEFT, ENDED, BAD_SIZE, BAD_NEW_ID, MADE];
+const ALL: &[&[u8]] = &[SURFACE, NO_TOKEN_LEFT, ENDED, BAD_SIZE, BAD_NEW_ID, MADE];
+
+/// All of them. A function of its own keeps their bytes out of the proof of a loop over them.
+pub fn all() -> &'static [&'static [u8]] {
+    ALL
+}

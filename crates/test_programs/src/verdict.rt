@@ -16,15 +16,27 @@ fn requests(alloc: Global) -> Result<Vec<u8>, AllocError> {
     Ok(bytes)
 }
 
-#[test]
-fn prints_that_there_are_too_many_objects(rt: HostRuntime) -> Result<(), Fail> {
-    let alloc = rt.alloc();
-    let tables = Tables::core(alloc)?;
+/// The recording of these requests.
+fn recording(alloc: Global) -> Result<Recording, AllocError> {
+    let bytes = requests(alloc)?;
     let mut recording = Recording::new(alloc);
-    recording.add(Direction::ToServer, &requests(alloc)?, 0)?;
-    let verdict = check(alloc, &recording, &tables, Limit::USUAL)?;
+    recording.add(Direction::ToServer, &bytes, 0)?;
+    Ok(recording)
+}
+
+/// The line of the verdict on a recording.
+fn line_of(alloc: Global, tables: &Tables, recording: &Recording) -> Result<Vec<u8>, AllocError> {
+    let verdict = check(alloc, recording, tables, Limit::USUAL)?;
     let mut line = Vec::new(alloc);
     write_verdict(&mut line, &verdict)?;
+    Ok(line)
+}
+
+#[test]
+fn prints_that_there_are_too_many_objects(rt: HostRuntime) -> Result<(), Fail> {
+    let tables = Tables::core(rt.alloc())?;
+    let recording = recording(rt.alloc())?;
+    let line = line_of(rt.alloc(), &tables, &recording)?;
     let wanted = b"broken: > message 1048576 at byte 12582900: F10 too many objects\n";
     assert!(rt; line.as_slice() == wanted.as_slice());
     Ok(())

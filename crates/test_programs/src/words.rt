@@ -18,9 +18,14 @@ pub fn no_tables(alloc: Global) -> Vec<TablesFile<'static, Empty>> {
 /// A command line of the program's name and these words.
 pub fn command_line(alloc: Global, words: &[&str]) -> Result<Vec<String>, AllocError> {
     let mut all = Vec::new(alloc);
-    all.push(String::from_str(alloc, "waywire")?)?;
+    add(alloc, &mut all, "waywire")?;
     for word in words {
-        all.push(String::from_str(alloc, word)?)?;
+        add(alloc, &mut all, word)?;
     }
     Ok(all)
+}
+
+fn add(alloc: Global, all: &mut Vec<String>, word: &str) -> Result<(), AllocError> {
+    all.push(String::from_str(alloc, word)?)?;
+    Ok(())
 }
