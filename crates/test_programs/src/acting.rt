@@ -1,54 +1,28 @@
-use crate::words::no_tables;
-use program_arguments::Job;
-use program_jobs::{Failure, Writers, act};
+//! What a command prints about a recording, with each kind of file and output.
+use crate::demo::demo;
+use crate::playing::{Answer, ENDLESS, File, OPEN, Outputs, Run, is_answered, is_answered_at_last};
 use std::alloc::{AllocError, Global};
-use std::io::{self, Error, ErrorKind, Read, Write};
+use std::io::ErrorKind;
 use std::test::Fail;
 use test_allocator::RefusingAllocator;
-use wl_message::Limit;
+use wl_message::Step;
 
-/// A stream that fails at its first call.
-#[derive(Drop)]
-struct Failing;
+/// A session: its recording, its trace up to a broken message, and the line of its verdict.
+type Session = (&'static [u8], &'static [u8], &'static [u8]);
 
-impl Read for Failing {
-    fn read(&mut self, _buf: &mut [u8]) -> io::Result<usize> {
-        Err(Error::from(ErrorKind::BrokenPipe))
-    }
-}
+/// A pool without its descriptor.
+const NO_DESCRIPTOR: Session = (
+    b"> 0100000001000c0002000000\n\
+      < 0200000000001c000100000007000000776c5f73686d000001000000\n\
+      > 02000000000020000100000007000000776c5f73686d00000100000003000000\n\
+      > 03000000000010000400000000100000\n",
+    b"-> wl_display@1.get_registry(new id wl_registry@2)\n\
+      <- wl_registry@2.global(1, \"wl_shm\", 1)\n\
+      -> wl_registry@2.bind(1, \"wl_shm\", 1, new id wl_shm@3)\n",
+    b"broken: > message 3 at byte 44: F8 missing descriptor\n",
+);
 
-impl Write for Failing {
-    fn write(&mut self, _buf: &[u8]) -> io::Result<usize> {
-        Err(Error::from(ErrorKind::BrokenPipe))
-    }
-
-    fn flush(&mut self) -> io::Result<()> {
-        Ok(())
-    }
-}
-
-/// Whether a test passes for the job that traces a file and for the one that checks it.
-fn holds_of_both<F: FnOnce(Global, &Job, &Job) -> bool>(
-    alloc: Global,
-    scene: F,
-) -> Result<bool, AllocError>
-    requires { F.IsAlwaysCallable scene }
-{
-    let trace = Job::Trace {
-        tables: Vec::new(alloc),
-        limit: Limit::USUAL,
-        file: String::from_str(alloc, "session.rec")?,
-    };
-    let check = Job::Check {
-        tables: Vec::new(alloc),
-        limit: Limit::USUAL,
-        file: String::from_str(alloc, "session.rec")?,
-    };
-    Ok(scene(alloc, &trace, &check))
-}
-
-/// Lawful sessions: the recording, its trace, and the line of its verdict.
-const LAWFUL: [(&[u8], &[u8], &[u8]); 9] = [
+const LAWFUL: &[Session] = &[
     (
         b"> 0100000001000c0002000000",
         b"-> wl_display@1.get_registry(new id wl_registry@2)\n",
@@ -57,6 +31,17 @@ const LAWFUL: [(&[u8], &[u8], &[u8]); 9] = [
     // The same bytes to the client: a delete_id of an id that was never used.
     (
         b"< 0100000001000c0002000000",
+        b"<- wl_display@1.delete_id(2)\n",
+        b"lawful: 0 requests, 1 events, 0 and 0 bytes left\n",
+    ),
+    // Both with a line feed at the end.
+    (
+        b"> 0100000001000c0002000000\n",
+        b"-> wl_display@1.get_registry(new id wl_registry@2)\n",
+        b"lawful: 1 requests, 0 events, 0 and 0 bytes left\n",
+    ),
+    (
+        b"< 0100000001000c0002000000\n",
         b"<- wl_display@1.delete_id(2)\n",
         b"lawful: 0 requests, 1 events, 0 and 0 bytes left\n",
     ),
@@ -113,8 +98,7 @@ const LAWFUL: [(&[u8], &[u8], &[u8]); 9] = [
     ),
 ];
 
-/// Broken sessions: the recording, the trace up to the broken message, and the line of the verdict.
-const BROKEN: [(&[u8], &[u8], &[u8]); 12] = [
+const BROKEN: &[Session] = &[
     (
         b"> 0100000001000c0003000000\n",
         b"",
@@ -177,17 +161,7 @@ const BROKEN: [(&[u8], &[u8], &[u8]); 12] = [
         b"",
         b"broken: > message 1 at byte 0: F7 trailing bytes\n",
     ),
-    // A pool without its descriptor.
-    (
-        b"> 0100000001000c0002000000\n\
-          < 0200000000001c000100000007000000776c5f73686d000001000000\n\
-          > 02000000000020000100000007000000776c5f73686d00000100000003000000\n\
-          > 03000000000010000400000000100000\n",
-        b"-> wl_display@1.get_registry(new id wl_registry@2)\n\
-          <- wl_registry@2.global(1, \"wl_shm\", 1)\n\
-          -> wl_registry@2.bind(1, \"wl_shm\", 1, new id wl_shm@3)\n",
-        b"broken: > message 3 at byte 44: F8 missing descriptor\n",
-    ),
+    NO_DESCRIPTOR,
     // A global that no event announced.
     (
         b"> 0100000001000c0002000000\n\
@@ -198,7 +172,8 @@ const BROKEN: [(&[u8], &[u8], &[u8]); 12] = [
 ];
 
 /// Texts that are no recordings, and what is written to standard error.
-const REFUSED: [(&[u8], &[u8]); 3] = [
+const REFUSED: &[(&[u8], &[u8])] = &[
+    (b"# a comment\n> 012\n", b"waywire: line 2: bad line\n"),
     (b"# fine\n> 012\n", b"waywire: line 2: bad line\n"),
     (b"> 00\r", b"waywire: line 1: bad line\n"),
     // A bad line comes before a broken rule.
@@ -208,215 +183,247 @@ const REFUSED: [(&[u8], &[u8]); 3] = [
     ),
 ];
 
-/// Whether a job ends with this status and writes `first` and then `last` to standard output, and
-/// nothing to standard error.
-fn prints(alloc: Global, job: &Job, text: &[u8], status: u8, first: &[u8], last: &[u8]) -> bool {
-    let mut file = text;
-    let mut writers = Writers {
-        out: Vec::new(alloc),
-        err: Vec::new(alloc),
-    };
-    let answer = act(alloc, alloc, job, no_tables(alloc), &mut file, &mut writers);
-    answer == status && writers.out.strip_prefix(first) == Some(last) && writers.err.is_empty()
+// Functions of their own keep the rows out of the proofs of the loops over them.
+
+fn lawful() -> &'static [Session] {
+    LAWFUL
 }
 
-/// Whether each lawful session is traced and checked.
-fn prints_lawful(alloc: Global, trace: &Job, check: &Job) -> bool {
-    let mut is_so = true;
-    for (text, lines, verdict) in LAWFUL {
-        is_so = prints(alloc, trace, text, 0, lines, b"") && is_so;
-        is_so = prints(alloc, check, text, 0, b"", verdict) && is_so;
+fn broken() -> &'static [Session] {
+    BROKEN
+}
+
+fn refused() -> &'static [(&'static [u8], &'static [u8])] {
+    REFUSED
+}
+
+fn runs() -> &'static [Run<'static>] {
+    RUNS
+}
+
+const TRACE: &[&str] = &["trace", "session.rec"];
+
+const CHECK: &[&str] = &["check", "session.rec"];
+
+/// The run of a command over a recording with this text.
+fn over(words: &'static [&'static str], text: &'static [u8], answer: Answer) -> Run<'static> {
+    Run {
+        words,
+        tables: &[],
+        file: File::Text(text),
+        outputs: OPEN,
+        answer,
     }
-    is_so
+}
+
+/// The answer that prints this to standard output.
+fn printed(status: u8, out: [&'static [u8]; 2]) -> Answer {
+    Answer {
+        status,
+        out,
+        err: b"",
+    }
+}
+
+/// The run that traces a session. The verdict is printed only if it is broken.
+fn traced(session: &Session, status: u8) -> Run<'static> {
+    let (text, lines, verdict) = *session;
+    let last: &'static [u8] = if status == 0 { b"" } else { verdict };
+    over(TRACE, text, printed(status, [lines, last]))
+}
+
+/// The run that checks a session.
+fn checked(session: &Session, status: u8) -> Run<'static> {
+    let (text, _, verdict) = *session;
+    over(CHECK, text, printed(status, [verdict, b""]))
+}
+
+/// Whether a session is traced and checked.
+fn is_told(alloc: Global, session: &Session, status: u8) -> Result<bool, AllocError> {
+    let is_traced = is_answered(alloc, &traced(session, status))?;
+    Ok(is_answered(alloc, &checked(session, status))? && is_traced)
 }
 
 #[test]
-fn traces_and_checks_lawful_sessions(rt: HostRuntime) -> Result<(), Fail> {
-    assert!(rt; holds_of_both(rt.alloc(), prints_lawful)?);
+fn traces_and_checks_sessions(rt: HostRuntime) -> Result<(), Fail> {
+    for session in lawful().iter() {
+        assert!(rt; is_told(rt.alloc(), session, 0)?);
+    }
+    for session in broken().iter() {
+        assert!(rt; is_told(rt.alloc(), session, 1)?);
+    }
     Ok(())
 }
 
-/// Whether each broken session is traced up to its broken message, and checked.
-fn prints_broken(alloc: Global, trace: &Job, check: &Job) -> bool {
-    let mut is_so = true;
-    for (text, lines, verdict) in BROKEN {
-        is_so = prints(alloc, trace, text, 1, lines, verdict) && is_so;
-        is_so = prints(alloc, check, text, 1, b"", verdict) && is_so;
+/// Whether a text is neither traced nor checked, since it is no recording.
+fn is_refused(alloc: Global, text: &'static [u8], err: &'static [u8]) -> Result<bool, AllocError> {
+    let answer = failed(err);
+    let is_untraced = is_answered(alloc, &over(TRACE, text, answer))?;
+    Ok(is_answered(alloc, &over(CHECK, text, answer))? && is_untraced)
+}
+
+/// The answer that prints only this, to standard error.
+fn failed(err: &'static [u8]) -> Answer {
+    Answer {
+        status: 3,
+        out: [b"", b""],
+        err,
     }
-    is_so
-}
-
-#[test]
-fn traces_and_checks_broken_sessions(rt: HostRuntime) -> Result<(), Fail> {
-    assert!(rt; holds_of_both(rt.alloc(), prints_broken)?);
-    Ok(())
-}
-
-/// Whether a job ends with this status, and writes only this, to standard error.
-fn says<R: Read>(alloc: Global, job: &Job, file: &mut R, status: u8, said: &[u8]) -> bool {
-    let mut writers = Writers {
-        out: Vec::new(alloc),
-        err: Vec::new(alloc),
-    };
-    let answer = act(alloc, alloc, job, no_tables(alloc), file, &mut writers);
-    answer == status && writers.out.is_empty() && writers.err.as_slice() == said
-}
-
-/// The same for a job over a file with this text.
-fn says_of(alloc: Global, job: &Job, text: &[u8], status: u8, said: &[u8]) -> bool {
-    let mut file = text;
-    says(alloc, job, &mut file, status, said)
-}
-
-/// Whether both jobs refuse each text that is no recording.
-fn refuses(alloc: Global, trace: &Job, check: &Job) -> bool {
-    let mut is_so = true;
-    for (text, said) in REFUSED {
-        is_so = says_of(alloc, trace, text, 3, said) && is_so;
-        is_so = says_of(alloc, check, text, 3, said) && is_so;
-    }
-    is_so
 }
 
 #[test]
 fn refuses_other_texts(rt: HostRuntime) -> Result<(), Fail> {
-    assert!(rt; holds_of_both(rt.alloc(), refuses)?);
+    for (text, said) in refused().iter() {
+        assert!(rt; is_refused(rt.alloc(), text, said)?);
+    }
     Ok(())
 }
 
-/// Whether a file of the greatest allowed size is read.
-fn reads_the_longest(alloc: Global, trace: &Job, _check: &Job) -> bool {
-    let mut longest = io::repeat(b'#').take(16_777_216);
-    says(alloc, trace, &mut longest, 0, b"")
-}
+/// Each write fails.
+const CLOSED: &[Step] = &[
+    Step::Fail(ErrorKind::BrokenPipe),
+    Step::Fail(ErrorKind::BrokenPipe),
+    Step::Fail(ErrorKind::BrokenPipe),
+    Step::Fail(ErrorKind::BrokenPipe),
+];
 
-/// Whether a file without an end is refused.
-fn reads_none_longer(alloc: Global, trace: &Job, _check: &Job) -> bool {
-    let mut endless = io::repeat(b'#');
-    says(alloc, trace, &mut endless, 3, b"waywire: file too long\n")
-}
+/// Two writes in the middle are interrupted, and one is short.
+const INTERRUPTED: &[Step] = &[
+    Step::Fail(ErrorKind::Interrupted),
+    Step::Pass(3),
+    Step::Fail(ErrorKind::Interrupted),
+    Step::Fail(ErrorKind::Interrupted),
+];
+
+const BOTH_INTERRUPTED: Outputs = Outputs {
+    out: INTERRUPTED,
+    err: INTERRUPTED,
+    can_flush: true,
+};
+
+/// Runs over files of any kind, with outputs that may fail.
+const RUNS: &[Run<'static>] = &[
+    // A file of the greatest allowed size is read.
+    Run {
+        words: TRACE,
+        tables: &[],
+        file: File::Comment(16_777_216),
+        outputs: OPEN,
+        answer: Answer {
+            status: 0,
+            out: [b"", b""],
+            err: b"",
+        },
+    },
+    Run {
+        words: TRACE,
+        tables: &[],
+        file: ENDLESS,
+        outputs: OPEN,
+        answer: Answer {
+            status: 3,
+            out: [b"", b""],
+            err: b"waywire: file too long\n",
+        },
+    },
+    Run {
+        words: CHECK,
+        tables: &[],
+        file: File::Failing,
+        outputs: OPEN,
+        answer: Answer {
+            status: 3,
+            out: [b"", b""],
+            err: b"waywire: cannot read session.rec\n",
+        },
+    },
+    // An output that cannot be written is reported.
+    Run {
+        words: CHECK,
+        tables: &[],
+        file: File::Text(b"> 0100000001000c0002000000"),
+        outputs: Outputs {
+            out: CLOSED,
+            err: &[],
+            can_flush: true,
+        },
+        answer: Answer {
+            status: 3,
+            out: [b"", b""],
+            err: b"waywire: cannot write\n",
+        },
+    },
+    // The status is the same if standard error cannot be written.
+    Run {
+        words: CHECK,
+        tables: &[],
+        file: File::Text(b"# fine\n> 012\n"),
+        outputs: Outputs {
+            out: &[],
+            err: CLOSED,
+            can_flush: true,
+        },
+        answer: Answer {
+            status: 3,
+            out: [b"", b""],
+            err: b"",
+        },
+    },
+    // An interrupted write is repeated, both for the output and for a failure's line.
+    Run {
+        words: CHECK,
+        tables: &[],
+        file: File::Text(b""),
+        outputs: BOTH_INTERRUPTED,
+        answer: Answer {
+            status: 0,
+            out: [b"lawful: 0 requests, 0 events, 0 and 0 bytes left\n", b""],
+            err: b"",
+        },
+    },
+    Run {
+        words: CHECK,
+        tables: &[],
+        file: File::Text(b"> 0"),
+        outputs: BOTH_INTERRUPTED,
+        answer: Answer {
+            status: 3,
+            out: [b"", b""],
+            err: b"waywire: line 1: bad line\n",
+        },
+    },
+    // An output that cannot be flushed is reported.
+    Run {
+        words: CHECK,
+        tables: &[],
+        file: File::Text(b""),
+        outputs: Outputs {
+            out: &[],
+            err: &[],
+            can_flush: false,
+        },
+        answer: Answer {
+            status: 3,
+            out: [b"", b""],
+            err: b"waywire: cannot write\n",
+        },
+    },
+];
 
 #[test]
-fn reads_no_longer_file(rt: HostRuntime) -> Result<(), Fail> {
-    assert!(rt; holds_of_both(rt.alloc(), reads_the_longest)?);
-    assert!(rt; holds_of_both(rt.alloc(), reads_none_longer)?);
+fn reads_and_writes_as_far_as_the_streams_allow(rt: HostRuntime) -> Result<(), Fail> {
+    for (number, run) in runs().iter().enumerate() {
+        assert!(rt; is_answered(rt.alloc(), run)?, "run {number}");
+    }
     Ok(())
 }
 
-/// Whether a file that cannot be read is reported.
-fn says_that_reading_failed(alloc: Global, _trace: &Job, check: &Job) -> bool {
-    says(
-        alloc,
-        check,
-        &mut Failing,
-        3,
-        b"waywire: cannot read session.rec\n",
-    )
-}
-
-/// Whether an output that cannot be written is reported.
-fn says_that_writing_failed(alloc: Global, _trace: &Job, check: &Job) -> bool {
-    let mut file = LAWFUL[0].0;
-    let mut writers = Writers {
-        out: Failing,
-        err: Vec::new(alloc),
-    };
-    let status = act(
-        alloc,
-        alloc,
-        check,
-        no_tables(alloc),
-        &mut file,
-        &mut writers,
-    );
-    status == 3 && writers.err.as_slice() == b"waywire: cannot write\n".as_slice()
-}
-
-/// The status is the same if standard error cannot be written.
-fn answers_the_same(alloc: Global, _trace: &Job, check: &Job) -> bool {
-    let mut file = REFUSED[0].0;
-    let mut writers = Writers {
-        out: Vec::new(alloc),
-        err: Failing,
-    };
-    act(
-        alloc,
-        alloc,
-        check,
-        no_tables(alloc),
-        &mut file,
-        &mut writers,
-    ) == 3
-}
-
-#[test]
-fn says_which_stream_failed(rt: HostRuntime) -> Result<(), Fail> {
-    assert!(rt; holds_of_both(rt.alloc(), says_that_reading_failed)?);
-    assert!(rt; holds_of_both(rt.alloc(), says_that_writing_failed)?);
-    assert!(rt; holds_of_both(rt.alloc(), answers_the_same)?);
-    Ok(())
-}
-
-/// The message for lack of memory.
-const NO_MEMORY: &[u8] = b"waywire: out of memory\n";
-
-/// If an allocation is refused: whether a trace in this memory is out of memory, and does nothing
-/// else. Otherwise: whether it traces the whole session.
-fn is_refused_or_whole(
-    alloc: Global,
-    memory: RefusingAllocator,
-    told: &RefusingAllocator,
-    job: &Job,
-) -> bool {
-    let (text, lines, verdict) = BROKEN[10];
-    let mut file = text;
-    let mut writers = Writers {
-        out: Vec::new(alloc),
-        err: Vec::new(alloc),
-    };
-    let status = act(
-        memory,
-        alloc,
-        job,
-        no_tables(alloc),
-        &mut file,
-        &mut writers,
-    );
-    if told.has_refused() {
-        status == 4 && writers.out.is_empty() && writers.err.as_slice() == NO_MEMORY
-    } else {
-        status == 1 && writers.out.strip_prefix(lines) == Some(verdict)
-    }
-}
-
-/// Refuses each allocation in turn. True if the output is right each time, and in the end no
-/// allocation is refused.
-fn is_refused_in_turn(
-    alloc: Global,
-    memory: &RefusingAllocator,
-    job: &Job,
-) -> Result<bool, AllocError> {
-    let mut is_so = true;
-    for number in 0u64..2000 {
-        memory.refuse_nth(number);
-        is_so = is_refused_or_whole(alloc, memory.clone()?, memory, job) && is_so;
-        if !memory.has_refused() {
-            return Ok(is_so);
-        }
-    }
-    Ok(false)
-}
-
-/// Whether a trace is refused with each of its allocations in turn, and succeeds in the end.
-fn traces_at_last(alloc: Global, trace: &Job, _check: &Job) -> bool {
-    match RefusingAllocator::new(alloc) {
-        Ok(memory) => matches!(is_refused_in_turn(alloc, &memory, trace), Ok(true)),
-        Err(_) => false,
-    }
-}
-
+/// A trace and a demonstration.
 #[test]
 fn is_refused_each_of_its_allocations_in_turn(rt: HostRuntime) -> Result<(), Fail> {
-    assert!(rt; holds_of_both(rt.alloc(), traces_at_last)?);
+    let alloc = rt.alloc();
+    let memory = RefusingAllocator::new(alloc)?;
+    assert!(rt; is_answered_at_last(alloc, &memory, &traced(&NO_DESCRIPTOR, 1))?);
+    assert!(rt; is_answered_at_last(alloc, &memory, &demo(&["demo"]))?);
     Ok(())
 }

@@ -4,7 +4,7 @@ use std::alloc::{AllocError, Global};
 use std::test::Fail;
 
 /// Each failure and its text.
-const FAILURES: [(Failure<'static>, &str); 10] = [
+const FAILURES: &[(Failure<'static>, &str)] = &[
     (Failure::CannotRead("a b.rec"), "cannot read a b.rec"),
     (Failure::TooLong, "file too long"),
     (Failure::BadLine(2), "line 2: bad line"),
@@ -52,10 +52,14 @@ fn has_text(alloc: Global, failure: Failure<'_>, text: &str) -> Result<bool, All
     Ok(is_said && shown.as_str() == text && err.as_slice() == line.as_str().as_bytes())
 }
 
+fn failures() -> &'static [(Failure<'static>, &'static str)] {
+    FAILURES
+}
+
 #[test]
 fn shows_what_it_says(rt: HostRuntime) -> Result<(), Fail> {
-    for (failure, text) in FAILURES {
-        assert!(rt; has_text(rt.alloc(), failure, text)?, "{text}");
+    for (failure, text) in failures() {
+        assert!(rt; has_text(rt.alloc(), *failure, text)?, "{text}");
     }
     Ok(())
 }

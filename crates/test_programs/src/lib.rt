@@ -8,7 +8,7 @@ mod acting;
 #[cfg(test)]
 mod bad_lines;
 #[cfg(test)]
-mod commands;
+mod connection;
 #[cfg(test)]
 mod demo;
 #[cfg(test)]
@@ -28,6 +28,8 @@ mod inspector_memory;
 #[cfg(test)]
 mod job;
 #[cfg(test)]
+mod playing;
+#[cfg(test)]
 mod recordings;
 #[cfg(test)]
 mod socket;
@@ -41,5 +43,3 @@ mod tee;
 mod verdict;
 #[cfg(test)]
 mod words;
-#[cfg(test)]
-mod writing;

@@ -1,16 +1,24 @@
 //! Tracing and checking with table texts.
-use program_arguments::Job;
-use program_jobs::{TablesFile, Writers, act};
+use crate::playing::{Answer, ENDLESS, File, OPEN, Run, is_answered};
 use std::alloc::{AllocError, Global};
-use std::io::{self, ErrorKind, Read};
 use std::test::Fail;
-use wl_message::{Limit, ScriptReader, Step};
 
-/// A table text.
+/// A table text, and its two halves.
 const VIEWPORTER: &[u8] = b"interface wp_viewporter 1
 request destroy D
 request get_viewport n(wp_viewport) o(wl_surface)
 interface wp_viewport 1
+request destroy D
+request set_source f f f f
+request set_destination i i
+";
+
+const FIRST: &[u8] = b"interface wp_viewporter 1
+request destroy D
+request get_viewport n(wp_viewport) o(wl_surface)
+";
+
+const SECOND: &[u8] = b"interface wp_viewport 1
 request destroy D
 request set_source f f f f
 request set_destination i i
@@ -28,16 +36,22 @@ const LINES: &[u8] = b"-> wl_display@1.get_registry(new id wl_registry@2)
 -> wl_registry@2.bind(1, \"wp_viewporter\", 1, new id wp_viewporter@3)
 ";
 
-/// The verdict with these tables, and the one without them.
-const LAWFUL: &[u8] = b"lawful: 2 requests, 1 events, 0 and 0 bytes left\n";
+/// The answer of a check with these tables, and the one without them.
+const LAWFUL: Answer = Answer {
+    status: 0,
+    out: [b"lawful: 2 requests, 1 events, 0 and 0 bytes left\n", b""],
+    err: b"",
+};
 
-const BROKEN: &[u8] = b"broken: > message 2 at byte 12: F9 bad bind\n";
-
-/// What is written to standard error if the tables lack the interface.
-const HINT: &[u8] = b"waywire: no table has wp_viewporter: see --tables\n";
+/// Standard error says that no table has the interface.
+const BROKEN: Answer = Answer {
+    status: 1,
+    out: [b"broken: > message 2 at byte 12: F9 bad bind\n", b""],
+    err: b"waywire: no table has wp_viewporter: see --tables\n",
+};
 
 /// Texts that are not accepted as tables, and what is written to standard error.
-const REFUSED: [(&[u8], &[u8]); 13] = [
+const REFUSED: &[(&[u8], &[u8])] = &[
     (b"request poke", b"waywire: tables line 1: bad line\n"),
     // A bad line comes before a broken rule.
     (
@@ -97,89 +111,134 @@ const NO_RECORDING: &[u8] = b"> 012\n";
 /// The name of the file with the table text.
 const NAME: &str = "a.tables";
 
-/// These names, as the words that name table texts.
-fn named(alloc: Global, names: &[&str]) -> Result<Vec<String>, AllocError> {
-    let mut all = Vec::new(alloc);
-    for name in names {
-        all.push(String::from_str(alloc, name)?)?;
-    }
-    Ok(all)
-}
+/// A check with one file or folder of table texts, and one with two files.
+const CHECK: &[&str] = &["check", "--tables", NAME, "a.rec"];
 
-/// The job that traces a recording with these tables.
-fn trace_by_tables(alloc: Global) -> Result<Job, AllocError> {
-    Ok(Job::Trace {
-        tables: named(alloc, &[NAME])?,
-        limit: Limit::USUAL,
-        file: String::from_str(alloc, "a.rec")?,
-    })
-}
+const CHECK_BOTH: &[&str] = &["check", "--tables", "a", "--tables", "b", "a.rec"];
 
-/// The job that checks a recording with the table texts of these names.
-fn check_by(alloc: Global, names: &[&str]) -> Result<Job, AllocError> {
-    Ok(Job::Check {
-        tables: named(alloc, names)?,
-        limit: Limit::USUAL,
-        file: String::from_str(alloc, "a.rec")?,
-    })
-}
+/// Runs over a session and over files with a fault.
+const RUNS: &[Run<'static>] = &[
+    Run {
+        words: &["trace", "--tables", NAME, "a.rec"],
+        tables: &[(NAME, File::Text(VIEWPORTER))],
+        file: File::Text(SESSION),
+        outputs: OPEN,
+        answer: Answer {
+            status: 0,
+            out: [LINES, b""],
+            err: b"",
+        },
+    },
+    Run {
+        words: CHECK,
+        tables: &[(NAME, File::Text(VIEWPORTER))],
+        file: File::Text(SESSION),
+        outputs: OPEN,
+        answer: LAWFUL,
+    },
+    // The empty text adds nothing.
+    Run {
+        words: CHECK,
+        tables: &[(NAME, File::Text(b""))],
+        file: File::Text(SESSION),
+        outputs: OPEN,
+        answer: BROKEN,
+    },
+    Run {
+        words: &["check", "a.rec"],
+        tables: &[],
+        file: File::Text(SESSION),
+        outputs: OPEN,
+        answer: BROKEN,
+    },
+    // An interface may be declared in one file and extended in the next; an earlier file may name
+    // it.
+    Run {
+        words: CHECK_BOTH,
+        tables: &[("a", File::Text(FIRST)), ("b", File::Text(SECOND))],
+        file: File::Text(SESSION),
+        outputs: OPEN,
+        answer: LAWFUL,
+    },
+    Run {
+        words: CHECK_BOTH,
+        tables: &[
+            (
+                "a",
+                File::Text(b"interface wp_viewporter 1\nrequest get n(other)"),
+            ),
+            (
+                "b",
+                File::Text(b"interface other 1\nextend wp_viewporter 2\nrequest r @2"),
+            ),
+        ],
+        file: File::Text(SESSION),
+        outputs: OPEN,
+        answer: LAWFUL,
+    },
+    // A file of a folder is reported by name, even if it is the folder's only file.
+    Run {
+        words: &["check", "--tables", "f", "a.rec"],
+        tables: &[("f/a.tables", File::Text(b"interface"))],
+        file: File::Text(NO_RECORDING),
+        outputs: OPEN,
+        answer: Answer {
+            status: 3,
+            out: [b"", b""],
+            err: b"waywire: tables f/a.tables line 1: bad line\n",
+        },
+    },
+    // Tables that cannot be read or have no end are reported before a recording with a bad line.
+    Run {
+        words: CHECK,
+        tables: &[(NAME, File::Failing)],
+        file: File::Text(NO_RECORDING),
+        outputs: OPEN,
+        answer: Answer {
+            status: 3,
+            out: [b"", b""],
+            err: b"waywire: cannot read a.tables\n",
+        },
+    },
+    Run {
+        words: CHECK,
+        tables: &[(NAME, ENDLESS)],
+        file: File::Text(NO_RECORDING),
+        outputs: OPEN,
+        answer: Answer {
+            status: 3,
+            out: [b"", b""],
+            err: b"waywire: file too long\n",
+        },
+    },
+    // A recording that cannot be read is reported only if the tables have no fault.
+    Run {
+        words: CHECK,
+        tables: &[(NAME, File::Text(VIEWPORTER))],
+        file: File::Failing,
+        outputs: OPEN,
+        answer: Answer {
+            status: 3,
+            out: [b"", b""],
+            err: b"waywire: cannot read a.rec\n",
+        },
+    },
+];
 
-/// The texts, each in the file with its name.
-fn files_of<'a>(
-    alloc: Global,
-    texts: &[(&'a str, &'a [u8])],
-) -> Result<Vec<TablesFile<'a, &'a [u8]>>, AllocError> {
-    let mut files = Vec::new(alloc);
-    for (name, text) in texts {
-        files.push(TablesFile {
-            name: *name,
-            file: *text,
-        })?;
-    }
-    Ok(files)
-}
-
-/// Whether a job over these table texts and this recording ends with this status, and writes these
-/// bytes to standard output and these to standard error.
-fn answers(
-    alloc: Global,
-    job: &Job,
-    texts: (&[(&str, &[u8])], &[u8]),
-    status: u8,
-    written: (&[u8], &[u8]),
-) -> Result<bool, AllocError> {
-    let (tables, mut file) = texts;
-    let mut writers = Writers {
-        out: Vec::new(alloc),
-        err: Vec::new(alloc),
-    };
-    let files = files_of(alloc, tables)?;
-    let answer = act(alloc, alloc, job, files, &mut file, &mut writers);
-    Ok(
-        answer == status
-            && writers.out.as_slice() == written.0
-            && writers.err.as_slice() == written.1,
-    )
+fn runs() -> &'static [Run<'static>] {
+    RUNS
 }
 
 #[test]
-fn traces_and_checks_by_the_tables_of_a_text(rt: HostRuntime) -> Result<(), Fail> {
-    let alloc = rt.alloc();
-    let texts: [(&str, &[u8]); 1] = [(NAME, VIEWPORTER)];
-    let trace = trace_by_tables(alloc)?;
-    assert!(rt; answers(alloc, &trace, (&texts, SESSION), 0, (LINES, b""))?);
-    let check = check_by(alloc, &[NAME])?;
-    assert!(rt; answers(alloc, &check, (&texts, SESSION), 0, (LAWFUL, b""))?);
-    // The empty text adds nothing.
-    let empty: [(&str, &[u8]); 1] = [(NAME, b"")];
-    assert!(rt; answers(alloc, &check, (&empty, SESSION), 1, (BROKEN, HINT))?);
-    let bare = check_by(alloc, &[])?;
-    assert!(rt; answers(alloc, &bare, (&[], SESSION), 1, (BROKEN, HINT))?);
+fn traces_and_checks_by_the_tables_of_texts(rt: HostRuntime) -> Result<(), Fail> {
+    for (number, run) in runs().iter().enumerate() {
+        assert!(rt; is_answered(rt.alloc(), run)?, "run {number}");
+    }
     Ok(())
 }
 
 /// Two table texts in two files, and what is written to standard error.
-const REFUSED_TOGETHER: [(&[u8], &[u8], &[u8]); 6] = [
+const REFUSED_TOGETHER: &[(&[u8], &[u8], &[u8])] = &[
     (
         b"interface a 1\n",
         b"request",
@@ -216,113 +275,52 @@ const REFUSED_TOGETHER: [(&[u8], &[u8], &[u8]); 6] = [
     ),
 ];
 
-/// Two texts are read as one; a fault is reported by file and line.
-#[test]
-fn names_the_file_of_several(rt: HostRuntime) -> Result<(), Fail> {
-    let alloc = rt.alloc();
-    let check = check_by(alloc, &["a", "b"])?;
-    for (first, second, said) in REFUSED_TOGETHER {
-        let texts = [("a", first), ("b", second)];
-        assert!(rt; answers(alloc, &check, (&texts, NO_RECORDING), 3, (b"", said))?);
+/// Recordings that have a bad line, cannot be read, or have no end.
+const FILES: [File; 3] = [File::Text(NO_RECORDING), File::Failing, ENDLESS];
+
+/// Whether a check says this of its table texts, before it says anything of its recording.
+fn refuses<'a>(
+    alloc: Global,
+    words: &'a [&'a str],
+    tables: &'a [(&'a str, File)],
+    said: &'static [u8],
+) -> Result<bool, AllocError> {
+    let mut is_so = true;
+    for file in FILES.iter() {
+        let run = Run {
+            words,
+            tables,
+            file: *file,
+            outputs: OPEN,
+            answer: Answer {
+                status: 3,
+                out: [b"", b""],
+                err: said,
+            },
+        };
+        is_so = is_answered(alloc, &run)? && is_so;
     }
-    Ok(())
+    Ok(is_so)
 }
 
-/// A file of a folder is reported by name, even if it is the folder's only file.
-#[test]
-fn names_the_file_of_a_folder(rt: HostRuntime) -> Result<(), Fail> {
-    let alloc = rt.alloc();
-    let check = check_by(alloc, &["f"])?;
-    let texts: [(&str, &[u8]); 1] = [("f/a.tables", b"interface")];
-    let said = b"waywire: tables f/a.tables line 1: bad line\n";
-    assert!(rt; answers(alloc, &check, (&texts, NO_RECORDING), 3, (b"", said))?);
-    Ok(())
+fn refused() -> &'static [(&'static [u8], &'static [u8])] {
+    REFUSED
 }
 
-/// An interface may be declared in one file and extended in the next; an earlier file may name it.
-#[test]
-fn takes_several_texts_as_one(rt: HostRuntime) -> Result<(), Fail> {
-    let alloc = rt.alloc();
-    let check = check_by(alloc, &["a", "b"])?;
-    let (first, second) = VIEWPORTER.split_at(94);
-    let texts = [("a", first), ("b", second)];
-    assert!(rt; answers(alloc, &check, (&texts, SESSION), 0, (LAWFUL, b""))?);
-    let texts: [(&str, &[u8]); 2] = [
-        ("a", b"interface wp_viewporter 1\nrequest get n(other)"),
-        (
-            "b",
-            b"interface other 1\nextend wp_viewporter 2\nrequest r @2",
-        ),
-    ];
-    assert!(rt; answers(alloc, &check, (&texts, SESSION), 0, (LAWFUL, b""))?);
-    Ok(())
+fn refused_together() -> &'static [(&'static [u8], &'static [u8], &'static [u8])] {
+    REFUSED_TOGETHER
 }
 
-/// In each case the recording has a bad line, too; the tables are reported first.
+/// A fault is reported by line; of several files, by file and line.
 #[test]
 fn refuses_texts_that_give_no_tables(rt: HostRuntime) -> Result<(), Fail> {
-    let alloc = rt.alloc();
-    let check = check_by(alloc, &[NAME])?;
-    for (text, said) in REFUSED {
-        let texts = [(NAME, text)];
-        assert!(rt; answers(alloc, &check, (&texts, NO_RECORDING), 3, (b"", said))?);
+    for (text, said) in refused().iter() {
+        let texts = [(NAME, File::Text(text))];
+        assert!(rt; refuses(rt.alloc(), CHECK, &texts, said)?);
     }
-    Ok(())
-}
-
-/// Whether a job over these tables and this recording ends with status 3, prints nothing, and
-/// writes this message.
-fn says<T: Read + Drop, R: Read>(
-    alloc: Global,
-    job: &Job,
-    tables: T,
-    file: &mut R,
-    said: &[u8],
-) -> Result<bool, AllocError> {
-    let mut writers = Writers {
-        out: Vec::new(alloc),
-        err: Vec::new(alloc),
-    };
-    let mut files = Vec::new(alloc);
-    files.push(TablesFile {
-        name: NAME,
-        file: tables,
-    })?;
-    let status = act(alloc, alloc, job, files, file, &mut writers);
-    Ok(status == 3 && writers.out.is_empty() && writers.err.as_slice() == said)
-}
-
-/// A reader that fails at its first call.
-fn failing() -> ScriptReader<'static> {
-    ScriptReader::new(b"", FAILS)
-}
-
-const FAILS: &[Step] = &[Step::Fail(ErrorKind::BrokenPipe)];
-
-/// In each case the recording cannot be read or has no end, too; the tables are reported first.
-#[test]
-fn refuses_bad_tables_before_any_recording(rt: HostRuntime) -> Result<(), Fail> {
-    let alloc = rt.alloc();
-    let check = check_by(alloc, &[NAME])?;
-    for (text, said) in REFUSED {
-        assert!(rt; says(alloc, &check, text, &mut failing(), said)?);
-        assert!(rt; says(alloc, &check, text, &mut io::repeat(b'#'), said)?);
+    for (first, second, said) in refused_together().iter() {
+        let texts = [("a", File::Text(first)), ("b", File::Text(second))];
+        assert!(rt; refuses(rt.alloc(), CHECK_BOTH, &texts, said)?);
     }
-    Ok(())
-}
-
-/// Tables that cannot be read or have no end are reported before a recording with a bad line. A
-/// recording that cannot be read is reported only if the tables have no fault.
-#[test]
-fn names_the_file_that_is_at_fault(rt: HostRuntime) -> Result<(), Fail> {
-    let alloc = rt.alloc();
-    let check = check_by(alloc, &[NAME])?;
-    let (mut first, mut second) = (NO_RECORDING, NO_RECORDING);
-    let said = b"waywire: cannot read a.tables\n";
-    assert!(rt; says(alloc, &check, failing(), &mut first, said)?);
-    let said = b"waywire: file too long\n";
-    assert!(rt; says(alloc, &check, io::repeat(b'#'), &mut second, said)?);
-    let said = b"waywire: cannot read a.rec\n";
-    assert!(rt; says(alloc, &check, VIEWPORTER, &mut failing(), said)?);
     Ok(())
 }

@@ -1,18 +1,11 @@
 //! Asking for a job with the words of a command line.
 use program_arguments::{Job, Stop, job_of};
-use program_jobs::TablesFile;
 use std::alloc::{AllocError, Global};
-use std::io::Empty;
 
 /// The answer to these words after the program's name.
 pub fn asked(alloc: Global, words: &[&str]) -> Result<Result<Job, Stop>, AllocError> {
     let all = command_line(alloc, words)?;
     Ok(job_of(alloc, all.as_slice()))
-}
-
-/// No table files.
-pub fn no_tables(alloc: Global) -> Vec<TablesFile<'static, Empty>> {
-    Vec::new(alloc)
 }
 
 /// A command line of the program's name and these words.
