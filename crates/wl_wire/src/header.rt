@@ -29,9 +29,7 @@ impl Header {
         ensures { result ≡ header_bytes self }
     {
         let mut bytes = [0; HEADER_LEN];
-        LittleEndian::write_u32(&mut bytes[..4], self.object);
-        LittleEndian::write_u16(&mut bytes[4..6], self.opcode);
-        LittleEndian::write_u16(&mut bytes[6..], self.size);
+        self.write(&mut bytes);
         bytes
     }
 
@@ -40,7 +38,9 @@ impl Header {
         requires { 8 ≤ length out.old }
         ensures { out.new ≡ header_bytes self ++ drop 8 out.old }
     {
-        out[..HEADER_LEN].copy_from_slice(&self.to_bytes());
+        LittleEndian::write_u32(out, self.object);
+        LittleEndian::write_u16(&mut out[4..], self.opcode);
+        LittleEndian::write_u16(&mut out[6..], self.size);
     }
 
     /// The header in these bytes. Any eight bytes are a header.
