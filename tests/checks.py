@@ -203,13 +203,16 @@ def files_below(folder):
 
 
 def out_of_layout(name):
-    """Returns the files of a crate that `rt fmt`, run on a copy of the crate, would change."""
+    """Returns the files of a crate that `rt fmt`, run on a copy of the crate, would change, or how `rt fmt` failed."""
     folder = f"{TOP}/crates/{name}"
     with tempfile.TemporaryDirectory() as room:
         for part in ("src", "specs", "proofs"):
             if os.path.isdir(f"{folder}/{part}"):
                 shutil.copytree(f"{folder}/{part}", f"{room}/{part}")
-        subprocess.run(["rt", "fmt"], cwd=room, stdin=subprocess.DEVNULL, capture_output=True, check=False)
+        how = {"stdin": subprocess.DEVNULL, "stdout": subprocess.PIPE, "stderr": subprocess.STDOUT, "errors": "replace"}
+        ran = subprocess.run(["rt", "fmt"], cwd=room, check=False, **how)
+        if ran.returncode:
+            return [f"{name}: rt fmt ended with status {ran.returncode}: {ran.stdout}"]
         names = [os.path.relpath(it, room) for it in files_below(room)]
         _, *differ = filecmp.cmpfiles(room, folder, names, shallow=False)
     return sorted(sum(differ, []))

@@ -1,6 +1,7 @@
 """The tools that run proofs and tests: mutants, the timed gate, the quick look and all of it."""
 
 import contextlib
+import glob
 import io
 import os
 import shutil
@@ -33,6 +34,16 @@ class Mutants(unittest.TestCase):
     def test_a_text_stands_once(self):
         self.assertIsNone(self.body("a", ("u8", "u16")).applied(self.sources))
         self.assertIsNone(self.body("a", ("one() + 3", "3")).applied(self.sources))
+
+    def test_each_text_of_a_mutant_stands_once(self):
+        """Of the gate's mutants too: `rt ci` does not fail if one of them cannot be applied."""
+        folders = glob.glob(f"{TOP}/crates/*")
+        self.assertTrue(any(os.path.exists(f"{it}/{self.tool.BATCH}") for it in folders))
+        for folder in folders:
+            sources = self.tool.sources_of(folder)
+            for path in glob.glob(f"{folder}/must-fail/*.edit") + glob.glob(f"{folder}/{self.tool.BATCH}"):
+                for mutant in self.tool.mutants_of(path):
+                    self.assertIsNotNone(mutant.applied(sources), f"{path}: {mutant.name}")
 
     def test_one_mutant_of_a_function_in_a_round(self):
         first, second = self.body("a", ("    1\n", "    2\n")), self.body("b", ("    1\n}", "    3\n}"))
@@ -153,6 +164,14 @@ class Quick(unittest.TestCase):
         self.assertEqual((count.passed, count.failed), (2, 1))
         self.assertIn("wl_connection/b.edit: NOT REFUSED", output.getvalue())
 
+    def test_mutants_that_are_not_in_the_output(self):
+        earlier = "rt: wl_wire: 3 of its 3 must-fail edits were tried by an earlier run on this machine, and so on\n"
+        for said, failed in (("rt: ok\n", 1), (earlier, 0)):
+            with contextlib.redirect_stdout(io.StringIO()):
+                count = self.tool.Count()
+                self.tool.judge(said, 0, count, 0)
+            self.assertEqual((count.passed, count.failed), (0, failed))
+
     def test_lines_by_file(self):
         found = self.tool.by_file(read("crates/test_scenes/stdout"))
         words = read("crates/test_scenes/args").split()
@@ -192,6 +211,17 @@ class Quick(unittest.TestCase):
             self.assertEqual((count.passed, count.failed), counted)
             self.assertEqual(["a::b" in it for it in count.left], [True] * left)
 
+    def test_a_run_of_tests_that_was_ended(self):
+        late = "test a::b ... FAILED\n    checked: no-answer: the program did not end within the time limit\n"
+        for said in ("", late, late + late.replace("::b", "::c")):
+            with (
+                contextlib.redirect_stdout(io.StringIO()),
+                unittest.mock.patch.object(self.tool, "run", lambda *_, said=said: (-9, said)),
+            ):
+                count = self.tool.Count()
+                self.tool.tests_of("test_layers", count)
+            self.assertEqual((count.passed, count.failed), (0, 1))
+
     def ran(self, part, said):
         """The commands that a part runs, of which each says this, and what it leaves out."""
         commands = []
@@ -219,9 +249,9 @@ class Quick(unittest.TestCase):
         self.assertEqual(found, [*(f"{it} {program}-unproved" for it in tools[:2]), pages])
         self.assertIn(tools[2], left[0])
         found = self.ran(self.tool.at_library, "built")
-        self.assertEqual(found, ([f"tests/check-c {program}", "tests/check-rust", "tests/check-stubs",
-                                  "tests/check-libwayland", "tests/check-picture",
-                                  "tests/check-pages OverTheLibrary"], []))
+        self.assertEqual(found, (["python3 tools/toolchain.py proved waywire", f"tests/check-c {program}",
+                                  "tests/check-rust", "tests/check-stubs", "tests/check-libwayland",
+                                  "tests/check-picture", "tests/check-pages OverTheLibrary"], []))
         found, left = self.ran(self.tool.at_library, "not built")
         self.assertEqual(found, ["tests/check-stubs Modules"])
         self.assertIn("tests/check-c", left[0])
