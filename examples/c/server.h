@@ -32,11 +32,13 @@ struct client {
 /* The clients, the newest first. */
 extern struct client *clients;
 
-/* Exits unless a status is WAYWIRE_OK: for an event that answers a request. */
+/* Exits unless a status is WAYWIRE_OK: for an event that answers a request. It has room, since half
+ * of the outbox is free before each request. */
 void must(waywire_status status);
 
-/* The same for an event that answers no request. It is no failure if its object is gone, or older
- * than the event. A client without room for the event is ended later. */
+/* The same for every other event, and for an answer that a callback sends after such events, which
+ * may have filled the outbox. It is no failure if the event's object is gone, or older than the
+ * event. A client without room for the event is ended later. */
 void may(struct client *client, waywire_status status);
 
 bool is_live(const struct client *client, waywire_object object);

@@ -83,11 +83,13 @@ static void on_attach(void *data, waywire_wl_surface surface, waywire_wl_buffer 
 	((struct surface *)data)->buffer = buffer;
 }
 
+/* The window may just have got the focus, and with it many events. */
 static void answer(struct surface *surface)
 {
-	waywire_server server = surface->client->server;
+	struct client *client = surface->client;
 	if (surface->callback.object.id)
-		must(waywire_wl_callback_send_done(server, surface->callback, milliseconds()));
+		may(client, waywire_wl_callback_send_done(client->server, surface->callback,
+			milliseconds()));
 	surface->callback.object.id = 0;
 }
 
