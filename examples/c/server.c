@@ -39,6 +39,9 @@
 /* The most clients at a time; others wait. */
 #define MOST_CLIENTS 64
 
+/* If a client cannot be accepted, the next try comes within this many milliseconds. */
+#define PAUSE 1000
+
 struct client *clients;
 static size_t client_count;
 static waywire_tables *tables;
@@ -183,6 +186,16 @@ static void add_client(int socket)
 	client_count++;
 }
 
+/* Accepts a client that waits. Returns false if that fails, for example because the process has no
+ * descriptor left; then the client still waits. */
+static bool accept_client(const waywire_listening_socket *listening)
+{
+	int socket = waywire_listening_socket_accept(listening);
+	if (socket >= 0)
+		add_client(socket);
+	return socket >= 0 || errno == EAGAIN;
+}
+
 /* Says why a client's connection has ended, unless the client has closed it. */
 static void tell_end(const struct client *client)
 {
@@ -232,9 +245,14 @@ static struct pollfd polled_at(struct client *client)
 }
 
 /* Waits for the clients, for so many milliseconds at most, and calls back for what they have
- * sent. Returns false once a signal has come. */
+ * sent. Returns false once a signal has come.
+ *
+ * The listening socket is ready as long as a client waits there. If the client cannot be accepted,
+ * poll would return at once every time. So the next poll leaves the listening socket out, and the
+ * one after that tries again. */
 static bool serve(const waywire_listening_socket *listening, int signals, int timeout)
 {
+	static bool pauses; /* whether the last client could not be accepted */
 	struct pollfd polled[2 + MOST_CLIENTS] = { { signals, POLLIN, 0 },
 		{ waywire_listening_socket_fd(listening), POLLIN, 0 } };
 	size_t count = 2;
@@ -243,8 +261,10 @@ static bool serve(const waywire_listening_socket *listening, int signals, int ti
 		if (!polled[count++].events)
 			timeout = 0; /* requests wait that had no room for their answers before */
 	}
-	if (client_count == MOST_CLIENTS)
-		polled[1].fd = -1;
+	if (pauses && timeout > PAUSE)
+		timeout = PAUSE;
+	if (pauses || client_count == MOST_CLIENTS)
+		polled[1].fd = -1; /* poll ignores it */
 	if (poll(polled, count, timeout) < 0 && errno != EINTR)
 		err(1, "poll");
 	count = 2;
@@ -254,9 +274,7 @@ static bool serve(const waywire_listening_socket *listening, int signals, int ti
 		waywire_connection_dispatch_pending(it->connection);
 	}
 	end_those_that_failed();
-	int socket = polled[1].revents ? waywire_listening_socket_accept(listening) : -1;
-	if (socket >= 0)
-		add_client(socket);
+	pauses = polled[1].revents && !accept_client(listening);
 	return !polled[0].revents;
 }
 
