@@ -102,8 +102,10 @@ static void on_get_keyboard(void *data, waywire_wl_seat seat, waywire_wl_keyboar
 {
 	struct client *client = data;
 	int nothing = open("/dev/null", O_RDONLY | O_CLOEXEC);
-	if (nothing < 0)
-		err(1, "/dev/null");
+	if (nothing < 0) {
+		post_no_descriptor(client);
+		return;
+	}
 	must(waywire_wl_keyboard_send_keymap(client->server, keyboard,
 		WAYWIRE_WL_KEYBOARD_KEYMAP_FORMAT_NO_KEYMAP, nothing, 0));
 	may(client, waywire_wl_keyboard_send_repeat_info(client->server, keyboard, 0, 0));

@@ -61,6 +61,12 @@ void may(struct client *client, waywire_status status)
 		must(status);
 }
 
+void post_no_descriptor(struct client *client)
+{
+	waywire_server_post_error(client->server, waywire_end_display(client->server.end),
+		WAYWIRE_WL_DISPLAY_ERROR_NO_MEMORY, "no descriptor is left");
+}
+
 bool is_live(const struct client *client, waywire_object object)
 {
 	return object.id && !waywire_end_live(client->server.end, object, NULL, NULL);

@@ -41,6 +41,9 @@ void must(waywire_status status);
  * event. A client without room for the event is ended later. */
 void may(struct client *client, waywire_status status);
 
+/* Ends the client by wl_display.error: no descriptor is left for what it asks for. */
+void post_no_descriptor(struct client *client);
+
 bool is_live(const struct client *client, waywire_object object);
 
 /* Memory of zeros for data of an object, which are destroyed with it. */

@@ -2,6 +2,7 @@
  * committed to a surface. */
 #include "server.h"
 
+#include <fcntl.h>
 #include <stdio.h>
 #include <stdlib.h>
 #include <unistd.h>
@@ -38,12 +39,10 @@ static void free_memory(void *data)
 
 static void set_memory(struct client *client, waywire_object object, struct memory memory)
 {
-	if (memory.descriptor < 0) {
-		waywire_server_post_error(client->server, object, WAYWIRE_WL_DISPLAY_ERROR_NO_MEMORY,
-			"no descriptor is left");
-		return;
-	}
-	*(struct memory *)new_data(client, object, sizeof memory, free_memory) = memory;
+	if (memory.descriptor < 0)
+		post_no_descriptor(client);
+	else
+		*(struct memory *)new_data(client, object, sizeof memory, free_memory) = memory;
 }
 
 static void on_create_pool(void *data, waywire_wl_shm shm, waywire_wl_shm_pool pool, int fd,
@@ -58,8 +57,9 @@ static void on_create_buffer(void *data, waywire_wl_shm_pool pool, waywire_wl_bu
 	int32_t offset, int32_t width, int32_t height, int32_t stride, uint32_t format)
 {
 	const struct memory *memory = data;
+	int descriptor = fcntl(memory->descriptor, F_DUPFD_CLOEXEC, 0);
 	set_memory(memory->client, buffer.object, (struct memory){
-		memory->client, dup(memory->descriptor), offset, width, height });
+		memory->client, descriptor, offset, width, height });
 }
 
 static const struct waywire_wl_shm_pool_requests pool_requests = {
