@@ -35,9 +35,14 @@ static bool configured;
 static const char *const types[] = { "text/plain;charset=utf-8", "UTF8_STRING", "text/plain" };
 #define TYPES (sizeof types / sizeof *types)
 
-/* The last offer, and the place of its best type; TYPES if it has none. */
-static waywire_wl_data_offer offer;
-static size_t best = TYPES;
+/* An offer, and the place of its best type; TYPES if it has none. */
+struct offer {
+	waywire_wl_data_offer it;
+	size_t best;
+};
+
+/* The last offer, until wl_data_device.selection names it, and the offer of the clipboard. */
+static struct offer pending = { .best = TYPES }, selection = { .best = TYPES };
 static bool is_told; /* of the selection */
 
 static void must(waywire_status status)
@@ -147,36 +152,47 @@ static void close_window(void)
 
 /* ---- the clipboard */
 
-/* An offer is destroyed once there is another, or none. */
-static void drop_offer(void)
+static void drop_offer(struct offer *offer)
 {
-	if (offer.object.id)
-		must(ww_wl_data_offer_destroy(client, offer));
-	offer.object.id = 0;
-	best = TYPES;
+	if (offer->it.object.id)
+		must(ww_wl_data_offer_destroy(client, offer->it));
+	*offer = (struct offer){ .best = TYPES };
 }
 
+/* An offer is for the clipboard, or for something that is dragged over the window. A later event
+ * says which. */
 static void on_data_offer(void *data, waywire_wl_data_device device, waywire_wl_data_offer made)
 {
-	drop_offer();
-	offer = made;
+	drop_offer(&pending);
+	pending.it = made;
 }
 
 static void on_selection(void *data, waywire_wl_data_device device, waywire_wl_data_offer selected)
 {
 	is_told = true;
-	if (!selected.object.id)
-		drop_offer();
+	drop_offer(&selection);
+	if (waywire_object_equal(selected.object, pending.it.object)) {
+		selection = pending;
+		pending = (struct offer){ .best = TYPES };
+	}
+}
+
+/* What was dragged has left the window. */
+static void on_leave(void *data, waywire_wl_data_device device)
+{
+	drop_offer(&pending);
 }
 
 static const struct ww_wl_data_device_events device_events = {
-	.data_offer = on_data_offer, .selection = on_selection };
+	.data_offer = on_data_offer, .selection = on_selection, .leave = on_leave };
 
 static void on_offer(void *data, waywire_wl_data_offer it, const char *type)
 {
-	for (size_t each = 0; each < best; each++)
+	if (!waywire_object_equal(it.object, pending.it.object))
+		return;
+	for (size_t each = 0; each < pending.best; each++)
 		if (!strcmp(type, types[each]))
-			best = each;
+			pending.best = each;
 }
 
 static const struct ww_wl_data_offer_events offer_events = { .offer = on_offer };
@@ -218,16 +234,16 @@ static void paste(void)
 	int ends[2];
 	while (!is_told)
 		must_answer(waywire_connection_dispatch(connection, WAIT));
-	if (best == TYPES)
+	if (selection.best == TYPES)
 		errx(1, "no text is copied");
 	if (pipe2(ends, O_CLOEXEC))
 		err(1, "a pipe");
-	must(ww_wl_data_offer_receive(client, offer, types[best], ends[1]));
+	must(ww_wl_data_offer_receive(client, selection.it, types[selection.best], ends[1]));
 	if (waywire_connection_drain(connection, WAIT))
 		err(1, "the compositor");
 	print_all(ends[0]);
 	close(ends[0]);
-	drop_offer();
+	drop_offer(&selection);
 }
 
 /* ---- the connection */
