@@ -50,6 +50,8 @@ include!(concat!(env!("OUT_DIR"), "/wlr_data_control_unstable_v1.rs"));
 const STEP: Duration = Duration::from_millis(100);
 /// The most clients at a time. Others wait.
 const MOST_CLIENTS: usize = 64;
+/// If a client cannot be accepted, the next try comes within this time.
+const PAUSE: Duration = Duration::from_secs(1);
 
 type Failure = Box<dyn std::error::Error>;
 
@@ -64,6 +66,8 @@ struct Compositor {
     selection: Option<Selection>,
     /// The number of the selection's last change.
     change: u64,
+    /// Whether the last client could not be accepted.
+    pauses: bool,
     has_ended_a_client: bool,
 }
 
@@ -80,6 +84,7 @@ impl Compositor {
             focus: None,
             selection: None,
             change: 1,
+            pauses: false,
             has_ended_a_client: false,
         })
     }
@@ -105,23 +110,25 @@ impl Compositor {
     }
 
     /// Waits for requests, at most until the limit, and does what they ask for.
+    ///
+    /// The listener is ready as long as a client waits there. If the client cannot be accepted, no call
+    /// would wait any more. So the next call leaves the listener out, and the one after that tries again.
     fn serve(&mut self, listener: &Listener, limit: Option<Duration>) -> Result<(), Failure> {
         let ids: Vec<ClientId> = self.clients.keys().copied().collect();
         for client in self.clients.values_mut() {
             client.flush();
         }
         let links = self.clients.values().map(|it| it.link.awaited());
-        let has_room = ids.len() < MOST_CLIENTS;
-        let awaited = links.chain(has_room.then(|| (listener.as_fd(), false)));
+        let accepts = ids.len() < MOST_CLIENTS && !self.pauses;
+        let awaited = links.chain(accepts.then(|| (listener.as_fd(), false)));
+        let limit = if self.pauses { Some(limit.unwrap_or(PAUSE).min(PAUSE)) } else { limit };
         let ready = socket::wait_many(awaited, limit)?;
         for (id, _) in ids.iter().zip(&ready).filter(|(_, is_ready)| **is_ready) {
             if let Err(why) = self.serve_client(*id) {
                 self.client(*id).fail(why);
             }
         }
-        if ready.get(ids.len()) == Some(&true) {
-            self.accept(listener)?;
-        }
+        self.pauses = ready.get(ids.len()) == Some(&true) && !self.accept(listener)?;
         Ok(())
     }
 
@@ -141,13 +148,17 @@ impl Compositor {
         Ok(())
     }
 
-    /// Takes in a new client. If it cannot be accepted now, it waits.
-    fn accept(&mut self, listener: &Listener) -> Result<(), Failure> {
-        if let Ok(socket) = listener.accept() {
-            self.clients.insert(self.next_id, Client::new(&self.tables, socket, self.began)?);
-            self.next_id += 1;
+    /// Takes in a client that waits. Returns false if that fails, for example because the process has
+    /// no descriptor left; then the client still waits.
+    fn accept(&mut self, listener: &Listener) -> Result<bool, Failure> {
+        match listener.accept() {
+            Ok(socket) => {
+                self.clients.insert(self.next_id, Client::new(&self.tables, socket, self.began)?);
+                self.next_id += 1;
+                Ok(true)
+            }
+            Err(error) => Ok(error.kind() == io::ErrorKind::WouldBlock),
         }
-        Ok(())
     }
 
     /// Ends the clients that have failed, and tells the others what has changed by that.
