@@ -65,7 +65,9 @@ pub struct Client {
 impl Client {
     /// The client at a socket, with all globals.
     pub fn new(tables: &Tables, socket: UnixStream, began: Instant) -> Result<Client, Failure> {
-        let mut server = Server::new(tables, &Sizes::default())?;
+        // A newer libwayland can send many descriptors before the bytes of their messages.
+        let sizes = Sizes { in_tokens: 256, ..Sizes::default() };
+        let mut server = Server::new(tables, &sizes)?;
         for (interface, version) in GLOBALS {
             let interface = tables.interface(interface).ok_or("no such interface")?;
             server.add_global(interface, *version)?;
