@@ -6,14 +6,18 @@ import os
 import socket
 import subprocess
 import tempfile
+import time
 
 import compositors
-from checks import Failed, Skipped, end, has_come, has_client, is_listening, need, run
+from checks import Failed, Skipped, end, ended, has_come, has_client, is_listening, need, run, start_and_wait
 
 # How long a text may take from one client to another, and a client to end, in seconds.
 PASSES = 60
 # How long keys are given before they are pressed again, in seconds.
 AGAIN = 3
+# How many descriptors a compositor may have that runs out of them, and how long it is watched then, in seconds.
+DESCRIPTORS = 32
+WATCHED = 3
 SMALL = "grüße\n".encode()
 # More than a pipe holds.
 LARGE = base64.b64encode(bytes(it * it % 251 for it in range(400_000)))
@@ -61,6 +65,12 @@ class Clipboard:
     def descriptors(self):
         """How many descriptors the compositor has open."""
         return len(os.listdir(f"/proc/{self.process.pid}/fd"))
+
+    def seconds(self):
+        """How long the compositor has used a processor."""
+        with open(f"/proc/{self.process.pid}/stat", encoding="utf-8") as file:
+            words = file.read().rpartition(")")[2].split()
+        return (int(words[11]) + int(words[12])) / os.sysconf("SC_CLK_TCK")
 
     def end_clients(self):
         for client in self.started:
@@ -175,6 +185,27 @@ def bears_much(program, *words):
         board.pastes(SMALL)
 
 
+def bears_greedy_clients(program, *words):
+    """More clients connect than the compositor can accept: it waits without using the processor. Then clients of a
+    program of ours ask for more than there is, of room and of descriptors. The compositor ends each of them, and goes
+    on serving another."""
+    limited = ["sh", "-c", f'ulimit -S -n {DESCRIPTORS} && exec "$0" "$@"', *words]
+    with compositor(limited, status=1) as board:
+        before = board.descriptors()
+        with contextlib.ExitStack() as opened:
+            for _ in range(DESCRIPTORS):
+                opened.enter_context(socket.socket(socket.AF_UNIX)).connect(board.path)
+            board.has(lambda: board.descriptors() == DESCRIPTORS, "that no descriptor is left")
+            used = -board.seconds()
+            time.sleep(WATCHED)
+            used += board.seconds()
+        if used > WATCHED / 10:
+            raise Failed(f"the compositor has used a processor for {used:.2f} of {WATCHED} s")
+        board.has(lambda: board.descriptors() == before, "that these clients are gone")
+        run([program, board.path])
+        board.has(lambda: board.descriptors() == before, "that all descriptors are closed")
+
+
 def is_there(board, client):
     """Waits until a client is connected beside that of the test. If none connects, the test is skipped."""
     if not has_come(lambda: has_client(board.path, beside=1) or client.poll() is not None):
@@ -257,6 +288,20 @@ def client_pastes_at_ours(paste, checked, *words):
         client_pastes(board, paste, checked)
         board.end_clients()
         board.has(lambda: board.descriptors() == before, "that all descriptors are closed")
+
+
+def client_pastes_during_a_drag(program, paste, checked):
+    """The client prints what is copied, while something else is dragged over its window: at a compositor of ours."""
+    with tempfile.TemporaryDirectory() as folder:
+        path = f"{folder}/wayland-test"
+        server = start_and_wait([program, path], path)
+        try:
+            said = run([*checked, *paste], env={**os.environ, "WAYLAND_DISPLAY": path})
+            ended(server)
+        finally:
+            server.kill()
+    if said != "copied":
+        raise Failed(f"the client says {said!r}")
 
 
 def client_pastes_at_sway(paste, checked):

@@ -1,0 +1,170 @@
+/* Clients that ask the example compositor for more than it has: for events without room in an outbox, and for a
+ * descriptor when none is left. It ends these clients, and goes on serving another one.
+ *
+ *     greedy SOCKET */
+#define _GNU_SOURCE
+#include "wayland.h"
+#include "xdg-shell.h"
+#include "descriptors.h"
+
+/* Offers of so many types for so many devices do not fit an outbox. The first few devices fill it except for the
+ * length of one type, and the others fill that with shorter events. */
+#define DEVICES 64
+#define TYPES 64
+#define LONG 240
+
+/* More descriptors than the compositor may open. */
+#define MOST_POOLS 64
+
+struct side {
+	waywire_connection *connection;
+	waywire_client client;
+	waywire_wl_compositor compositor;
+	waywire_wl_shm shm;
+	waywire_wl_seat seat;
+	waywire_xdg_wm_base wm_base;
+	waywire_wl_data_device_manager manager;
+};
+
+static waywire_tables *tables;
+
+static void on_global(void *data, waywire_wl_registry registry, uint32_t name, const char *interface,
+	uint32_t version)
+{
+	struct side *it = data;
+	(void)version;
+	if (!strcmp(interface, WAYWIRE_WL_COMPOSITOR_NAME))
+		MUST(!waywire_wl_compositor_bind(it->client, registry, name, 1, &it->compositor));
+	if (!strcmp(interface, WAYWIRE_WL_SHM_NAME))
+		MUST(!waywire_wl_shm_bind(it->client, registry, name, 1, &it->shm));
+	if (!strcmp(interface, WAYWIRE_WL_SEAT_NAME))
+		MUST(!waywire_wl_seat_bind(it->client, registry, name, 1, &it->seat));
+	if (!strcmp(interface, WW_XDG_WM_BASE_NAME))
+		MUST(!ww_xdg_wm_base_bind(it->client, registry, name, 1, &it->wm_base));
+	if (!strcmp(interface, WW_WL_DATA_DEVICE_MANAGER_NAME))
+		MUST(!ww_wl_data_device_manager_bind(it->client, registry, name, 1, &it->manager));
+}
+
+static const struct waywire_wl_registry_events registry_events = { .global = on_global };
+
+static void connect_side(struct side *it, const char *path)
+{
+	waywire_wl_registry registry;
+	*it = (struct side){ .connection = waywire_connection_connect(tables, NULL, path) };
+	MUST(it->connection);
+	it->client = waywire_connection_client(it->connection);
+	MUST(!waywire_wl_display_get_registry(it->client,
+		waywire_wl_display_of(waywire_end_display(it->client.end)), &registry));
+	MUST(!waywire_connection_listen(it->connection, registry.object, waywire_wl_registry_event_dispatcher,
+		&registry_events, it));
+	MUST(waywire_connection_roundtrip(it->connection, WAIT) > 0);
+	MUST(it->compositor.object.id && it->shm.object.id && it->seat.object.id);
+	MUST(it->wm_base.object.id && it->manager.object.id);
+}
+
+/* The compositor goes on serving a client. */
+static void must_be_served(struct side *it)
+{
+	MUST(waywire_connection_roundtrip(it->connection, WAIT) > 0);
+}
+
+/* ---- an outbox without room */
+
+/* Selects a source with many types, at one of many devices. */
+static void copy(struct side *it)
+{
+	waywire_wl_data_source source;
+	waywire_wl_data_device device;
+	char type[LONG + 1];
+	MUST(!ww_wl_data_device_manager_create_data_source(it->client, it->manager, &source));
+	for (int each = 0; each < TYPES; each++) {
+		snprintf(type, sizeof type, "%0*d", LONG, each);
+		MUST(!ww_wl_data_source_offer(it->client, source, type));
+	}
+	for (int each = 0; each < DEVICES; each++)
+		MUST(!ww_wl_data_device_manager_get_data_device(it->client, it->manager, it->seat, &device));
+	MUST(!ww_wl_data_device_set_selection(it->client, device, source, 0));
+}
+
+/* Shows a picture in a window, which gets the focus, and asks for the next frame. */
+static void show(struct side *it)
+{
+	waywire_client client = it->client;
+	waywire_wl_surface surface;
+	waywire_xdg_surface xdg_surface;
+	waywire_xdg_toplevel toplevel;
+	waywire_wl_shm_pool pool;
+	waywire_wl_buffer buffer;
+	waywire_wl_callback callback;
+	MUST(!waywire_wl_compositor_create_surface(client, it->compositor, &surface));
+	MUST(!ww_xdg_wm_base_get_xdg_surface(client, it->wm_base, surface, &xdg_surface));
+	MUST(!ww_xdg_surface_get_toplevel(client, xdg_surface, &toplevel));
+	MUST(!waywire_wl_shm_create_pool(client, it->shm, new_descriptor(4096), 4096, &pool));
+	MUST(!waywire_wl_shm_pool_create_buffer(client, pool, 0, 32, 32, 128, WAYWIRE_WL_SHM_FORMAT_XRGB8888,
+		&buffer));
+	MUST(!waywire_wl_surface_attach(client, surface, buffer, 0, 0));
+	MUST(!waywire_wl_surface_frame(client, surface, &callback));
+	MUST(!waywire_wl_surface_commit(client, surface));
+}
+
+/* When its window gets the focus, a client is sent more offers than its outbox has room for. */
+static void test_devices(const char *path, struct side *other)
+{
+	struct side it;
+	connect_side(&it, path);
+	copy(&it);
+	show(&it);
+	while (waywire_connection_dispatch(it.connection, WAIT) > 0)
+		;
+	MUST(waywire_connection_failure(it.connection));
+	waywire_connection_close(it.connection);
+	must_be_served(other);
+}
+
+/* ---- no descriptor */
+
+/* Whether a client that has given the compositor so many descriptors gets a keyboard, for which the compositor opens
+ * one more. */
+static bool gets_keyboard(const char *path, int pools)
+{
+	struct side it;
+	waywire_wl_shm_pool pool;
+	waywire_wl_keyboard keyboard;
+	connect_side(&it, path);
+	for (int each = 0; each < pools; each++)
+		MUST(!waywire_wl_shm_create_pool(it.client, it.shm, new_descriptor(1), 1, &pool));
+	MUST(!waywire_wl_seat_get_keyboard(it.client, it.seat, &keyboard));
+	bool is_served = waywire_connection_roundtrip(it.connection, WAIT) > 0;
+	MUST(is_served || waywire_connection_failure(it.connection));
+	waywire_connection_close(it.connection);
+	return is_served;
+}
+
+/* With one descriptor more each time, the keyboard is the first that lacks one. The other client is served once the
+ * descriptors of the one before are closed. */
+static void test_descriptors(const char *path, struct side *other)
+{
+	for (int pools = 0; gets_keyboard(path, pools); pools++) {
+		MUST(pools < MOST_POOLS);
+		must_be_served(other);
+	}
+	must_be_served(other);
+}
+
+int main(int argc, char **argv)
+{
+	static const char text[] = WW_XDG_SHELL_TABLES WW_WAYLAND_TABLES;
+	struct side other;
+	waywire_tables *core;
+	size_t open_before = count_open();
+	MUST(argc == 2 && !waywire_tables_core(&core));
+	MUST(!waywire_tables_read(core, text, strlen(text), &tables, NULL, NULL));
+	connect_side(&other, argv[1]);
+	test_devices(argv[1], &other);
+	test_descriptors(argv[1], &other);
+	waywire_connection_close(other.connection);
+	waywire_tables_free(tables);
+	waywire_tables_free(core);
+	MUST(count_open() == open_before);
+	return 0;
+}
