@@ -129,6 +129,9 @@ void wake_readers(struct wl_display *display);
 /* Sends what waits. Returns 0, or -1 with errno. The lock is taken. */
 int flush_display(struct wl_display *display);
 
+/* How many bytes wait to be sent. The lock is taken. */
+size_t waiting_bytes(const struct wl_display *display);
+
 /* Sends what waits, as wl_display_flush does, but counts no bytes, which takes time. Returns 0, or
  * -1 with errno. Takes the lock. */
 int flush_uncounted(struct wl_display *display);

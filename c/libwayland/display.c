@@ -158,6 +158,11 @@ int flush_display(struct wl_display *display)
 	return waywire_socket_flush(display->fd, display->client.end);
 }
 
+size_t waiting_bytes(const struct wl_display *display)
+{
+	return waywire_end_goes(display->client.end, PTRDIFF_MAX, PTRDIFF_MAX).bytes;
+}
+
 /* Sends what waits, unless the connection has ended. The lock is taken. A compositor that has gone
  * may have said why: that can still be read. */
 static int flush_unless_ended(struct wl_display *display)
@@ -183,7 +188,7 @@ int flush_uncounted(struct wl_display *display)
 EXPORT int wl_display_flush(struct wl_display *display)
 {
 	pthread_mutex_lock(&display->mutex);
-	size_t waits = waywire_end_goes(display->client.end, PTRDIFF_MAX, PTRDIFF_MAX).bytes;
+	size_t waits = waiting_bytes(display);
 	int result = flush_unless_ended(display);
 	pthread_mutex_unlock(&display->mutex);
 	return result ? -1 : (int)waits;

@@ -154,13 +154,14 @@ static int wait_until(const struct wl_display *display, short events, int64_t en
 }
 
 /* Sends what waits, until all has gone. Returns as `wait_until`. It is no error that the compositor
- * has gone: it may have said why. */
+ * has gone: it may have said why. A connection may have ended with EAGAIN: then there is nothing to
+ * wait for. */
 static int send_until(struct wl_display *display, int64_t end)
 {
 	while (flush_uncounted(display)) {
 		if (errno == EPIPE)
 			return 1;
-		if (errno != EAGAIN)
+		if (errno != EAGAIN || wl_display_get_error(display))
 			return -1;
 		int ready = wait_until(display, POLLOUT, end);
 		if (ready <= 0)

@@ -91,6 +91,12 @@ def requests_and_events_at_their_limits(library):
     compare("limits", library, is_wrong)
 
 
+def a_compositor_that_stops_reading_and_reads_again(library):
+    """A connection goes on if the socket takes some of what waits. One that has ended returns from each call.
+    libwayland 1.21 does neither."""
+    library.succeeds([compiled("full")])
+
+
 def error_of(line):
     return re.search(r"\berror (\w+)", line)[1]
 
@@ -123,7 +129,8 @@ def each_allocation_refused_in_turn(library):
 TESTS = (each_signature_reaches_its_listener, malformed_interfaces_end_in_an_error,
          eight_threads_with_queues_of_their_own, eight_threads_whose_compositor_dies,
          a_session_cut_at_each_byte_ends_as_libwayland_ends_it,
-         requests_and_events_at_their_limits, a_session_cut_or_changed_has_no_error_of_memory,
+         requests_and_events_at_their_limits, a_compositor_that_stops_reading_and_reads_again,
+         a_session_cut_or_changed_has_no_error_of_memory,
          lines_of_wayland_debug_are_those_of_libwayland, each_allocation_refused_in_turn)
 LONG_TESTS = (eight_threads_for_long, a_session_cut_or_changed_at_each_byte_has_no_error_of_memory)
 
