@@ -11,12 +11,14 @@
  * Descriptors. Here a token is a descriptor of this process. Once the call that sends a descriptor has returned
  * WAYWIRE_OK, the descriptor belongs to the end, which closes it when the socket has taken it: to keep a
  * descriptor, send a duplicate. A descriptor that came belongs to the callback that gets it. Every descriptor
- * that is made here is close-on-exec.
+ * that is made here is close-on-exec. No call tests a descriptor's number. If it is not open when it is sent, the
+ * connection ends with EBADF; if it was closed and opened again, the other file is sent and closed.
  *
  * Waiting.  waywire_connection_dispatch, _roundtrip and _drain wait, each with a limit. waywire_socket_connect,
  * _connect_to and waywire_connection_connect wait if the compositor has too many clients that it has not
  * accepted; only _connect_to has a limit. No other call waits, whether or not its socket is non-blocking. A
- * program with a loop of its own polls waywire_connection_fd there.
+ * signal ends none of these waits. To be woken, a program polls waywire_connection_fd in a loop of its own, beside
+ * a signalfd or a pipe.
  *
  * Errors.  A call that returns -1 or a null pointer says why in errno. A call that returns a waywire_status with
  * another status than WAYWIRE_OK has changed nothing. Each refused allocation is an error of the call: ENOMEM or
@@ -93,8 +95,9 @@ void waywire_listening_socket_close(waywire_listening_socket *listening);
 
 /* Sends bytes, and descriptors with the first of them. Returns how many bytes were sent, at least 1. The
  * descriptors were sent with these, and stay open here. `descriptors` may be null if `count` is 0. Returns -1
- * with errno: EAGAIN if the socket takes nothing now; EINVAL if there are more than 253 descriptors, the limit of
- * the kernel; else as sendmsg. An end at the other side receives no more than WAYWIRE_SOCKET_DESCRIPTORS at once. */
+ * with errno: EAGAIN if the socket takes nothing now; EINVAL if both parts are empty, or if there are more than
+ * 253 descriptors, the limit of the kernel; else as sendmsg. An end at the other side receives no more than
+ * WAYWIRE_SOCKET_DESCRIPTORS at once. */
 ssize_t waywire_socket_send(int socket, const waywire_part parts[2], const int *descriptors,
 	size_t count);
 
@@ -119,8 +122,9 @@ ssize_t waywire_socket_receive_up_to(int socket, const waywire_part parts[2], in
 int waywire_socket_flush(int socket, waywire_end *end);
 
 /* Receives once into an end's inbox; read all its messages before. Returns as waywire_socket_receive. ENOBUFS if
- * the inbox has no room for WAYWIRE_SOCKET_DESCRIPTORS tokens and a byte. Then the other end has sent descriptors
- * that belong to no message, or this end has failed. */
+ * the inbox has no room for WAYWIRE_SOCKET_DESCRIPTORS tokens and a byte. Then it is full of the descriptors of a
+ * message that is not whole yet (waywire_sizes says how many to allow for), or of some that belong to no message,
+ * or this end has failed. */
 ssize_t waywire_socket_fill(int socket, waywire_end *end);
 
 /* Closes a socket, and every descriptor that was not sent, or that came and was not reported. The
@@ -157,14 +161,17 @@ waywire_connection *waywire_connection_of_server(const waywire_tables *tables,
 void waywire_connection_close(waywire_connection *connection);
 
 /* The end of a connection. The second and third call return it with its type, or with a null `end`
- * if it has the other type. The caller may make any call of waywire.h with it, except `next`,
- * `set_user`, those that move bytes, and `free`: the connection makes these. */
+ * if it has the other type. The caller may make any call of waywire.h with it, except `next`, those
+ * that move bytes and tokens, `free`, `set_user` and `user`. The connection makes these, and keeps
+ * pointers of its own in the end: waywire_connection_data has the caller's. */
 waywire_end *waywire_connection_end(const waywire_connection *connection);
 waywire_client waywire_connection_client(const waywire_connection *connection);
 waywire_server waywire_connection_server(const waywire_connection *connection);
 
 /* Adds a global to a server, as waywire_server_add_global, by the name of its interface. `name` may
- * be null. The next `dispatch` announces it. WAYWIRE_NOT_FOUND if the tables lack the interface. */
+ * be null. The next `dispatch` announces it; waywire_server_withdraw takes it back.
+ * WAYWIRE_NOT_FOUND if the tables lack the interface, WAYWIRE_NULL at a client; else as
+ * waywire_server_add_global. */
 waywire_status waywire_connection_add_global(waywire_connection *connection, const char *interface,
 	uint32_t version, uint32_t *name);
 
@@ -181,14 +188,17 @@ void waywire_connection_set_limits(waywire_connection *connection, size_t object
 /* A `.._event_dispatcher` or `.._request_dispatcher` of waywire-core.h or of another header of
  * stubs. It returns whether there was a callback for the report. If there was none, the descriptors
  * of the report are closed, and an object that the event made is destroyed: if nothing listens to
- * that object, and its interface has a destructor without arguments.
+ * that object, and its interface has a destructor without arguments. If the event itself was for an
+ * object that the client has destroyed, no callback gets what it made, which is then destroyed even
+ * if something listens to its interface.
  * A callback may send, dispatch, and make any call below. What its pointers point to is valid until a
- * call that may change the end, as waywire_report says. In the report, `user` is the object's data,
- * and `replaced_user` is null. */
+ * call that may change the end, as waywire_report says. In the report, `user` is the object's data
+ * (null for WAYWIRE_ERROR), and `replaced_user` is null. */
 typedef bool waywire_dispatcher(const void *calls, void *data, const waywire_report *report);
 
 /* Calls `dispatch` for each message to an object, with `calls` and `data`, as wl_proxy_add_listener
  * does. They replace what the object had; waywire_connection_set_data says when data are destroyed.
+ * If `data` is the pointer that the object had, the function that destroys it stays.
  * A null `dispatch` leaves the messages to the listener of the interface. The events error and
  * delete_id are those of wl_display. WAYWIRE_STALE if the object is not live, WAYWIRE_NO_MEMORY. */
 waywire_status waywire_connection_listen(waywire_connection *connection, waywire_object object,
@@ -252,15 +262,16 @@ int waywire_connection_drain(waywire_connection *connection, int milliseconds);
  * without waiting. */
 int waywire_connection_fd(const waywire_connection *connection);
 
-/* Whether bytes wait to be sent. */
+/* Whether bytes wait to be sent. If the last flush ended with ENOBUFS, ENOMEM or ETOOMANYREFS, the socket may be
+ * ready to be written all the same: then do not poll for POLLOUT, and flush again some milliseconds later. */
 bool waywire_connection_wants_write(const waywire_connection *connection);
 
 /* Whether `fill` would read. It does not while messages that were read are not dispatched. */
 bool waywire_connection_wants_read(const waywire_connection *connection);
 
 /* Sends what waits, as wl_display_flush does. Returns 0 when everything has been sent. Returns -1 with errno:
- * EAGAIN if the socket takes no more now; at a client EPIPE or ECONNRESET if the compositor has closed the
- * connection, which can still be read and may say why; else as waywire_connection_dispatch. */
+ * EAGAIN if the socket takes no more now; at a client EPIPE or ECONNRESET, from then on, if the compositor has
+ * closed the connection, which can still be read and may say why; else as waywire_connection_dispatch. */
 int waywire_connection_flush(waywire_connection *connection);
 
 /* Receives once. Returns 1, or 0 if nothing is there yet, or if messages are still to be

@@ -65,15 +65,21 @@ static bool set_limit(int fd, struct timeval limit)
 	return !setsockopt(fd, SOL_SOCKET, SO_SNDTIMEO, &limit, sizeof limit);
 }
 
-/* Connects a socket within this time. Afterwards it has no limit; false with errno. */
+/* Connects a socket within this time, whatever signals come. Afterwards it has no limit; false with errno. */
 static bool connect_within(int fd, const struct sockaddr_un *address, int milliseconds)
 {
-	struct timeval limit = { milliseconds / 1000, milliseconds % 1000 * 1000 + 1 };
-	if (milliseconds >= 0 && !set_limit(fd, limit))
-		return false;
-	if (connect(fd, (const struct sockaddr *)address, sizeof *address))
-		return false;
-	return milliseconds < 0 || set_limit(fd, (struct timeval){ 0, 0 });
+	int64_t end = moment() + milliseconds;
+	int failed;
+	do {
+		int64_t left = end - moment();
+		if (left < 0)
+			left = 0;
+		if (milliseconds >= 0
+			&& !set_limit(fd, (struct timeval){ left / 1000, left % 1000 * 1000 + 1 }))
+			return false;
+		failed = connect(fd, (const struct sockaddr *)address, sizeof *address);
+	} while (failed && errno == EINTR);
+	return !failed && (milliseconds < 0 || set_limit(fd, (struct timeval){ 0, 0 }));
 }
 
 int waywire_socket_connect_to(const char *name, int milliseconds)

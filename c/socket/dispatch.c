@@ -40,11 +40,23 @@ static int is_stuck(waywire_connection *connection, bool went)
 	return -1;
 }
 
+/* The compositor has closed the connection. What waits is dropped; what the compositor wrote before can still be
+ * read. Returns -1 with errno. */
+static int is_closed(waywire_connection *connection, int error)
+{
+	connection->gone = error;
+	drop_outbox(connection->end);
+	errno = error;
+	return -1;
+}
+
 int waywire_connection_flush(waywire_connection *connection)
 {
 	bool went;
 	if (connection->failure.error)
 		return ended_before(connection);
+	if (connection->gone)
+		return is_closed(connection, connection->gone);
 	if (!flush_end(connection->socket, connection->end, &went)) {
 		connection->is_blocked = false;
 		connection->stuck_since = -1;
@@ -56,8 +68,7 @@ int waywire_connection_flush(waywire_connection *connection)
 		return -1; /* the kernel has no room now */
 	if (!is_gone(errno) || connection->server.end)
 		return fail(connection, errno, "the socket does not take what is written");
-	drop_outbox(connection->end); /* what the server wrote before it went can still be read */
-	return -1;
+	return is_closed(connection, errno);
 }
 
 bool waywire_connection_wants_write(const waywire_connection *connection)
@@ -108,9 +119,10 @@ int waywire_connection_fill(waywire_connection *connection)
 	return fail(connection, errno, "the socket cannot be read");
 }
 
-/* Destroys the object that the last event has made, if nothing listens to it, by a destructor
- * without arguments. It stays if its interface has none, or if the outbox has no room. */
-static void destroy_made(waywire_connection *connection)
+/* Destroys the object that the last event has made, by a destructor without arguments. It stays if something
+ * listens to it, if its interface has no such destructor, or if the outbox has no room. No callback gets the object
+ * of an event that is discarded, so that one is destroyed though something listens. */
+static void destroy_made(waywire_connection *connection, bool is_discarded)
 {
 	waywire_object made;
 	uint16_t interface;
@@ -118,7 +130,7 @@ static void destroy_made(waywire_connection *connection)
 	waywire_message request;
 	if (waywire_client_made(connection->client, &made)
 		|| waywire_end_live(connection->end, made, &interface, &version)
-		|| is_heard(connection, made, interface))
+		|| (!is_discarded && is_heard(connection, made, interface)))
 		return;
 	for (uint16_t opcode = 0; !waywire_tables_message(waywire_end_tables(connection->end), interface,
 			WAYWIRE_FROM_CLIENT, opcode, &request, NULL, NULL); opcode++) {
@@ -184,7 +196,7 @@ static void hear(waywire_connection *connection, waywire_report *report)
 	if (!was_heard) {
 		close_tokens(tokens, token_count);
 		if (connection->client.end)
-			destroy_made(connection);
+			destroy_made(connection, report->kind == WAYWIRE_DISCARDED);
 	}
 	bool is_last = report->kind == WAYWIRE_DELETED || (connection->server.end
 		&& waywire_end_live(end, report->target, NULL, NULL));
@@ -368,10 +380,13 @@ static int step_in_time(waywire_connection *connection, int64_t end, int *count,
 	return went > 0 && is_late && !*is_done ? 0 : went;
 }
 
+/* `calls` leads to what says that the answer has come. It is null if nobody waits for it any more. */
 static bool on_done(const void *calls, void *data, const waywire_report *report)
 {
-	(void)calls, (void)report;
-	*(bool *)data = true;
+	bool *const *is_done = calls;
+	(void)data, (void)report;
+	if (is_done)
+		**is_done = true;
 	return true;
 }
 
@@ -379,7 +394,7 @@ int waywire_connection_roundtrip(waywire_connection *connection, int millisecond
 {
 	int64_t end = end_of(milliseconds);
 	int count = 0, went = 1;
-	bool is_done = false;
+	bool is_done = false, *const done = &is_done;
 	waywire_status status;
 	waywire_wl_callback callback;
 	waywire_wl_display display = waywire_wl_display_of(waywire_end_display(connection->end));
@@ -391,14 +406,14 @@ int waywire_connection_roundtrip(waywire_connection *connection, int millisecond
 	if (went <= 0)
 		return went;
 	if (!status)
-		status = waywire_connection_listen(connection, callback.object, on_done, NULL,
-			&is_done);
+		status = waywire_connection_listen(connection, callback.object, on_done, &done, NULL);
 	if (status) {
 		errno = status == WAYWIRE_NO_MEMORY ? ENOMEM : EINVAL;
 		return -1;
 	}
 	while (!is_done && (went = step_in_time(connection, end, &count, &is_done)) > 0)
 		;
-	waywire_connection_forget(connection, callback.object);
+	if (!is_done) /* a late answer must not reach the program's own listener */
+		waywire_connection_listen(connection, callback.object, on_done, NULL, NULL);
 	return is_done ? count : went;
 }

@@ -160,7 +160,7 @@ waywire_status waywire_connection_listen(waywire_connection *connection, waywire
 		return status;
 	entry->dispatch = dispatch;
 	entry->calls = calls;
-	replace_data(entry, data, NULL);
+	replace_data(entry, data, data == entry->data ? entry->destroy : NULL);
 	return WAYWIRE_OK;
 }
 

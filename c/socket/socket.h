@@ -63,6 +63,7 @@ struct waywire_connection {
 
 	bool is_unread;  /* messages may wait in the inbox */
 	bool is_blocked; /* the socket took no more */
+	int gone;        /* the errno of a client's flush after the compositor had closed the connection; else 0 */
 	size_t most_objects; /* 0: no limit */
 	int64_t patience;    /* in milliseconds; below 0: no limit */
 	int64_t stuck_since; /* when the other end last took something; below 0: nothing is stuck */

@@ -34,8 +34,8 @@ ssize_t waywire_socket_send(int socket, const waywire_part parts[2], const int *
 {
 	struct parcel parcel;
 	ssize_t sent;
-	if (count > MOST_OF_KERNEL) {
-		errno = EINVAL;
+	if (count > MOST_OF_KERNEL || (!parts[0].length && !parts[1].length)) {
+		errno = EINVAL; /* without a byte the kernel would drop the descriptors */
 		return -1;
 	}
 	begin_parcel(&parcel, parts);

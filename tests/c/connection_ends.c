@@ -233,8 +233,12 @@ static void not_sent(void)
 		waywire_arg descriptor = waywire_fd((uint32_t)new_descriptor(1));
 		MUST(!waywire_end_send(requests.end, to, GIVE, &descriptor, 1, NULL, NULL));
 	}
-	MUST(count_open() == before + 4 && waywire_connection_flush(client) == -1);
-	MUST(count_open() == before + 1);
+	MUST(count_open() == before + 4);
+	for (int each = 0; each < 2; each++) /* the second time, nothing waits any more */
+		MUST(waywire_connection_flush(client) == -1 && (errno == EPIPE || errno == ECONNRESET));
+	MUST(count_open() == before + 1 && !waywire_connection_wants_write(client));
+	MUST(waywire_connection_drain(client, WAIT) == -1 && (errno == EPIPE || errno == ECONNRESET));
+	MUST(!waywire_connection_failure(client) && waywire_connection_wants_read(client));
 	end();
 }
 

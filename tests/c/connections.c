@@ -172,6 +172,28 @@ static void waits(void)
 	end();
 }
 
+static bool counts(const void *calls, void *data, const waywire_report *report)
+{
+	(void)calls;
+	MUST(!report->user);
+	++*(int *)data;
+	return true;
+}
+
+/* The callback of a round trip is its own: neither a late answer nor a delete_id brings a listener anything of it. */
+static void round_trips(void)
+{
+	int answers = 0, deleted = 0;
+	waywire_listener listener = { WAYWIRE_WL_CALLBACK_NAME, counts, NULL };
+	begin(NULL);
+	MUST(!waywire_connection_implement(client, &listener, 1, &answers));
+	MUST(!waywire_connection_listen(client, display.object, counts, NULL, &deleted));
+	MUST(!waywire_connection_roundtrip(client, 1));
+	turn(1, 2);
+	MUST(!answers && deleted == 1);
+	end();
+}
+
 /* A loop of one's own. */
 static void own_loop(void)
 {
@@ -216,6 +238,7 @@ static void data_of_client(void)
 	MUST(!waywire_connection_set_data(client, surface, &other, on_gone) && one == 1 && !other);
 	MUST(!waywire_connection_listen(client, surface, NULL, NULL, &third) && other == 1);
 	MUST(!waywire_connection_set_data(client, surface, &one, on_gone) && !third);
+	MUST(!waywire_connection_listen(client, surface, NULL, NULL, &one) && one == 1); /* what destroys it stays */
 	MUST(waywire_connection_set_data(client, gone, &one, on_gone) == WAYWIRE_STALE);
 	MUST(waywire_connection_listen(client, gone, NULL, NULL, NULL) == WAYWIRE_STALE);
 	MUST(!waywire_wl_surface_destroy(requests, typed));
@@ -483,6 +506,7 @@ int main(void)
 	MUST(!waywire_tables_core(&tables));
 	size_t before = count_open();
 	waits();
+	round_trips();
 	own_loop();
 	data_of_client();
 	data_of_server();

@@ -5,8 +5,10 @@
 
 #include <errno.h>
 #include <fcntl.h>
+#include <signal.h>
 #include <sys/file.h>
 #include <sys/resource.h>
+#include <sys/time.h>
 #include <sys/un.h>
 #include <time.h>
 
@@ -108,8 +110,21 @@ static int64_t now(void)
 	return time.tv_sec * (int64_t)1000 + time.tv_nsec / 1000000;
 }
 
+static void on_alarm(int signal)
+{
+	(void)signal;
+}
+
+/* A signal every so many milliseconds, which restarts no system call; with 0, none any more. */
+static void alarms(int milliseconds)
+{
+	struct sigaction action = { .sa_handler = on_alarm };
+	struct itimerval timer = { { 0, milliseconds * 1000 }, { 0, milliseconds * 1000 } };
+	MUST(!sigaction(SIGALRM, &action, NULL) && !setitimer(ITIMER_REAL, &timer, NULL));
+}
+
 /* A compositor that accepts nobody: it has room for one client, and connecting waits only as long as its
- * limit says. */
+ * limit says, also while signals come. */
 static void without_room(void)
 {
 	struct timeval left = { 1, 1 };
@@ -122,7 +137,9 @@ static void without_room(void)
 	size_t before = count_open();
 	for (int limit = 0; limit <= 1200; limit += 1200) {
 		int64_t began = now();
+		alarms(limit / 20);
 		MUST(waywire_socket_connect_to("full", limit) == -1 && errno == EAGAIN);
+		alarms(0);
 		MUST(now() - began >= limit && now() - began < WAIT && count_open() == before);
 	}
 	int server = waywire_listening_socket_accept(full);
@@ -435,6 +452,7 @@ static void passes(void)
 	MUST(count_open() == before + 2);
 	MUST(waywire_socket_send(sockets[0], parts, NULL, 0) == 1);
 	not_received(sockets[1], none, ENOBUFS);
+	MUST(waywire_socket_send(sockets[0], none, &sockets[1], 1) == -1 && errno == EINVAL);
 	close(sockets[0]);
 	MUST(waywire_socket_receive(sockets[1], parts, found, &count) == 1 && !count);
 	MUST(!waywire_socket_receive(sockets[1], parts, found, &count) && !count);

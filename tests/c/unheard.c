@@ -205,7 +205,9 @@ int main(void)
 	MUST(!waywire_connection_listen(client, maker, on_made, NULL, NULL));
 	made = makes(false);
 	MUST(lives(made) && waywire_object_equal(made, heard));
-	/* It has destroyed the maker, and the server sends the event before it reads that. */
+	/* It has destroyed the maker, and the server sends the event before it reads that. No callback gets the thing,
+	 * though one would hear of its messages. */
+	implement(on_gone);
 	MUST(!waywire_end_send(requests.end, maker, RELEASE, NULL, 0, NULL, NULL));
 	MUST(is_gone(makes(true)) && is_gone(maker) && lives(made));
 	end();
