@@ -29,6 +29,16 @@ struct told_piece {
 uint32_t waywire_c_recording_next(const void *text, size_t length, size_t line, void *bytes, size_t room,
 	struct told_piece *);
 
+/* These have the layout that the exports give them. */
+SAME(known, sizeof(waywire_known) == 16 && offsetof(waywire_known, interface) == 12
+	&& offsetof(waywire_known, is_ending) == 15);
+SAME(followed, sizeof(waywire_followed) == 96 && offsetof(waywire_followed, object) == 48
+	&& offsetof(waywire_followed, target) == 64 && offsetof(waywire_followed, size) == 70
+	&& offsetof(waywire_followed, made_interface) == 88 && offsetof(waywire_followed, is_read) == 90);
+SAME(judgement, sizeof(waywire_judgement) == 72 && offsetof(waywire_judgement, fault) == 56
+	&& offsetof(waywire_judgement, sender) == 64);
+SAME(told_piece, sizeof(struct told_piece) == 32 && offsetof(struct told_piece, left) == 16);
+
 /* ---- an inspector */
 
 /* An inspector and its tables. */
