@@ -270,8 +270,10 @@ int run(const struct options *options, const struct known *known)
 	struct run run = { .shared = { .options = options, .known = known }, .connected = -1 };
 	find_compositor();
 	run.connected = connect_to_compositor();
-	if (run.connected < 0 || (options->record && !can_write(options->record)) || !make_room(&run))
+	if (run.connected < 0 || (options->record && !can_write(options->record)) || !make_room(&run)) {
+		picture_end(options, 0);
 		return NOTHING_INSPECTED;
+	}
 	check_descriptors();
 	take_signals(&run.shared.while_waiting);
 	run.listener = listen_in_runtime_folder();
@@ -284,8 +286,6 @@ int run(const struct options *options, const struct known *known)
 	print_now();
 	waywire_listening_socket_close(run.listener);
 	free(run.polled);
-	if (!is_begun)
-		return NOTHING_INSPECTED;
 	picture_end(options, run.shared.session_count);
-	return ended(&run);
+	return is_begun ? ended(&run) : NOTHING_INSPECTED;
 }
