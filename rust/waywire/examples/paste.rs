@@ -93,8 +93,7 @@ impl Client {
     /// Connects, and learns the compositor's globals.
     fn connect() -> Result<Client, Failure> {
         let tables = Tables::core()?.read(xdg_shell::TABLES)?.read(wayland::TABLES)?;
-        let sizes = Sizes { in_tokens: 256, ..Sizes::default() };
-        let client = waywire::Client::new(&tables, &sizes)?;
+        let client = waywire::Client::new(&tables, &Sizes::default())?;
         let mut link = Link::new(client, socket::connect(None)?);
         let mut told = Told::default();
         let registry = WlDisplay(link.display()).get_registry(&mut link)?;

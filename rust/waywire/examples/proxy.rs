@@ -256,10 +256,8 @@ fn main() -> Result<(), Failure> {
         tables = with_file(&tables, &file).map_err(|why| format!("{}: {why}", file.display()))?;
     }
     let listener = Listener::bind(Some(Path::new(&name)))?;
-    // A newer libwayland can send many descriptors before the bytes of their messages.
-    let sizes = Sizes { in_tokens: 256, ..Sizes::default() };
-    let server = Server::new(&tables, &sizes)?;
-    let mut client = Client::new(&tables, &sizes)?;
+    let server = Server::new(&tables, &Sizes::default())?;
+    let mut client = Client::new(&tables, &Sizes::default())?;
     let registry = client
         .send(client.display(), request::wl_display::GET_REGISTRY, &[Arg::NewId])?
         .ok_or("get_registry makes an object")?;

@@ -36,9 +36,10 @@ impl Sizes {
 }
 
 impl Default for Sizes {
-    /// 65,536 bytes and 64 tokens for each queue. That is enough for one read of a socket, and for the 28
-    /// descriptors that libwayland passes at once, in addition to some that wait.
+    /// 65,536 bytes for each queue, 64 tokens for the outbox and 256 for the inbox. That is enough for one
+    /// read of a socket, and for the descriptors that wait for the bytes of their messages: libwayland passes
+    /// 28 at once, and a newer one may do so several times before it sends those bytes.
     fn default() -> Self {
-        Sizes { out_bytes: 65536, out_tokens: 64, in_bytes: 65536, in_tokens: 64, limit: 0 }
+        Sizes { out_bytes: 65536, out_tokens: 64, in_bytes: 65536, in_tokens: 256, limit: 0 }
     }
 }

@@ -95,8 +95,8 @@ fn inherited(number: &OsStr) -> io::Result<OwnedFd> {
 }
 
 /// Sends bytes, and the descriptors together with the first byte. The descriptors stay open here. Returns
-/// how many bytes were sent. It does not wait: [`io::ErrorKind::WouldBlock`]. More than 253 descriptors are
-/// an error, and an end at the other side receives at most [`MOST_DESCRIPTORS`] at once.
+/// how many bytes were sent. It does not wait: [`io::ErrorKind::WouldBlock`]. Two empty parts and more than
+/// 253 descriptors are errors. An end at the other side receives at most [`MOST_DESCRIPTORS`] at once.
 pub fn send(
     socket: impl AsFd,
     parts: [&[u8]; 2],
@@ -408,8 +408,9 @@ impl Link<AsClient> {
     /// Dispatches until the compositor has read all that was written before (wl_display.sync). The
     /// handler does not get the event of the sync.
     ///
-    /// The error is [`TimedOut`](io::ErrorKind::TimedOut) if that takes longer than `limit`, and
-    /// [`SendError`](crate::SendError) if the sync cannot be written. The other errors are those of
+    /// The error is [`TimedOut`](io::ErrorKind::TimedOut) if that takes longer than `limit`; if the answer
+    /// comes later, the handler gets it. The error is [`SendError`](crate::SendError) if the sync cannot be
+    /// written. The other errors are those of
     /// [`dispatch`](Link::dispatch).
     pub fn round_trip(
         &mut self,

@@ -342,14 +342,14 @@ fn what_waits_is_closed_with_its_end() {
     assert_eq!((all.tokens, open_descriptors()), (1, before));
     assert_eq!(pair.client.sent(1), Amounts::default());
 
-    let mut fed: Vec<OwnedFd> = (0..70).map(numbered).collect();
-    assert_eq!(pair.server.feed(&[], &mut fed), Ok(Amounts { bytes: 0, tokens: 64 }));
-    assert_eq!(fed.iter().map(|it| number_of(it.as_fd())).next(), Some(64));
+    let mut fed: Vec<OwnedFd> = (0..262).map(numbered).collect();
+    assert_eq!(pair.server.feed(&[], &mut fed), Ok(Amounts { bytes: 0, tokens: 256 }));
+    assert_eq!(fed.iter().map(|it| number_of(it.as_fd())).next(), Some(256));
     assert_eq!(pair.server.received(0, &mut fed), Ok(Amounts::default()));
-    assert_eq!((fed.len(), open_descriptors()), (6, before + 70));
+    assert_eq!((fed.len(), open_descriptors()), (6, before + 262));
     let waited = pair.server.take_waiting_tokens();
     let numbers = waited.iter().map(|it| number_of(it.as_fd()));
-    assert_eq!(numbers.collect::<Vec<_>>(), (0..64).collect::<Vec<_>>());
+    assert_eq!(numbers.collect::<Vec<_>>(), (0..256).collect::<Vec<_>>());
     assert!(pair.server.feed(&[], &mut fed).is_err());
     assert_eq!(fed.len(), 6);
     drop((waited, fed));

@@ -65,9 +65,7 @@ pub struct Client {
 impl Client {
     /// The client at a socket, with all globals.
     pub fn new(tables: &Tables, socket: UnixStream, began: Instant) -> Result<Client, Failure> {
-        // A newer libwayland can send many descriptors before the bytes of their messages.
-        let sizes = Sizes { in_tokens: 256, ..Sizes::default() };
-        let mut server = Server::new(tables, &sizes)?;
+        let mut server = Server::new(tables, &Sizes::default())?;
         for (interface, version) in GLOBALS {
             let interface = tables.interface(interface).ok_or("no such interface")?;
             server.add_global(interface, *version)?;
