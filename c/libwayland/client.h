@@ -39,6 +39,8 @@ struct wl_proxy {
 	struct wl_event_queue *queue;
 	int references;    /* the program's, the client's, and one of each event that has it */
 	bool is_destroyed; /* by the program */
+	bool is_shown;     /* a listener had it as an argument */
+	bool gets_descriptors; /* if messages are printed: whether its events can have any. Known once it is destroyed */
 	bool is_held;      /* the client has it as the user's pointer of its object */
 	bool is_wrapper;   /* this and the next are read without the lock */
 	bool is_registry;

@@ -7,8 +7,9 @@
 #include <sys/un.h>
 #include <unistd.h>
 
-/* A libwayland whose buffers grow can send many descriptors before the bytes of their messages. */
-static const waywire_sizes display_sizes = { 65536, 256, 65536, 256, WAYWIRE_USUAL_LIMIT };
+/* A libwayland whose buffers grow can send many descriptors before the bytes of their messages. Of those that wait
+ * to be sent the process has duplicates, so these are as few as libwayland's 28 and those of a message. */
+static const waywire_sizes display_sizes = { 65536, 48, 65536, 256, WAYWIRE_USUAL_LIMIT };
 
 /* ---- errors */
 

@@ -75,18 +75,33 @@ static void drop_destroyed(struct event *event)
 	}
 }
 
-/* Destroys the proxy that an event has made, which the program will never see. */
+/* Destroys the proxy that an event has made, if the program will never see it. It has seen it, or will, if another
+ * event names it. */
 static void destroy_made(const struct event *event)
 {
-	for (size_t place = 0; place < event->signature.count; place++)
-		if (event->signature.letters[place] == 'n' && event->args[place].o)
-			destroy_proxy((struct wl_proxy *)event->args[place].o);
+	for (size_t place = 0; place < event->signature.count; place++) {
+		struct wl_proxy *made = (struct wl_proxy *)event->args[place].o;
+		if (event->signature.letters[place] != 'n' || !made || made->is_shown)
+			continue;
+		int own = 2 + made->is_held; /* the program's, this event's and the client's */
+		if (made->references == own)
+			destroy_proxy(made);
+	}
 }
 
+/* Remembers that the program sees the proxies of an event. */
+static void show_proxies(const struct event *event)
+{
+	for (size_t place = 0; place < event->signature.count; place++)
+		if (is_object(event, place) && event->args[place].o)
+			((struct wl_proxy *)event->args[place].o)->is_shown = true;
+}
+
+/* The last events come first: each is gone before the one that made what it names. */
 void empty_queue(struct wl_event_queue *queue)
 {
 	while (!wl_list_empty(&queue->events)) {
-		struct event *event = wl_container_of(queue->events.next, event, link);
+		struct event *event = wl_container_of(queue->events.prev, event, link);
 		wl_list_remove(&event->link);
 		drop_destroyed(event); /* another event may have shown the program what this one made */
 		destroy_made(event);
@@ -304,13 +319,7 @@ static struct event *copy_message(struct wl_proxy *proxy, const waywire_report *
 static bool is_zombie(const waywire_report *report)
 {
 	const struct wl_proxy *proxy = report->user;
-	if (!proxy || report->target.id >= FIRST_SERVER_ID)
-		return false;
-	const struct wl_interface *interface = proxy->object.interface;
-	for (int opcode = 0; opcode < interface->event_count; opcode++)
-		if (strchr(interface->events[opcode].signature, 'h'))
-			return true;
-	return false;
+	return proxy && report->target.id < FIRST_SERVER_ID && proxy->gets_descriptors;
 }
 
 /* Drops a message for an object whose proxy the program has destroyed. */
@@ -528,6 +537,7 @@ void dispatch_first(struct wl_display *display, struct wl_event_queue *queue)
 	} else if (proxy == &display->proxy) {
 		hear_display(display, event);
 	} else if (proxy->dispatcher || proxy->object.implementation) {
+		show_proxies(event);
 		pthread_mutex_unlock(&display->mutex);
 		hear(event);
 		pthread_mutex_lock(&display->mutex);

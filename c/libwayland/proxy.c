@@ -40,6 +40,17 @@ void give_object(struct wl_proxy *proxy, waywire_object object)
 	proxy->references++;
 }
 
+/* Whether an event of an interface, which may be malformed, has a descriptor. */
+static bool has_descriptor_event(const struct wl_interface *interface)
+{
+	for (int opcode = 0; interface->events && opcode < interface->event_count; opcode++) {
+		const char *signature = interface->events[opcode].signature;
+		if (signature && strchr(signature, 'h'))
+			return true;
+	}
+	return false;
+}
+
 /* The last report of an object that the client made is its delete_id, and until then the client
  * holds the proxy. An object that the server made has no last report, so the client's pointer is
  * taken back when the program destroys the proxy. If the object is dead by then, the pointer stays,
@@ -50,7 +61,13 @@ void destroy_proxy(struct wl_proxy *proxy)
 		log_line("wl_proxy_destroy was called with the wrapper %p\n", (void *)proxy);
 		abort();
 	}
+	if (proxy->is_destroyed) {
+		log_line("wl_proxy_destroy was called twice with %p\n", (void *)proxy);
+		abort();
+	}
 	proxy->is_destroyed = true;
+	if (is_debugging()) /* its interface may be unloaded before the next event comes */
+		proxy->gets_descriptors = has_descriptor_event(proxy->object.interface);
 	if (proxy->is_held && is_of_server(proxy->handle)) {
 		waywire_end_set_user(proxy->display->client.end, proxy->handle, NULL);
 		proxy->is_held = false;

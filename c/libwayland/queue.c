@@ -2,6 +2,7 @@
 #define _GNU_SOURCE
 #include "client.h"
 
+#include <assert.h>
 #include <errno.h>
 #include <limits.h>
 #include <poll.h>
@@ -118,6 +119,8 @@ static int64_t nanoseconds(const struct timespec *time)
 {
 	if (time->tv_sec > NO_END / NANOSECONDS - 1)
 		return NO_END;
+	if (time->tv_sec < 0)
+		return 0;
 	return (int64_t)time->tv_sec * NANOSECONDS + time->tv_nsec;
 }
 
@@ -232,6 +235,7 @@ EXPORT int wl_display_roundtrip_queue(struct wl_display *display, struct wl_even
 	static void (*listener[])(void) = { (void (*)(void))on_done };
 	bool is_done = false;
 	int count = 0;
+	assert(queue->display == display);
 	struct wl_proxy *callback = sync_in_queue(display, queue);
 	if (!callback)
 		return -1;

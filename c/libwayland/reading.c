@@ -15,9 +15,6 @@ static int receive(struct wl_display *display)
 	} else if (errno == EAGAIN) {
 		return 0;
 	} else if (errno == ENOBUFS) {
-		/* After wl_display.error, which waits to be dispatched, nothing more is read. */
-		if (waywire_end_has_failed(display->client.end))
-			return 0;
 		errno = EOVERFLOW; /* descriptors came that belong to no message */
 	}
 	return -1;
@@ -64,6 +61,19 @@ static int read_reports(struct wl_display *display)
 	}
 }
 
+/* wl_display.error was read, and nothing more is. A program may dispatch only if reading brings something new: so
+ * what waits in the queue of the display is dispatched here. Returns 0 if another thread is doing that, else -1 with
+ * the error's errno. */
+static int hear_waiting_error(struct wl_display *display)
+{
+	struct wl_event_queue *queue = &display->display_queue;
+	while (!display->last_error && !wl_list_empty(&queue->events))
+		dispatch_first(display, queue);
+	wake_readers(display);
+	errno = display->last_error;
+	return display->last_error ? -1 : 0;
+}
+
 /* Reads, or waits until another thread has. -1 with errno. */
 static int read_events(struct wl_display *display)
 {
@@ -76,6 +86,8 @@ static int read_events(struct wl_display *display)
 		errno = display->last_error;
 		return -1;
 	}
+	if (waywire_end_has_failed(display->client.end))
+		return hear_waiting_error(display);
 	int came = receive(display);
 	if (came < 0 || (came && read_reports(display))) {
 		int error = errno;

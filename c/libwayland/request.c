@@ -292,12 +292,15 @@ static bool find_made(struct request *request, const struct wl_interface *interf
 	uint32_t version)
 {
 	union wl_argument *args = request->args;
+	if (request->message && !find_new(request)) {
+		if (interface) /* as in libwayland, that is no error of the connection */
+			say_refused(request, "it makes no object");
+		return !interface;
+	}
 	if (interface)
 		request->made = create_proxy(request->proxy, interface, version);
 	if (!request->message)
 		return refuse(request, EINVAL, "its interface has none, or a malformed one");
-	if (!find_new(request))
-		return !interface || refuse(request, EINVAL, "it makes no object");
 	if (!interface) { /* the program has called wl_proxy_create */
 		request->made = (struct wl_proxy *)args[request->new_place].o;
 		return request->made || refuse(request, EINVAL, "its new object is null");
@@ -308,7 +311,7 @@ static bool find_made(struct request *request, const struct wl_interface *interf
 }
 
 /* Makes a request. Returns the proxy of the object that it makes, if `interface` says which; it is
- * returned also if the request is refused, since then the display has failed. */
+ * returned also if the request is refused and the display has failed. */
 static struct wl_proxy *make_request(struct request *request, const struct wl_interface *interface,
 	uint32_t version, uint32_t flags, union wl_argument *args)
 {

@@ -4,8 +4,8 @@
  * all interfaces that its messages name, unless the tables have them already. The client reads the text. So the
  * tables have an interface before an event can come for it.
  *
- * A struct does not say which messages destroy an object, so nothing is marked `D`. A delete_id then ends a live
- * object, and the server may reuse the id of a live object of its own. No message has a since number: libwayland
+ * A struct does not say which messages destroy an object, so nothing is marked `D` but in the core. A delete_id
+ * then ends a live object, and the server may reuse the id of a live object of its own. No message has a since number: libwayland
  * delivers an event that is newer than its object, and leaves it to the server to refuse a request that is. */
 #include "client.h"
 
@@ -379,9 +379,8 @@ static bool reach_named(struct growth *growth, const struct wl_interface *interf
 			read_signature(&signature, it->signature);
 			for (size_t place = 0; it->types && place < signature.count; place++) {
 				char letter = signature.letters[place];
-				const struct wl_interface *type = it->types[place];
-				if ((letter == 'o' || letter == 'n') && type
-					&& !reach(growth, type))
+				bool is_object = letter == 'o' || letter == 'n';
+				if (is_object && it->types[place] && !reach(growth, it->types[place]))
 					return false;
 			}
 		}

@@ -97,6 +97,11 @@ def a_compositor_that_stops_reading_and_reads_again(library):
     library.succeeds([compiled("full")])
 
 
+def a_program_that_does_not_dispatch_an_error_hears_of_it(library):
+    for it in (SYSTEM, library):
+        it.succeeds([*checked_by_valgrind(), compiled("undispatched")])
+
+
 def error_of(line):
     return re.search(r"\berror (\w+)", line)[1]
 
@@ -130,6 +135,7 @@ TESTS = (each_signature_reaches_its_listener, malformed_interfaces_end_in_an_err
          eight_threads_with_queues_of_their_own, eight_threads_whose_compositor_dies,
          a_session_cut_at_each_byte_ends_as_libwayland_ends_it,
          requests_and_events_at_their_limits, a_compositor_that_stops_reading_and_reads_again,
+         a_program_that_does_not_dispatch_an_error_hears_of_it,
          a_session_cut_or_changed_has_no_error_of_memory,
          lines_of_wayland_debug_are_those_of_libwayland, each_allocation_refused_in_turn)
 LONG_TESTS = (eight_threads_for_long, a_session_cut_or_changed_at_each_byte_has_no_error_of_memory)

@@ -19,6 +19,7 @@ static int peer;
 static struct wire wire;
 static unsigned events;
 static int destroys_seen; /* whether what an event shows is destroyed at once */
+static struct wl_proxy *seen; /* what an event has shown, else */
 
 static void quiet(const char *format, va_list list)
 {
@@ -30,8 +31,10 @@ static int count_event(const void *data, void *proxy, uint32_t opcode,
 {
 	(void)data, (void)proxy, (void)message;
 	events++;
-	if (destroys_seen && opcode == THING_POINTS)
+	if (opcode == THING_POINTS && destroys_seen)
 		wl_proxy_destroy((struct wl_proxy *)args[1].o);
+	else if (opcode == THING_POINTS)
+		seen = (struct wl_proxy *)args[1].o;
 	return 0;
 }
 
@@ -205,14 +208,14 @@ static void read_wire(void)
 	wl_event_queue_destroy(empty);
 }
 
-/* An object is made by an event that waits in one queue, and destroyed as an event of another queue
- * shows it. Then the first queue is destroyed. */
-static void seen_in_two_queues_event(size_t number)
+/* An object is made by an event that waits in one queue, and an event of another queue shows it. Then it is
+ * destroyed, at once or after the first queue is. */
+static void seen_in_two_queues_event(size_t destroys)
 {
 	struct wl_event_queue *first = wl_display_create_queue(display);
 	struct wl_event_queue *second = wl_display_create_queue(display);
-	MUST(first && second && !number);
-	destroys_seen = 1;
+	MUST(first && second);
+	destroys_seen = (int)destroys;
 	wl_proxy_set_queue(thing, first);
 	put_message(&wire, wl_proxy_get_id(thing), THING_MADE, 1, FIRST_SERVER_ID);
 	read_wire();
@@ -223,6 +226,22 @@ static void seen_in_two_queues_event(size_t number)
 	wl_event_queue_destroy(first);
 	wl_proxy_set_queue(thing, NULL);
 	wl_event_queue_destroy(second);
+	if (seen)
+		wl_proxy_destroy(seen);
+}
+
+/* The maker of an object is destroyed before its event is dispatched, and another event shows the object. */
+static void seen_after_its_maker_event(size_t number)
+{
+	struct wl_proxy *maker = bind_thing(registry, 3);
+	MUST(maker && !number);
+	wl_proxy_add_dispatcher(maker, count_event, NULL, NULL);
+	put_message(&wire, wl_proxy_get_id(maker), THING_MADE, 1, FIRST_SERVER_ID);
+	put_message(&wire, wl_proxy_get_id(thing), THING_POINTS, 2, 0, FIRST_SERVER_ID);
+	read_wire();
+	wl_proxy_destroy(maker);
+	MUST(wl_display_dispatch_pending(display) == 2 && seen);
+	wl_proxy_destroy(seen);
 }
 
 static void delete_event(size_t id)
@@ -253,7 +272,8 @@ static const struct {
 	CASE(null_text_event, 0), CASE(new_object_event, 0), CASE(new_object_event, 77),
 	CASE(new_object_event, FIRST_SERVER_ID + 1), CASE(new_object_event, FIRST_SERVER_ID),
 	CASE(new_object_event, 0xffffffff), CASE(no_descriptor_event, 0),
-	CASE(many_event, 1000), CASE(seen_in_two_queues_event, 0), CASE(delete_event, 0),
+	CASE(many_event, 1000), CASE(seen_in_two_queues_event, 1), CASE(seen_in_two_queues_event, 0),
+	CASE(seen_after_its_maker_event, 0), CASE(delete_event, 0),
 	CASE(delete_event, 1), CASE(delete_event, 77),
 	CASE(delete_event, FIRST_SERVER_ID), CASE(target_event, 0), CASE(target_event, 77),
 };
