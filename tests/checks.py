@@ -27,9 +27,10 @@ COMPILERS = (["gcc", "-std=c99", "-x", "c"], ["g++", "-std=c++11", "-x", "c++"],
              ["clang", "-std=c99", "-x", "c"], ["clang++", "-std=c++11", "-x", "c++"])
 STRICT = ["-Wall", "-Wextra", "-Wpedantic", "-Wconversion", "-Wshadow", "-Werror", "-fsyntax-only"]
 
-# In /proc/net/unix, the flag of a socket that listens, and the state of one that is connected.
+# In /proc/net/unix, the flag of a socket that listens, and the states of a connection: before it is accepted, and
+# after.
 ACCEPTS = 0x10000
-CONNECTED = "03"
+CONNECTING, CONNECTED = "02", "03"
 # In seconds: how long a program may take to start, and how long anything may take that ends by itself. Both are
 # many times what is needed on a busy machine.
 COMES_UP = 120
@@ -165,6 +166,11 @@ def ended(started, status=0):
 def has_client(path, beside=0):
     """Whether the socket that listens at a path has accepted a client, beside so many others."""
     return sum(it[5] == CONNECTED for it in sockets_at(path)) > beside
+
+
+def has_waiting_client(path):
+    """Whether a client has connected to the socket at a path, and its connection is not accepted yet."""
+    return any(it[5] == CONNECTING for it in sockets_at(path))
 
 
 def protocols():

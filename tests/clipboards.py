@@ -9,7 +9,7 @@ import tempfile
 import time
 
 import compositors
-from checks import Failed, Skipped, end, ended, has_come, has_client, is_listening, need, run, start_and_wait
+from checks import Failed, Skipped, end, ended, has_client, has_come, is_listening, need, run, start_and_wait
 
 # How long a text may take from one client to another, and a client to end, in seconds.
 PASSES = 60
@@ -32,7 +32,7 @@ class Clipboard:
 
     def __init__(self, path, process, env):
         self.path, self.process, self.env = path, process, env
-        self.started = []
+        self.started, self.has_stayed = [], True
 
     def start(self, words, stdin=None, **kept):
         """A client that runs beside the test, and reads `stdin`."""
@@ -84,12 +84,52 @@ def end_of(said):
 
 
 @contextlib.contextmanager
-def kept_client(path):
-    """A client that asks for nothing: it keeps a compositor from ending with its last one."""
+def kept_client(board):
+    """A client that asks for nothing: it keeps a compositor from ending with its last one. Notes whether the
+    compositor has stayed."""
     with socket.socket(socket.AF_UNIX) as client:
-        client.connect(path)
-        has_come(lambda: has_client(path))
+        client.connect(board.path)
+        has_come(lambda: has_client(board.path) or board.process.poll() is not None)
+        try:
+            yield
+        finally:
+            board.has_stayed = board.process.poll() is None
+
+
+def how_it_ended(board, stays):
+    """Ends the clients, and then a compositor that stays until a signal; any other has to end with its last client.
+    Returns its status, and in words what else is wrong with its end."""
+    try:
+        board.end_clients()
+        if not stays:
+            has_come(lambda: board.process.poll() is not None, PASSES)
+    finally:
+        end(board.process)
+    wrong = [] if board.has_stayed else ["it ended before its clients"]
+    return board.process.returncode, wrong + ["it left its socket"] * os.path.exists(board.path)
+
+
+@contextlib.contextmanager
+def judged(board, said, stays, status):
+    """Ends a compositor after a test, and fails if its end was wrong. If the test failed, its reason is followed by
+    what the compositor has written. So a test is only skipped if the compositor was well."""
+    why = None
+    try:
         yield
+    except (Failed, Skipped, OSError, subprocess.TimeoutExpired) as it:
+        why = it
+    except BaseException:
+        board.end_clients()
+        end(board.process)
+        raise
+    found, wrong = how_it_ended(board, stays)
+    is_well = found == status and not wrong
+    if isinstance(why, Skipped) and is_well:
+        raise why
+    if why or not is_well:
+        lines = [f"{why}".rstrip()] if why else []
+        how = ", ".join([f"status {found} of the compositor", *wrong])
+        raise Failed("\n".join([*lines, how, end_of(said)])) from why
 
 
 @contextlib.contextmanager
@@ -106,21 +146,13 @@ def compositor(words, script=None, status=0):
         with open(f"{folder}/said", "w+b") as said:
             process = subprocess.Popen([*words, path, *more], stdout=said, stderr=said)
             board = Clipboard(path, process, env)
-            try:
+            with judged(board, said, "--stay" in words, status):
                 has_come(lambda: is_listening(path) or process.poll() is not None)
                 if not is_listening(path):
-                    raise Failed(f"the compositor does not listen\n{end_of(said)}")
-                with kept_client(path):
+                    raise Failed("the compositor does not listen")
+                with kept_client(board):
                     yield board
                     board.end_clients()
-                if "--stay" not in words:
-                    has_come(lambda: process.poll() is not None, PASSES)
-            finally:
-                board.end_clients()
-                end(process)
-            output = end_of(said)
-        if process.returncode != status or os.path.exists(path):
-            raise Failed(f"status {process.returncode} of the compositor\n{output}")
 
 
 def passes_texts(*words):
@@ -206,12 +238,6 @@ def bears_greedy_clients(program, *words):
         board.has(lambda: board.descriptors() == before, "that all descriptors are closed")
 
 
-def is_there(board, client):
-    """Waits until a client is connected beside that of the test. If none connects, the test is skipped."""
-    if not has_come(lambda: has_client(board.path, beside=1) or client.poll() is not None):
-        raise Skipped(f"{client.args[0]} has made no connection")
-
-
 def press(board, *lines):
     with open(os.path.join(board.env["HOME"], "script"), "a", encoding="ascii") as file:
         file.write("".join(lines))
@@ -226,7 +252,7 @@ def serves_gtk(paste, *words):
     with compositor(words, "script") as board:
         window = ["zenity", "--entry", "--text=waywire", "--entry-text=old "]
         entry = board.start(window, stdout=subprocess.PIPE)
-        is_there(board, entry)
+        compositors.connects(entry, board.path, beside=1)
 
         def is_in_entry():
             text = board.pasted() or b""
@@ -255,7 +281,7 @@ def serves_foot(*words):
         again = f"while :; do printf '\\033]52;c;{text}\\033\\\\'; sleep 1; done"
         terminal = board.start(["foot", "--config=/dev/null", "sh", "-c", again],
                                stderr=subprocess.PIPE)
-        is_there(board, terminal)
+        compositors.connects(terminal, board.path, beside=1)
         if not has_come(lambda: board.pasted() == SMALL or terminal.poll() is not None, PASSES):
             raise Failed("the text of foot has not come")
         if terminal.poll() is not None:

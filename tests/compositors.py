@@ -7,7 +7,7 @@ import shutil
 import subprocess
 import tempfile
 
-from checks import COMES_UP, LONG, Failed, Skipped, has_client, has_come, is_listening, need
+from checks import COMES_UP, LONG, Failed, Skipped, has_client, has_come, has_waiting_client, is_listening, need
 
 # What is played at a window of weston-simple-shm, which draws until it is asked to close.
 DRAWN = "motion 20 20\nbutton 272\nkey 30\nclose\n"
@@ -38,12 +38,20 @@ def started(words, path, said, **kept):
     return process
 
 
+def connects(client, path, beside=0):
+    """Waits until a compositor has accepted a client beside so many others, or the client has ended. If the client
+    makes no connection, the test is skipped. If it makes one that is not accepted, the test fails."""
+    if not has_come(lambda: has_client(path, beside) or client.poll() is not None):
+        if has_waiting_client(path):
+            raise Failed(f"the compositor has not accepted {client.args[0]} within {COMES_UP} s")
+        raise Skipped(f"{client.args[0]} has made no connection within {COMES_UP} s")
+
+
 def ran(words, path, **kept):
-    """Runs a client, and returns it with its output once it has ended. If it does not connect, the test is skipped."""
+    """Runs a client, and returns it with its output once it has ended."""
     client = subprocess.Popen(words, stdout=subprocess.PIPE, stderr=subprocess.PIPE, **kept)
     try:
-        if not has_come(lambda: has_client(path) or client.poll() is not None):
-            raise Skipped(f"{words[0]} has made no connection within {COMES_UP} s")
+        connects(client, path)
         return client, *client.communicate(timeout=LONG)
     finally:
         client.kill()

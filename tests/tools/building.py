@@ -5,12 +5,14 @@ import os
 import shutil
 import socket
 import subprocess
+import sys
 import tempfile
 import unittest
 import unittest.mock
 
 import checks
-from checks import LONG, TOP
+import clipboards
+from checks import LONG, TOP, Failed, Skipped
 
 
 def copy_sources(room):
@@ -99,21 +101,70 @@ class Script(unittest.TestCase):
 
 class Sockets(unittest.TestCase):
     def test_what_a_server_has(self):
-        """It listens, and then a client is connected, once it is accepted."""
+        """It listens, then a client waits, and then a client is connected."""
         with tempfile.TemporaryDirectory() as room, socket.socket(socket.AF_UNIX) as server:
             def found():
-                return checks.is_listening(f"{room}/it"), checks.has_client(f"{room}/it")
+                tests = (checks.is_listening, checks.has_waiting_client, checks.has_client)
+                return tuple(it(f"{room}/it") for it in tests)
 
             server.bind(f"{room}/it")
-            self.assertEqual(found(), (False, False))
+            self.assertEqual(found(), (False, False, False))
             server.listen()
             with socket.socket(socket.AF_UNIX) as client:
                 client.connect(f"{room}/it")
-                self.assertEqual(found(), (True, False))
+                self.assertEqual(found(), (True, True, False))
                 with server.accept()[0]:
-                    self.assertEqual(found(), (True, True))
-            self.assertTrue(checks.has_come(lambda: found() == (True, False)))
+                    self.assertEqual(found(), (True, False, True))
+            self.assertTrue(checks.has_come(lambda: found() == (True, False, False)))
             self.assertFalse(checks.has_come(lambda: False, 0))
+
+
+class Compositors(unittest.TestCase):
+    """What a test at an example compositor comes to, with a stand-in for the compositor."""
+
+    PROGRAM = """import os, signal, socket, sys
+how, path = sys.argv[1], sys.argv[-1]
+def leave(*_):
+    os.remove(path)
+    print(how, "compositor")
+    sys.exit(how == "bad")
+signal.signal(signal.SIGTERM, leave)
+listening = socket.socket(socket.AF_UNIX)
+listening.bind(path)
+listening.listen()
+kept = listening.accept()
+if how == "early":
+    leave()
+while True:
+    signal.pause()
+"""
+
+    def outcome(self, how, why):
+        """How a test ends that raises `why`, if that is something."""
+        try:
+            with clipboards.compositor([sys.executable, "-c", self.PROGRAM, how, "--stay"]) as board:
+                if how == "early":
+                    board.process.wait(LONG)
+                if why:
+                    raise why
+        except (Failed, Skipped) as error:
+            return type(error), str(error)
+        return None
+
+    def test_at_one_that_is_well(self):
+        self.assertIsNone(self.outcome("good", None))
+        self.assertEqual(self.outcome("good", Skipped("no foot")), (Skipped, "no foot"))
+        wanted = "no text\nstatus 0 of the compositor\ngood compositor\n"
+        for why in (Failed, OSError):
+            self.assertEqual(self.outcome("good", why("no text")), (Failed, wanted))
+
+    def test_at_one_that_is_not(self):
+        """A test that would be skipped fails."""
+        status = "status 1 of the compositor\nbad compositor\n"
+        self.assertEqual(self.outcome("bad", None), (Failed, status))
+        self.assertEqual(self.outcome("bad", Skipped("no foot")), (Failed, f"no foot\n{status}"))
+        wanted = "no foot\nstatus 0 of the compositor, it ended before its clients\nearly compositor\n"
+        self.assertEqual(self.outcome("early", Skipped("no foot")), (Failed, wanted))
 
 
 class Packages(unittest.TestCase):
@@ -186,7 +237,7 @@ if [ -e "$ROOM/whole/$it" ]; then printf 'ii '; else printf 'iU '; fi
         self.assertTrue(any(it.endswith(" install groff-base nodejs debootstrap") for it in notes), notes)
 
     def test_what_is_there(self):
-        """A package by halves is none, nor is its program."""
+        """A half-installed package counts as not installed; so does its program."""
         states = {"ii ": True, "hi ": True, "iU ": False, "iF ": False, "iHR": False}
         for state, is_there in states.items():
             said = {"-S": ["diversion by dash from: /bin/sh", "dash: /bin/sh"], "-W": [state]}
