@@ -13,8 +13,13 @@ server_ids      the server makes an object and names it, and makes it again when
                 with the same tables
 bytes           the same as callbacks, with each byte in a piece of its own
 """
+import os
 import struct
 import sys
+
+sys.dont_write_bytecode = True
+sys.path.insert(0, f"{os.path.dirname(os.path.dirname(os.path.realpath(__file__)))}/tools/dev")
+import usage  # noqa: E402
 
 MOST = 16 * 1024 * 1024
 # The first id of what a server makes.
@@ -110,8 +115,11 @@ KINDS = {"surfaces": surfaces, "callbacks": callbacks, "objects": objects, "serv
 
 
 def main():
+    [kind] = usage.words(__doc__, least=1, most=1)
+    if kind not in KINDS:
+        usage.refuse(f"there is no kind {kind}")
     size = 0
-    for part in KINDS[sys.argv[1]]():
+    for part in KINDS[kind]():
         if size + len(part) > MOST:
             break
         sys.stdout.write(part)

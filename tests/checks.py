@@ -21,6 +21,7 @@ TOP = os.path.dirname(os.path.dirname(os.path.realpath(__file__)))
 TOOLS = f"{TOP}/tools"
 sys.path[1:1] = [TOOLS, f"{TOOLS}/dev"]
 import protocol_files  # noqa: E402
+import usage  # noqa: E402
 VALGRIND = ["valgrind", "-q", "--leak-check=full", "--error-exitcode=9"]
 # The compilers of C and C++ with which the headers must compile.
 COMPILERS = (["gcc", "-std=c99", "-x", "c"], ["g++", "-std=c++11", "-x", "c++"],
@@ -233,6 +234,40 @@ def joined_tables():
     return b"".join(texts)
 
 
+def name_of(test):
+    """The name of a function that is a test, in words."""
+    return test.__name__.replace("_", " ")
+
+
+def chosen(lists, words):
+    """The tests of each list whose names contain one of the words; without words, all. A test that stands for others
+    has their names too. A word that no name contains ends the program with status 2."""
+    def names(test):
+        return [name_of(it) for it in (test, *getattr(test, "stands_for", ()))]
+
+    for word in words:
+        if not any(word in name for tests in lists for it in tests for name in names(it)):
+            usage.refuse(f"no test has a name with {word!r} in it")
+    return [[it for it in tests if not words or any(word in name for word in words for name in names(it))]
+            for tests in lists]
+
+
+def suite_of(names, *modules):
+    """The cases of `unittest` with these names, each a class or CLASS.TEST, that the modules have; without names, all.
+    A name without a test ends the program with status 2."""
+    loader, suite = unittest.TestLoader(), unittest.TestSuite()
+    for name in names:
+        classes = [(it, getattr(it, name.partition(".")[0], None)) for it in modules]
+        own = [it for it, found in classes if isinstance(found, type) and issubclass(found, unittest.TestCase)]
+        found = loader.loadTestsFromName(name, own[0]) if own else unittest.TestSuite()
+        if loader.errors or not found.countTestCases():
+            usage.refuse(f"no tests have the name {name}")
+        suite.addTests(found)
+    if not names:
+        suite.addTests(map(loader.loadTestsFromModule, modules))
+    return suite
+
+
 def counted(passed, failed):
     """Prints the last line of a test program, and returns its exit status."""
     print(f"{passed} passed, {failed} failed")
@@ -256,7 +291,7 @@ def passed_and_failed(tests, *given):
     passed and failed."""
     passed = failed = 0
     for test in tests:
-        name = test.__name__.replace("_", " ")
+        name = name_of(test)
         try:
             test(*given)
             passed += 1

@@ -24,7 +24,8 @@ import unittest
 ROOT = os.path.dirname(os.path.dirname(os.path.dirname(os.path.realpath(__file__))))
 sys.dont_write_bytecode = True
 sys.path.insert(0, f"{ROOT}/tests")
-from checks import count_cases, has_come, is_listening  # noqa: E402
+from checks import count_cases, has_come, is_listening, suite_of  # noqa: E402
+import usage  # noqa: E402
 
 INSPECT = os.environ.get("INSPECT", f"{ROOT}/out/c/waywire-inspect").split()
 WAYWIRE = os.environ.get("WAYWIRE")
@@ -68,9 +69,8 @@ def closed(descriptors):
 
 def main():
     """Runs the tests that the words name, or all. Says which are skipped, and counts them."""
-    loader, program = unittest.defaultTestLoader, sys.modules["__main__"]
-    named = loader.loadTestsFromNames(sys.argv[1:], program)
-    sys.exit(count_cases(named if sys.argv[1:] else loader.loadTestsFromModule(program)))
+    program = sys.modules["__main__"]
+    sys.exit(count_cases(suite_of(usage.words(program.__doc__), program)))
 
 
 class Inspected(unittest.TestCase):

@@ -24,8 +24,8 @@ import time
 
 sys.dont_write_bytecode = True
 sys.path.insert(0, os.path.join(os.path.dirname(os.path.realpath(__file__)), ".."))
-from checks import (COMES_UP, LONG, TOP, Failed, Skipped, counted, has_client, has_come, joined_tables,  # noqa: E402
-                    passed_and_failed)
+from checks import (COMES_UP, LONG, TOP, Failed, Skipped, chosen, counted, has_client, has_come,  # noqa: E402
+                    joined_tables, passed_and_failed)
 from libwayland import desktops, kwin_and_mutter, programs  # noqa: E402
 from libwayland.libraries import OUT, SONAME, SYSTEM, Library  # noqa: E402
 import table_text  # noqa: E402
@@ -212,8 +212,7 @@ def main():
     given = parser.parse_args()
     os.makedirs(OUT, exist_ok=True)
     kept = desktops.Kept(lambda: kwin_and_mutter.mutter(WAYLAND_DEBUG="server"))
-    tests = [it for it in sessions(kept, given.whole)
-             if not given.words or any(word in it.__name__ for word in given.words)]
+    [tests] = chosen([sessions(kept, given.whole)], given.words)
     try:
         passed, failed = passed_and_failed(tests)
     finally:

@@ -233,7 +233,7 @@ def at(name, tests):
 
     def skipped():
         need(*NEEDED[name])
-    skipped.__name__ = f"{len(tests)} tests at {name}"
+    skipped.__name__, skipped.stands_for = f"{len(tests)} tests at {name}", tests
     return [skipped]
 
 

@@ -5,10 +5,16 @@
 
 Each is the path of a libwayland-client.so.0. What the older one has, the newer one must have: each interface with at
 least its version, and its messages in front, each with the same name, signature and types. The exit status is 1 if
-there is a difference."""
+there is a difference, and 2 if the words are wrong."""
 
 import ctypes
+import os
 import sys
+
+sys.dont_write_bytecode = True
+TOP = os.path.dirname(os.path.dirname(os.path.dirname(os.path.realpath(__file__))))
+sys.path.insert(0, f"{TOP}/tools/dev")
+import usage  # noqa: E402
 
 NAMES = """wl_buffer wl_callback wl_compositor wl_data_device wl_data_device_manager wl_data_offer wl_data_source
     wl_display wl_keyboard wl_output wl_pointer wl_region wl_registry wl_seat wl_shell wl_shell_surface wl_shm
@@ -73,12 +79,10 @@ def differences(newer, older):
 
 
 def main(arguments):
-    if len(arguments) != 2:
-        sys.exit(__doc__)
     found = list(differences(*(ctypes.CDLL(it, ctypes.RTLD_LOCAL) for it in arguments)))
     print("\n".join(found), end="\n" if found else "")
     return 1 if found else 0
 
 
 if __name__ == "__main__":
-    sys.exit(main(sys.argv[1:]))
+    sys.exit(main(usage.words(__doc__, least=2, most=2)))

@@ -1,6 +1,8 @@
 """Programs compiled unproved: reports that are lent, and `waywire`; and the installation and the
 waits of tests."""
 
+import contextlib
+import io
 import os
 import shutil
 import socket
@@ -9,6 +11,7 @@ import sys
 import tempfile
 import unittest
 import unittest.mock
+from concurrent.futures import ThreadPoolExecutor
 
 import checks
 import clipboards
@@ -165,6 +168,76 @@ while True:
         self.assertEqual(self.outcome("bad", Skipped("no foot")), (Failed, f"no foot\n{status}"))
         wanted = "no foot\nstatus 0 of the compositor, it ended before its clients\nearly compositor\n"
         self.assertEqual(self.outcome("early", Skipped("no foot")), (Failed, wanted))
+
+
+class CommandLines(unittest.TestCase):
+    """How the programs of the repository read their words."""
+
+    # What only `make` runs.
+    OTHERS = {f"{TOP}/tools/deb-package", f"{TOP}/tools/man-page"}
+
+    def programs(self):
+        files = [path for it in ("bench", "tests", "tools") for path in checks.files_below(f"{TOP}/{it}")]
+        return [it for it in files if os.access(it, os.X_OK) and it not in self.OTHERS]
+
+    def test_help_and_wrong_options(self):
+        """They print their help, or refuse the option, and write no file."""
+        with tempfile.TemporaryDirectory() as room, ThreadPoolExecutor(os.cpu_count()) as pool:
+            def outcome(path, word):
+                ran = subprocess.run([path, word], cwd=room, capture_output=True, stdin=subprocess.DEVNULL,
+                                     timeout=LONG, check=False)
+                return ran.returncode, bool(ran.stdout), bool(ran.stderr)
+
+            wanted = {"-h": (0, True, False), "--no-such-option": (2, False, True)}
+            asked = [(path, word) for path in self.programs() for word in wanted]
+            for (path, word), found in zip(asked, pool.map(outcome, *zip(*asked))):
+                self.assertEqual(found, wanted[word], f"{path} {word}")
+            self.assertEqual(os.listdir(room), [])
+
+    def test_words(self):
+        """Names of tests that do not exist, and words too many or too few, are refused."""
+        for words, why in (
+            (["tests/c/inspecting_names.py", "Nams"], "no tests have the name Nams"),
+            (["tests/check-c", "sesion"], "sesion is neither a test nor a file"),
+            (["tests/check-c", "Makefile", "LICENSE"], "LICENSE is a second program"),
+            (["tests/check-rust", "lints"], "lints is a word too many"),
+            (["bench/recording.py", "nothing"], "there is no kind nothing"),
+            (["tests/check-program"], "tests/check-program PROGRAM [NAME..]"),
+            (["tools/dev/core-files", "--chekc"], "there is no option --chekc"),
+        ):
+            ran = subprocess.run(words, cwd=TOP, capture_output=True, text=True, timeout=LONG, check=False)
+            self.assertEqual((ran.returncode, ran.stdout), (2, ""), words)
+            self.assertIn(why, ran.stderr)
+
+    def test_names_of_tests(self):
+        """The tests with a word in their names; a stand-in has the names of those for which it stands."""
+        def one_test():
+            """A test."""
+
+        def stand_in():
+            """A test that is skipped in place of another."""
+        stand_in.stands_for = [one_test]
+        lists = [[one_test], [stand_in]]
+        self.assertEqual(checks.chosen(lists, []), lists)
+        self.assertEqual(checks.chosen(lists, ["one t"]), lists)
+        self.assertEqual(checks.chosen(lists, ["stand"]), [[], [stand_in]])
+        self.refused("no test has a name with 'two' in it", lambda: checks.chosen(lists, ["one", "two"]))
+
+    def test_names_of_cases(self):
+        """Classes of tests, and their tests."""
+        module = sys.modules[__name__]
+        for names, count in ((["CommandLines.test_words"], 1), (["CommandLines.test_words", "Script"], 2)):
+            self.assertEqual(checks.suite_of(names, checks, module).countTestCases(), count)
+        self.assertGreater(checks.suite_of([], checks, module).countTestCases(), 10)
+        for it in ("NoTests", "CommandLines.test_nothing", "unittest", "copy_sources"):
+            self.refused(f"no tests have the name {it}", lambda: checks.suite_of(["Script", it], checks, module))
+
+    def refused(self, why, call):
+        """A call ends the program with status 2, and says why."""
+        with contextlib.redirect_stderr(io.StringIO()) as said, self.assertRaises(SystemExit) as ended:
+            call()
+        self.assertEqual(ended.exception.code, 2)
+        self.assertIn(why, said.getvalue())
 
 
 class Packages(unittest.TestCase):

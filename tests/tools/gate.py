@@ -286,11 +286,14 @@ class OfTheInspector(unittest.TestCase):
                 tool.inspecting(None, file="a.py")
             except checks.Skipped as why:
                 return f"all: {why}"
+            except checks.Failed as why:
+                return f"failed: {why}"
         return output.getvalue()
 
     def test_what_is_skipped_is_told(self):
         tool = module_of("tests/check-c")
         self.assertEqual(self.inspected(tool, "..\n2 passed, 0 failed\n"), "")
+        self.assertEqual(self.inspected(tool, "\n0 passed, 0 failed\n"), "failed: a.py has run no test")
         skipped = "\nskipped: a.b: no foot\n"
         self.assertEqual(self.inspected(tool, f"{skipped}2 passed, 0 failed\n"), skipped[1:])
         said = self.inspected(tool, f"{skipped}0 passed, 0 failed\n")

@@ -3,6 +3,7 @@
 import glob
 import os
 import re
+import shutil
 import subprocess
 import sys
 import tempfile
@@ -74,6 +75,18 @@ class Made(unittest.TestCase):
     def test_of_the_core(self):
         ran = subprocess.run([f"{TOOLS}/dev/core-files", "--check"], capture_output=True, text=True)
         self.assertEqual((ran.stdout + ran.stderr, ran.returncode), ("", 0))
+
+    def test_of_a_bad_core(self):
+        """What the tool says that refuses it is shown, and no file is written."""
+        with tempfile.TemporaryDirectory() as room:
+            shutil.copytree(TOOLS, f"{room}/tools", ignore=shutil.ignore_patterns("__pycache__"))
+            with open(f"{room}/tools/core.xml", "w", encoding="utf-8") as file:
+                file.write("<protocol name='core'>")
+            ran = subprocess.run([f"{room}/tools/dev/core-files"], capture_output=True, text=True)
+            with open(f"{room}/tools/core.tables", encoding="utf-8") as file:
+                self.assertEqual(file.read(), read("tools/core.tables"))
+        self.assertEqual((ran.stdout, ran.returncode), ("", 1))
+        self.assertRegex(ran.stderr, r"\Atables-from-xml: .*core\.xml.*\n\Z")
 
     def test_first_lines(self):
         made = dict.fromkeys((*self.CORE, *core_lists.WHOLE), "core-files|stubs-from-xml")
