@@ -39,11 +39,11 @@ def started(words, path, said, **kept):
 
 
 def connects(client, path, beside=0):
-    """Waits until a compositor has accepted a client beside so many others, or the client has ended. If the client
-    makes no connection, the test is skipped. If it makes one that is not accepted, the test fails."""
+    """Waits until a client is accepted at a path beside so many others, or has ended. If it makes no connection, the
+    test is skipped. If it makes one that is not accepted, the test fails."""
     if not has_come(lambda: has_client(path, beside) or client.poll() is not None):
         if has_waiting_client(path):
-            raise Failed(f"the compositor has not accepted {client.args[0]} within {COMES_UP} s")
+            raise Failed(f"{client.args[0]} is not accepted within {COMES_UP} s")
         raise Skipped(f"{client.args[0]} has made no connection within {COMES_UP} s")
 
 

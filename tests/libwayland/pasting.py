@@ -79,6 +79,7 @@ class Program:
             self.process = desktop.start(self.words(), library, stdout=said, stderr=errors,
                                          env={"SAID": self.said})
         if not has_come(lambda: self.windows() or self.has_ended()) or not self.windows():
+            self.end()
             with open(self.errors, encoding="utf-8", errors="replace") as file:
                 raise Failed(f"{kind} has opened no window within {COMES_UP} s: {file.read()[-600:]}")
 
@@ -207,7 +208,8 @@ CLASSES = {"foot": Foot, "firefox": Firefox, "wl-clipboard": WlClipboard}
 
 
 class Programs:
-    """The programs with one library, at a kept desktop. Each is started when a test first needs it."""
+    """The programs with one library, at a kept desktop. Each is started when a test first needs it. One that cannot be
+    started is not tried again: each of its tests ends in the same way."""
 
     def __init__(self, kept, library):
         self.kept, self.library = kept, library
@@ -215,12 +217,13 @@ class Programs:
 
     def __call__(self, kind):
         if kind in self.lacking:
-            raise Skipped(self.lacking[kind])
+            ended, why = self.lacking[kind]
+            raise ended(why)
         if kind not in self.started:
             try:
                 self.started[kind] = CLASSES.get(kind, Program)(self.kept(), self.library, kind)
-            except Skipped as why:
-                self.lacking[kind] = str(why)
+            except (Failed, Skipped) as why:
+                self.lacking[kind] = type(why), str(why)
                 raise
         return self.started[kind]
 

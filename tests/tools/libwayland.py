@@ -10,10 +10,11 @@ import subprocess
 import sys
 import tempfile
 import unittest
+import unittest.mock
 
 import checks
 from checks import LONG, TOP, Failed, Skipped, module_of, need, read, run
-from libwayland import programs
+from libwayland import pasting, programs
 import protocol
 
 OURS = f"{TOP}/c/libwayland"
@@ -166,6 +167,39 @@ class Programs(unittest.TestCase):
         for ours in ([(closed, "a"), (closed, "a")], [(closed, "abd"), (closed, "abcd")],
                      [(stopped, "ab"), (stopped, "abc")]):
             self.assertTrue(self.differ([(closed, "ab"), (closed, "abc")], ours))
+
+
+class Pasting(unittest.TestCase):
+    """The programs that copy and paste, with stand-ins for them."""
+
+    def test_one_that_does_not_start(self):
+        """It is not started again, and each of its tests ends as the first one."""
+        for ends in (Failed, Skipped):
+            with self.subTest(ends):
+                start = unittest.mock.Mock(side_effect=ends("no window"))
+                with unittest.mock.patch.dict(pasting.CLASSES, {"foot": start}):
+                    kept = pasting.Programs(lambda: None, None)
+                    for _ in range(2):
+                        with self.assertRaisesRegex(ends, "no window"):
+                            kept("foot")
+                    kept.end()
+                self.assertEqual(start.call_count, 1)
+
+    def test_one_without_a_window(self):
+        """It is ended."""
+        started = subprocess.Popen(["sleep", str(LONG)], start_new_session=True)
+        self.addCleanup(started.wait)
+        self.addCleanup(started.kill)
+        with (
+            tempfile.TemporaryDirectory() as room,
+            unittest.mock.patch.object(pasting, "has_come", lambda _: False),
+            unittest.mock.patch.object(pasting.Program, "words"),
+            self.assertRaisesRegex(Failed, "no window"),
+        ):
+            desktop = unittest.mock.Mock(room=room)
+            desktop.start.return_value = started
+            pasting.Program(desktop, unittest.mock.Mock(), "gtk3")
+        self.assertIsNotNone(started.returncode)
 
 
 class Run(unittest.TestCase):
