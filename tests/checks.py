@@ -2,6 +2,7 @@
 
 It puts tools/ and tools/dev/ on the path, so that a test imports their modules."""
 
+import contextlib
 import filecmp
 import functools
 import glob
@@ -9,6 +10,7 @@ import importlib.machinery
 import importlib.util
 import os
 import shutil
+import signal
 import subprocess
 import sys
 import tempfile
@@ -112,14 +114,29 @@ def ends_of(said):
     return said if len(said) <= 1600 else f"{said[:400]}\n..\n{said[-1200:]}"
 
 
+def outputs_of(words, given, timeout, **kept):
+    """Runs a command that reads `given`, in a session of its own, and returns its status and its outputs. If it is not
+    waited for to its end, all of the session is killed: also what the command has started."""
+    piped = {"stdout": subprocess.PIPE, "stderr": subprocess.PIPE, "start_new_session": True}
+    if given is not None:
+        piped["stdin"] = subprocess.PIPE
+    with subprocess.Popen(words, **piped, **kept) as process:
+        try:
+            outputs = process.communicate(given, timeout)
+        except BaseException:
+            with contextlib.suppress(OSError):
+                os.killpg(process.pid, signal.SIGKILL)
+            raise
+    return process.returncode, *(it.decode(errors="replace") for it in outputs)
+
+
 def run(words, status=0, with_error=False, **kept):
     """Runs a command at the top of the repository, and returns its standard output; if `with_error` is set, followed
     by its standard error. The command must end with this status."""
     kept = {"cwd": TOP, "timeout": LONG, **kept}
-    done = subprocess.run(words, capture_output=True, **kept)
-    output, error = done.stdout.decode(errors="replace"), done.stderr.decode(errors="replace")
-    if done.returncode != status:
-        how = f"status {done.returncode}" if done.returncode >= 0 else f"signal {-done.returncode}"
+    found, output, error = outputs_of(words, kept.pop("input", None), **kept)
+    if found != status:
+        how = f"status {found}" if found >= 0 else f"signal {-found}"
         raise Failed(f"{' '.join(words[-3:])}: {how}\n{ends_of(output)}{ends_of(error)}")
     return output + error if with_error else output
 

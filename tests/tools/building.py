@@ -4,6 +4,7 @@ waits of tests."""
 import contextlib
 import io
 import os
+import select
 import shutil
 import socket
 import subprocess
@@ -120,6 +121,28 @@ class Sockets(unittest.TestCase):
                     self.assertEqual(found(), (True, False, True))
             self.assertTrue(checks.has_come(lambda: found() == (True, False, False)))
             self.assertFalse(checks.has_come(lambda: False, 0))
+
+
+class Runs(unittest.TestCase):
+    """How a test runs a command."""
+
+    def test_what_it_takes(self):
+        env = {**os.environ, "TOLD": "one "}
+        words = ["sh", "-c", 'printf "%s" "$TOLD"; pwd; cat; echo two >&2; exit 3']
+        with tempfile.TemporaryDirectory() as room:
+            said = checks.run(words, 3, with_error=True, cwd=room, env=env, input=b"three ")
+            self.assertEqual(said, f"one {os.path.realpath(room)}\nthree two\n")
+        self.assertEqual(checks.run(["pwd"]), f"{TOP}\n")
+
+    def test_one_that_takes_too_long(self):
+        """What it has started is killed too: it would keep a pipe open."""
+        ours, its = os.pipe()
+        with self.assertRaises(subprocess.TimeoutExpired):
+            checks.run(["sh", "-c", f"sleep {LONG} & wait"], timeout=0.5, pass_fds=[its])
+        os.close(its)
+        self.assertTrue(select.select([ours], [], [], LONG / 2)[0])
+        self.assertEqual(os.read(ours, 1), b"")
+        os.close(ours)
 
 
 class Compositors(unittest.TestCase):
