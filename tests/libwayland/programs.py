@@ -20,7 +20,7 @@ import time
 
 from checks import COMES_UP, TOP, Failed, Skipped, has_come, is_installed, need, run
 from libwayland import desktops
-from libwayland.libraries import OUT, SONAME, SOURCES, SYSTEM, checked_by_valgrind
+from libwayland.libraries import SONAME, SOURCES, SYSTEM, checked_by_valgrind
 
 AT_SWAY = """
 wayland-info
@@ -132,13 +132,13 @@ CLOSES, ENDS = 4, 20
 Ran = collections.namedtuple("Ran", "shown closed status kinds")
 
 
-def sdl():
-    """Compiles the program of ours that uses SDL."""
+def sdl(room):
+    """Compiles the program of ours that uses SDL into a folder, and returns its path."""
     need("pkg-config", "cc")
     found = subprocess.run(["pkg-config", "--cflags", "--libs", "sdl2"], capture_output=True, check=False)
     if found.returncode:
         raise Skipped("libsdl2-dev is not installed")
-    path = f"{OUT}/sdl"
+    path = f"{room}/sdl"
     run(["cc", "-O1", "-Wall", "-Wextra", "-Werror", f"{SOURCES}/sdl.c", "-o", path,
          *found.stdout.decode().split()])
     return path
@@ -153,7 +153,7 @@ def words_of(line, room):
     """The words of a program, which is installed."""
     words = [it.replace("ROOM", room) for it in shlex.split(line)]
     if words[0] == "sdl":
-        return [sdl()]
+        return [sdl(room)]
     if words[0] == "sh":
         need(words[2].split()[-1])
     elif not is_installed(words[0]):

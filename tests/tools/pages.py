@@ -4,6 +4,7 @@ import glob
 import os
 import re
 import subprocess
+import tempfile
 import unittest
 
 from checks import TOP, module_of, need, read, run
@@ -162,6 +163,24 @@ class FrontPage(unittest.TestCase):
             output = re.sub("(?m)^  ", "", run.split("output:\n")[1])
             shown = readme.split(f"$ ./waywire {words}\n")[1].split("\n", 1)[1]
             self.assertTrue(shown.startswith(output), case)
+
+
+class PutAside(unittest.TestCase):
+    def test_files(self):
+        """While the commands of README.md run, the files are away that a user has made by them."""
+        with tempfile.TemporaryDirectory() as room:
+            def write(name, text):
+                with open(f"{room}/{name}", "w", encoding="utf-8") as file:
+                    file.write(text)
+
+            write("kept", "before")
+            with module_of("tests/check-pages").put_aside(room, ["kept", "made", "none"]):
+                self.assertFalse(os.path.exists(f"{room}/kept"))
+                write("kept", "after")
+                write("made", "after")
+            self.assertEqual(os.listdir(room), ["kept"])
+            with open(f"{room}/kept", encoding="utf-8") as file:
+                self.assertEqual(file.read(), "before")
 
 
 class ManPage(unittest.TestCase):
