@@ -165,7 +165,7 @@ install: all
 	ln -sf $(soname) $(DESTDIR)$(LIBDIR)/libwaywire.so
 	$(call fill,$(LIBDIR)/pkgconfig) c/waywire.pc.in > $(DESTDIR)$(LIBDIR)/pkgconfig/waywire.pc
 	for file in waywire-config.cmake waywire-config-version.cmake; do \
-		$(call fill,$(LIBDIR)/cmake/waywire) c/$$file.in > $(DESTDIR)$(LIBDIR)/cmake/waywire/$$file; \
+		$(call fill,$(LIBDIR)/cmake/waywire) c/$$file.in > $(DESTDIR)$(LIBDIR)/cmake/waywire/$$file || exit; \
 	done
 	chmod 644 $(DESTDIR)$(LIBDIR)/pkgconfig/waywire.pc $(DESTDIR)$(LIBDIR)/cmake/waywire/*.cmake
 	install -m 644 examples/tables/*.tables examples/tables/*.names $(DESTDIR)$(DATADIR)/waywire/tables
@@ -203,7 +203,7 @@ dist: all
 	$(MAKE) -s install DESTDIR=$(CURDIR)/out/dist/$(package) PREFIX= LIBDIR=/lib INCLUDEDIR=/include \
 		BINDIR=/bin DATADIR=/share program=$(program)
 	cd out/dist && find . -type d -exec chmod 755 {} + && tar --sort=name --mtime=@0 --owner=0 --group=0 \
-		--numeric-owner -cf - $(package) | gzip -9n > ../$(package).tar.gz
+		--numeric-owner -cf $(package).tar $(package) && gzip -9n $(package).tar && mv -f $(package).tar.gz ..
 	rm -rf out/dist
 	@echo out/$(package).tar.gz
 
@@ -218,3 +218,4 @@ clean:
 	rm -rf out/c out/dist out/deb out/*.tar.gz out/*.deb include/waywire-version.h
 
 .PHONY: all install dist deb check clean
+.DELETE_ON_ERROR:

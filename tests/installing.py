@@ -177,8 +177,9 @@ def serves_unpacked(root):
     for tool in ("tables-from-xml", "stubs-from-xml"):
         run([f"{usr}/bin/waywire-{tool}", f"{usr}/share/waywire/tools/core.xml"])
     run([f"{usr}/bin/waywire-run", "true"])
-    for name in ("share/doc/waywire/copyright", "share/doc/waywire/GUIDE.md", "share/waywire/rust/Cargo.toml",
-                 "share/doc/waywire/examples/client.c", "share/man/man1/waywire-stubs-from-xml.1.gz"):
+    for name in ("share/doc/waywire/copyright", "share/doc/waywire/LICENSE", "share/doc/waywire/GUIDE.md",
+                 "share/waywire/rust/Cargo.toml", "share/doc/waywire/examples/client.c",
+                 "share/man/man1/waywire-stubs-from-xml.1.gz"):
         if not os.path.exists(os.path.join(usr, name)):
             raise Failed(f"{name} is not in the package")
 
