@@ -6,7 +6,6 @@
 INSPECT in the environment is the tool [default: out/c/waywire-inspect]. WAYWIRE is a
 built `waywire`, which judges what was recorded, and may be missing. tests/check-c runs them."""
 import contextlib
-import glob
 import os
 import random
 import re
@@ -24,7 +23,7 @@ import unittest
 ROOT = os.path.dirname(os.path.dirname(os.path.dirname(os.path.realpath(__file__))))
 sys.dont_write_bytecode = True
 sys.path.insert(0, f"{ROOT}/tests")
-from checks import count_cases, has_come, is_listening, suite_of  # noqa: E402
+from checks import count_cases, has_come, is_listening, joined_tables, suite_of  # noqa: E402
 import usage  # noqa: E402
 
 INSPECT = os.environ.get("INSPECT", f"{ROOT}/out/c/waywire-inspect").split()
@@ -65,6 +64,35 @@ def done(number):
 def closed(descriptors):
     for it in descriptors:
         os.close(it)
+
+
+def written_at_random(target, chance):
+    """Writes pieces of any size with any descriptors, and ends the writing. Returns the bytes, and for each descriptor
+    its place among them and its file."""
+    data, numbers = bytearray(), []
+    for _ in range(400):
+        part = chance.randbytes(chance.randint(1, 9000))
+        files = [os.memfd_create("it") for _ in range(chance.choice((0, 0, 0, 0, 0, 1, 2, 28)))]
+        numbers += [(len(data), os.fstat(it).st_ino) for it in files]
+        sent = socket.send_fds(target, [part], files)
+        target.sendall(part[sent:])
+        data += part
+        closed(files)
+    target.shutdown(socket.SHUT_WR)
+    return bytes(data), numbers
+
+
+def read_at_random(source, chance):
+    """Reads pieces of any size to the end. Returns the bytes, and for each descriptor the place of the piece with which
+    it came, and its file."""
+    data, numbers = bytearray(), []
+    while True:
+        part, files, _, _ = socket.recv_fds(source, chance.randint(1, 20000), 253)
+        numbers += [(len(data), os.fstat(it).st_ino) for it in files]
+        closed(files)
+        data += part
+        if not part:
+            return bytes(data), numbers
 
 
 def main():
@@ -173,9 +201,7 @@ class Inspected(unittest.TestCase):
         """The installed texts, joined: the path of a file."""
         path = f"{self.folder}/all.tables"
         with open(path, "wb") as file:
-            for name in sorted(glob.glob(f"{ROOT}/examples/tables/*.tables")):
-                with open(name, "rb") as one:
-                    file.write(one.read())
+            file.write(joined_tables())
         return path
 
     def checked(self, path, lines, *words):
@@ -358,28 +384,10 @@ class Passing(Inspected):
         written, got = {}, {}
 
         def write(end):
-            chance, data, numbers = random.Random(end), bytearray(), []
-            for _ in range(400):
-                part = chance.randbytes(chance.randint(1, 9000))
-                files = [os.memfd_create("it") for _ in range(chance.choice((0, 0, 0, 0, 0, 1, 2, 28)))]
-                numbers += [(len(data), os.fstat(it).st_ino) for it in files]
-                sent = socket.send_fds(ends[end], [part], files)
-                ends[end].sendall(part[sent:])
-                data += part
-                closed(files)
-            written[end] = bytes(data), numbers
-            ends[end].shutdown(socket.SHUT_WR)
+            written[end] = written_at_random(ends[end], random.Random(end))
 
         def read(end):
-            chance, data, numbers = random.Random(end), bytearray(), []
-            while True:
-                part, files, _, _ = socket.recv_fds(ends[end], chance.randint(1, 20000), 253)
-                numbers += [(len(data), os.fstat(it).st_ino) for it in files]
-                closed(files)
-                data += part
-                if not part:
-                    break
-            got[1 - end] = bytes(data), numbers
+            got[1 - end] = read_at_random(ends[end], random.Random(end))
 
         threads = [threading.Thread(target=does, args=(end,), daemon=True)
                    for does in (write, read) for end in (0, 1)]

@@ -60,7 +60,7 @@ def has_settled(said):
 class Desktop(inspecting_at_sway.Sway):
     """Programs as they are, each for a while."""
 
-    # These are run where they stand.
+    # The base class's own tests run in inspecting_at_sway.py.
     test_gtk = test_wl_copy = test_wl_paste = None
 
     def setUp(self):

@@ -2,14 +2,13 @@
 clients print."""
 import collections
 import contextlib
-import glob
 import re
 import signal
 import socket
 import subprocess
 import time
 
-from inspecting import LONG, ROOT, Inspected
+from inspecting import LONG, Inspected
 from checks import COMES_UP, end, has_come, joined_tables, need
 import table_text
 
@@ -27,7 +26,7 @@ OPCODES = {(interface.name, it.name): opcode
 
 class RealClients(Inspected):
     """Clients of libwayland, which WAYLAND_DEBUG makes say each message. A subclass starts a
-    compositor. What of the distribution does not come up is skipped."""
+    compositor. A test is skipped if a program of the distribution does not start."""
 
     # How clients end by SIGINT; of others it is not known.
     STATUS = {"weston-simple-shm": 0, "weston-flower": 128 + signal.SIGINT}
@@ -176,12 +175,3 @@ class RealClients(Inspected):
         self.assertTrue(verdict.startswith("lawful: "), verdict)
         self.checked(self.recorded, said.splitlines(), "--tables", self.all_tables())
         return said
-
-    def all_tables(self):
-        """The installed texts, joined."""
-        path = f"{self.folder}/all.tables"
-        with open(path, "wb") as file:
-            for name in sorted(glob.glob(f"{ROOT}/examples/tables/*.tables")):
-                with open(name, "rb") as one:
-                    file.write(one.read())
-        return path
