@@ -1,6 +1,5 @@
 """A headless Chromium, driven by its own protocol over two pipes."""
 
-import base64
 import glob
 import json
 import os
@@ -193,9 +192,3 @@ class Browser:
         for part in (0.5, 1):
             self.pointer("mouseMoved", x + (to_x - x) * part, y + (to_y - y) * part, button="left", buttons=1)
         self.pointer("mouseReleased", to_x, to_y, button="left", clickCount=1)
-
-    def photograph(self, path):
-        """Writes a picture of the visible page."""
-        data = self.ask("Page.captureScreenshot", format="png")["data"]
-        with open(path, "wb") as file:
-            file.write(base64.b64decode(data))

@@ -275,8 +275,7 @@ def inspector_is_installed(_program):
         data = os.path.join(prefix, "data", "here")
         run(["make", "-s", "install", f"PREFIX={prefix}", f"DATADIR={data}", "program=none"])
         tool = os.path.join(prefix, "bin", "waywire-inspect")
-        with open(os.path.join(TOP, "include", "waywire-version.h"), encoding="utf-8") as file:
-            version = re.search('"(.*)"', file.read())[1]
+        version = version_of_the_library()
         if run([tool, "--version"]) != f"waywire-inspect {version}\n":
             raise Failed(f"it has another version than {version}")
         env = {**os.environ, "XDG_RUNTIME_DIR": prefix, "WAYLAND_DISPLAY": "none", "XDG_DATA_DIRS": prefix}
