@@ -148,8 +148,10 @@ struct RawArg {
     length: usize,
 }
 
+/// An argument without a kind. Its `bytes` are an empty string, as in the header: the library copies all
+/// arguments of a call if it is given a null pointer.
 const NO_ARG: RawArg =
-    RawArg { kind: 0, i: 0, u: 0, object: Object::NONE, bytes: ptr::null(), length: 0 };
+    RawArg { kind: 0, i: 0, u: 0, object: Object::NONE, bytes: c"".as_ptr().cast(), length: 0 };
 
 impl RawArg {
     /// An argument of a call. It must not outlive its slices. A descriptor is the caller's.
@@ -466,7 +468,9 @@ pub fn spelling_of(spelling: u32) -> &'static str {
 mod tests {
     use super::*;
     use crate::amounts::{Amounts, Sizes};
+    use crate::args::Fixed;
     use std::mem::{offset_of, size_of};
+    use std::os::fd::AsFd;
     use std::process::Command;
 
     /// What a program in C says of the header: numbers, sizes and offsets, a line each.
@@ -506,6 +510,25 @@ mod tests {
         };
     }
     pub(super) use layout;
+
+    /// The library copies no argument of a call if each has an address, whatever its kind.
+    #[test]
+    fn arguments_have_addresses() {
+        let (object, input) = (Some(Object::NONE), std::io::stdin());
+        let args = [
+            Arg::Int(1),
+            Arg::Uint(1),
+            Arg::Fixed(Fixed::from_raw(1)),
+            Arg::Str(None),
+            Arg::Str(Some(b"")),
+            Arg::Object(None),
+            Arg::Object(object),
+            Arg::NewId,
+            Arg::Array(b""),
+            Arg::Fd(input.as_fd()),
+        ];
+        assert!(args.iter().all(|it| !RawArg::of(it).bytes.is_null()));
+    }
 
     #[test]
     fn declarations_are_those_of_the_header() {
