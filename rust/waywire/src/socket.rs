@@ -15,7 +15,7 @@ use crate::tables::Object;
 use crate::typed::EventHandler;
 use crate::wayland::wl_display::WlDisplay;
 use std::env;
-use std::ffi::OsStr;
+use std::ffi::{OsStr, OsString};
 use std::fmt;
 use std::io::{self, ErrorKind};
 use std::net::Shutdown;
@@ -31,46 +31,67 @@ pub const MOST_DESCRIPTORS: usize = sys::SOCKET_DESCRIPTORS as usize;
 /// Connects to a compositor, as `wl_display_connect` does.
 ///
 /// A name that begins with a slash is a path, and any other name is one in the folder `XDG_RUNTIME_DIR`.
-/// `None` connects to the name in `WAYLAND_DISPLAY`, and if that is not set, to `wayland-0`. If that
-/// fails, the error has a [`ConnectError`] in it, which names the path.
+/// `None` connects to the name in `WAYLAND_DISPLAY`, and if that is not set, to `wayland-0`.
 ///
 /// If `WAYLAND_SOCKET` is set, it is the number of a socket that is already connected, which this process
 /// was started with. The call then returns a duplicate of that socket, removes the variable, and does not
 /// look at `name`. The number itself stays open, since no call can know whether it belongs to something
 /// else in this process. Dropping the [`Link`] ends the connection all the same.
 ///
-/// The call reads and changes the environment, so connect before other threads use it.
+/// The call uses the environment only through [`std::env`], which locks it against other Rust code. That
+/// lock does not stop another thread that reads the environment in C, for example by `getenv`, while this
+/// call removes `WAYLAND_SOCKET`. So if there are such threads, connect before you start them.
+///
+/// # Errors
+///
+/// The error has a [`ConnectError`] in it, which names the path. Its kind is
+/// [`NotFound`](io::ErrorKind::NotFound) if no compositor is there, or if `XDG_RUNTIME_DIR` is not set to an
+/// absolute path. Other errors are those of the system. If `WAYLAND_SOCKET` is set and is no number, the kind
+/// is [`InvalidInput`](io::ErrorKind::InvalidInput).
 pub fn connect(name: Option<&Path>) -> io::Result<UnixStream> {
     const VARIABLE: &str = "WAYLAND_SOCKET";
-    let socket = match env::var_os(VARIABLE) {
-        Some(number) => {
-            let socket = inherited(&number)?;
-            env::remove_var(VARIABLE);
-            socket
-        }
-        None => sys::connect(name.map(Path::as_os_str)).map_err(|it| unconnected(name, it))?,
-    };
-    Ok(socket.into())
+    if let Some(number) = env::var_os(VARIABLE) {
+        let socket = inherited(&number)?;
+        env::remove_var(VARIABLE);
+        return Ok(socket.into());
+    }
+    let asked =
+        name.map(PathBuf::from).or_else(|| env::var_os("WAYLAND_DISPLAY").map(PathBuf::from));
+    let path = path_of(&asked.unwrap_or_else(|| "wayland-0".into()));
+    let made = has_folder(&path).and_then(|()| sys::connect(&path));
+    made.map(UnixStream::from)
+        .map_err(|error| io::Error::new(error.kind(), ConnectError { path, error }))
 }
 
-/// The path at which [`connect`] found no compositor, and the error of the system. It is inside the
-/// [`io::Error`] of `connect`, which has the same kind as `error`.
+/// The path of a name: the name itself if it begins with a slash, otherwise one in `XDG_RUNTIME_DIR`. If
+/// that is not set to an absolute path, the name stays as it is.
+fn path_of(name: &Path) -> PathBuf {
+    let folder = env::var_os("XDG_RUNTIME_DIR").map(PathBuf::from).filter(|it| it.is_absolute());
+    folder.unwrap_or_default().join(name)
+}
+
+/// Whether there is a folder for the name that [`path_of`] has looked up.
+fn has_folder(path: &Path) -> io::Result<()> {
+    if path.is_absolute() {
+        return Ok(());
+    }
+    let missing = "XDG_RUNTIME_DIR is not set to an absolute path";
+    Err(io::Error::new(ErrorKind::NotFound, missing))
+}
+
+/// The path at which [`connect`] found no compositor, and why. It is inside the [`io::Error`] of
+/// `connect`, which has the same kind as `error`.
 #[derive(Debug)]
 pub struct ConnectError {
     /// Relative if `XDG_RUNTIME_DIR` is not set to an absolute path: then there is no folder to look in.
     pub path: PathBuf,
-    /// What the system said.
+    /// What the system said, or that there is no folder.
     pub error: io::Error,
 }
 
 impl fmt::Display for ConnectError {
     fn fmt(&self, f: &mut fmt::Formatter<'_>) -> fmt::Result {
-        write!(f, "cannot connect to {}: ", self.path.display())?;
-        if self.path.is_absolute() {
-            self.error.fmt(f)
-        } else {
-            f.write_str("XDG_RUNTIME_DIR is not set to an absolute path")
-        }
+        write!(f, "cannot connect to {}: {}", self.path.display(), self.error)
     }
 }
 
@@ -80,13 +101,12 @@ impl std::error::Error for ConnectError {
     }
 }
 
-fn unconnected(name: Option<&Path>, error: io::Error) -> io::Error {
-    let asked =
-        name.map(PathBuf::from).or_else(|| env::var_os("WAYLAND_DISPLAY").map(PathBuf::from));
-    let name = asked.unwrap_or_else(|| "wayland-0".into());
-    let folder = env::var_os("XDG_RUNTIME_DIR").map(PathBuf::from).filter(|it| it.is_absolute());
-    let path = folder.unwrap_or_default().join(name);
-    io::Error::new(error.kind(), ConnectError { path, error })
+/// Whether a name is not empty.
+fn has_name(name: &Path) -> io::Result<()> {
+    if name.as_os_str().is_empty() {
+        return Err(io::Error::new(ErrorKind::InvalidInput, "the name is empty"));
+    }
+    Ok(())
 }
 
 fn inherited(number: &OsStr) -> io::Result<OwnedFd> {
@@ -177,24 +197,74 @@ impl Deadline {
 /// A socket at which clients connect, with the lock of its name. Dropping it closes the socket, and
 /// removes it and its lock file; clients that were accepted stay connected.
 #[derive(Debug)]
-pub struct Listener(sys::Listening);
+pub struct Listener {
+    listening: sys::Listening,
+    name: OsString,
+}
+
+/// The path at which [`Listener::bind`] cannot listen, and why. It is inside the [`io::Error`] of `bind`,
+/// which has the same kind as `error`.
+#[derive(Debug)]
+pub struct BindError {
+    /// Relative if `XDG_RUNTIME_DIR` is not set to an absolute path: then there is no folder for the socket.
+    pub path: PathBuf,
+    /// What the system said, or that there is no folder or no name.
+    pub error: io::Error,
+}
+
+impl fmt::Display for BindError {
+    fn fmt(&self, f: &mut fmt::Formatter<'_>) -> fmt::Result {
+        write!(f, "cannot listen at {}: {}", self.path.display(), self.error)
+    }
+}
+
+impl std::error::Error for BindError {
+    fn source(&self) -> Option<&(dyn std::error::Error + 'static)> {
+        Some(&self.error)
+    }
+}
 
 impl Listener {
     /// Listens under a name, as `wl_display_add_socket` does. A name that begins with a slash is a path,
     /// and any other name is one in the folder `XDG_RUNTIME_DIR`. `None` takes the first free name of
     /// wayland-1 to wayland-32. A socket left behind by a server that is gone is replaced.
+    ///
+    /// # Errors
+    ///
+    /// The error has a [`BindError`] in it, which names the path; with `None` it is that of wayland-32. Its
+    /// kind is [`AddrInUse`](io::ErrorKind::AddrInUse) if another server has the name (or all names), or if
+    /// a file of this name is no socket. It is [`InvalidInput`](io::ErrorKind::InvalidInput) if the name is
+    /// empty, and [`NotFound`](io::ErrorKind::NotFound) if there is no such folder. Other errors are those of
+    /// the system.
     pub fn bind(name: Option<&Path>) -> io::Result<Listener> {
-        sys::Listening::new(name.map(Path::as_os_str)).map(Listener)
+        const LAST: u32 = 32;
+        let numbered = |number| Listener::at(Path::new(&format!("wayland-{number}")));
+        match name {
+            Some(name) => Listener::at(name),
+            // A name that cannot be had for another reason is not free either.
+            None => (1..LAST).find_map(|it| numbered(it).ok()).map_or_else(|| numbered(LAST), Ok),
+        }
+    }
+
+    fn at(name: &Path) -> io::Result<Listener> {
+        let path = path_of(name);
+        let made = has_name(name)
+            .and_then(|()| has_folder(&path))
+            .and_then(|()| sys::Listening::new(&path));
+        match made {
+            Ok(listening) => Ok(Listener { listening, name: name.into() }),
+            Err(error) => Err(io::Error::new(error.kind(), BindError { path, error })),
+        }
     }
 
     /// The name for `WAYLAND_DISPLAY`.
     pub fn name(&self) -> &OsStr {
-        self.0.name()
+        &self.name
     }
 
     /// The socket of the next client. It does not wait: [`io::ErrorKind::WouldBlock`].
     pub fn accept(&self) -> io::Result<UnixStream> {
-        self.0.accept().map(UnixStream::from)
+        self.listening.accept().map(UnixStream::from)
     }
 
     /// Waits for a client, and returns its socket.
@@ -212,7 +282,7 @@ impl Listener {
 
 impl AsFd for Listener {
     fn as_fd(&self) -> BorrowedFd<'_> {
-        self.0.fd()
+        self.listening.fd()
     }
 }
 

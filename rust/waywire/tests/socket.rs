@@ -10,7 +10,7 @@ use std::os::unix::net::UnixStream;
 use std::path::{Path, PathBuf};
 use std::time::{Duration, Instant};
 use std::{env, fs, thread};
-use waywire::socket::{self, has_gone, Came, ConnectError, Link, Listener, PostedError};
+use waywire::socket::{self, has_gone, BindError, Came, ConnectError, Link, Listener, PostedError};
 use waywire::wayland::wl_callback::{self, WlCallback};
 use waywire::wayland::wl_display::{self, WlDisplay};
 use waywire::wayland::wl_registry::{self, WlRegistry};
@@ -286,6 +286,36 @@ fn no_compositor_is_there() {
     }
 }
 
+/// A server takes the first name that is free. If it gets none, the error names the path.
+fn servers_take_names() {
+    let error = |name: Option<&str>| Listener::bind(name.map(Path::new)).unwrap_err();
+    env::set_var("XDG_RUNTIME_DIR", folder());
+    let taken: Vec<Listener> = (0..32).map(|_| Listener::bind(None).unwrap()).collect();
+    let names: Vec<String> = (1..33).map(|it| format!("wayland-{it}")).collect();
+    assert!(taken.iter().map(Listener::name).eq(names.iter().map(String::as_str)));
+    let its = socket::connect(Some(Path::new("wayland-3"))).unwrap();
+    assert!(taken[2].accept().is_ok());
+    let used = |name: &str| {
+        let path = folder().join(name);
+        format!("cannot listen at {}: Address already in use (os error 98)", path.display())
+    };
+    let all = error(None);
+    assert_eq!((all.kind(), all.to_string()), (ErrorKind::AddrInUse, used("wayland-32")));
+    assert_eq!(error(Some("wayland-3")).to_string(), used("wayland-3"));
+    drop((taken, its));
+    assert_eq!(Listener::bind(None).unwrap().name(), "wayland-1");
+    assert_eq!(fs::read_dir(folder()).unwrap().count(), 0);
+    let empty = error(Some(""));
+    assert_eq!(empty.kind(), ErrorKind::InvalidInput);
+    env::remove_var("XDG_RUNTIME_DIR");
+    let missing = error(Some("it"));
+    assert_eq!(missing.kind(), ErrorKind::NotFound);
+    let said = "cannot listen at it: XDG_RUNTIME_DIR is not set to an absolute path";
+    assert_eq!(missing.to_string(), said);
+    let missing: &BindError = missing.get_ref().unwrap().downcast_ref().unwrap();
+    assert_eq!(missing.path, Path::new("it"));
+}
+
 /// One test of all names, since it changes the environment.
 #[test]
 fn sockets_have_names() {
@@ -301,6 +331,7 @@ fn sockets_have_names() {
     drop(listener);
     assert_eq!(fs::read_dir(folder()).unwrap().count(), 0);
     assert_eq!(socket::connect(Some(&path)).unwrap_err().kind(), ErrorKind::NotFound);
+    servers_take_names();
     fs::remove_dir(folder()).unwrap();
     no_compositor_is_there();
 

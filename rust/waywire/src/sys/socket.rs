@@ -3,11 +3,12 @@
 use super::end::{End, RawEnd, RawPart};
 use super::SOCKET_DESCRIPTORS;
 use crate::error::Failed;
-use std::ffi::{c_char, c_int, c_ulong, c_void, CStr, CString, OsStr};
+use std::ffi::{c_char, c_int, c_ulong, c_void, CString};
 use std::io;
 use std::os::fd::{AsRawFd, BorrowedFd, FromRawFd, OwnedFd, RawFd};
 use std::os::unix::ffi::OsStrExt;
-use std::ptr::{self, NonNull};
+use std::path::Path;
+use std::ptr::NonNull;
 
 /// The most descriptors that come at once.
 const MOST: usize = SOCKET_DESCRIPTORS as usize;
@@ -40,7 +41,6 @@ pub struct Pollfd {
 extern "C" {
     fn waywire_socket_connect_to(name: *const c_char, milliseconds: c_int) -> c_int;
     fn waywire_socket_listen(name: *const c_char) -> *mut RawListening;
-    fn waywire_listening_socket_name(listening: *const RawListening) -> *const c_char;
     fn waywire_listening_socket_fd(listening: *const RawListening) -> c_int;
     fn waywire_listening_socket_accept(listening: *const RawListening) -> c_int;
     fn waywire_listening_socket_close(listening: *mut RawListening);
@@ -86,20 +86,18 @@ unsafe fn made(number: c_int) -> io::Result<OwnedFd> {
     Ok(unsafe { OwnedFd::from_raw_fd(number) })
 }
 
-/// A name as C reads it.
-fn in_c(name: Option<&OsStr>) -> io::Result<Option<CString>> {
-    name.map(|it| CString::new(it.as_bytes())).transpose().map_err(io::Error::from)
+/// A path for C. Only an absolute one may be given to a call: for any other name it would read the
+/// environment, which another thread may change by std's calls at that time.
+fn in_c(path: &Path) -> io::Result<CString> {
+    assert!(path.is_absolute(), "{} is no absolute path", path.display());
+    Ok(CString::new(path.as_os_str().as_bytes())?)
 }
 
-fn at_of(name: &Option<CString>) -> *const c_char {
-    name.as_ref().map_or(ptr::null(), |it| it.as_ptr())
-}
-
-/// Connects to a compositor by its name, or by WAYLAND_DISPLAY.
-pub fn connect(name: Option<&OsStr>) -> io::Result<OwnedFd> {
-    let name = in_c(name)?;
-    // Safety: the name is null or a string of C; what comes back is a new descriptor.
-    unsafe { made(waywire_socket_connect_to(at_of(&name), -1)) }
+/// Connects to the compositor at an absolute path.
+pub fn connect(path: &Path) -> io::Result<OwnedFd> {
+    let path = in_c(path)?;
+    // Safety: the path is a string of C; what comes back is a new descriptor.
+    unsafe { made(waywire_socket_connect_to(path.as_ptr(), -1)) }
 }
 
 /// A duplicate of a descriptor that this process was started with. The number may be any: that of a
@@ -176,8 +174,8 @@ impl End {
 #[derive(Debug)]
 pub struct Listening(NonNull<RawListening>);
 
-// Safety: the header says so: the library has no state but the environment, and a listening socket is
-// bound to no thread. It is used by one call at a time, since it is not `Sync`.
+// Safety: the header says so: the library has no state but the environment, which these calls do not read,
+// and a listening socket is bound to no thread. It is used by one call at a time, since it is not `Sync`.
 unsafe impl Send for Listening {}
 
 impl Drop for Listening {
@@ -189,16 +187,11 @@ impl Drop for Listening {
 
 // Safety, for each call below: the socket is the library's and lives as long as `self`.
 impl Listening {
-    pub fn new(name: Option<&OsStr>) -> io::Result<Listening> {
-        let name = in_c(name)?;
-        let made = unsafe { waywire_socket_listen(at_of(&name)) };
+    /// Listens at an absolute path.
+    pub fn new(path: &Path) -> io::Result<Listening> {
+        let path = in_c(path)?;
+        let made = unsafe { waywire_socket_listen(path.as_ptr()) };
         NonNull::new(made).map(Listening).ok_or_else(io::Error::last_os_error)
-    }
-
-    pub fn name(&self) -> &OsStr {
-        // The name ends with a NUL, and is valid until the socket is closed.
-        let name = unsafe { CStr::from_ptr(waywire_listening_socket_name(self.0.as_ptr())) };
-        OsStr::from_bytes(name.to_bytes())
     }
 
     pub fn fd(&self) -> BorrowedFd<'_> {
