@@ -8,6 +8,8 @@
 //! is proved in part. This crate adds Rust's types, and is tested. It has no dependency, and finds the
 //! library by pkg-config or `WAYWIRE_DIR`.
 //!
+//! It is for Linux on x86-64. The library needs the instructions of x86-64-v2 (SSE4.2, from 2009 on).
+//!
 //! # The loop
 //!
 //! An end, a [`Client`] or a [`Server`], turns calls into bytes and bytes into messages. Both are
@@ -166,6 +168,9 @@
 //! ```
 
 #![deny(unsafe_code)]
+
+#[cfg(not(all(target_os = "linux", target_arch = "x86_64", target_pointer_width = "64")))]
+compile_error!("waywire is for Linux on x86-64");
 
 // The generated modules name this package as a user's do.
 extern crate self as waywire;

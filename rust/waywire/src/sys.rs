@@ -1,8 +1,8 @@
 //! The calls of waywire.h, and what makes them safe. Only this module, with those below it, has
 //! `unsafe` in it.
 //!
-//! The declarations are those of the header: a test compares sizes, offsets and numbers with what a
-//! program in C says of it. What the header asks of every call is kept by the types here:
+//! The declarations are those of the headers: a test compares sizes, offsets and numbers with what a
+//! program in C says of them. What the header asks of every call is kept by the types here:
 //!
 //! - a pointer to tables, an end or an inspector is one that the library returned, and it is freed once,
 //!   by the drop of what owns it;
@@ -465,7 +465,7 @@ pub fn spelling_of(spelling: u32) -> &'static str {
 }
 
 #[cfg(test)]
-mod tests {
+pub mod tests {
     use super::*;
     use crate::amounts::{Amounts, Sizes};
     use crate::args::Fixed;
@@ -473,16 +473,18 @@ mod tests {
     use std::os::fd::AsFd;
     use std::process::Command;
 
-    /// What a program in C says of the header: numbers, sizes and offsets, a line each.
+    /// The headers that have what is compared.
+    const HEADERS: [&str; 6] = ["errno", "fcntl", "poll", "stddef", "stdio", "waywire-socket"];
+
+    /// What a program in C says of the headers: numbers, sizes and offsets, a line each.
     fn said_by_c(expressions: &[String]) -> Vec<usize> {
         let folder = std::env::temp_dir().join(format!("waywire-layout-{}", std::process::id()));
         std::fs::create_dir_all(&folder).unwrap();
         let lines: String =
             expressions.iter().map(|it| format!("printf(\"%zu\\n\", (size_t)({it}));\n")).collect();
         let source = folder.join("layout.c");
-        let text = format!(
-            "#include <stdio.h>\n#include <waywire-socket.h>\nint main(void) {{\n{lines}return 0;\n}}\n"
-        );
+        let headers: String = HEADERS.iter().map(|it| format!("#include <{it}.h>\n")).collect();
+        let text = format!("{headers}int main(void) {{\n{lines}return 0;\n}}\n");
         std::fs::write(&source, text).unwrap();
         let program = folder.join("layout");
         let built = Command::new("cc")
@@ -509,7 +511,7 @@ mod tests {
             )*]
         };
     }
-    pub(super) use layout;
+    pub(crate) use layout;
 
     /// The library copies no argument of a call if each has an address, whatever its kind.
     #[test]
@@ -543,11 +545,13 @@ mod tests {
         wanted.extend(decoded::tests::layout());
         wanted.extend(end::tests::layout());
         wanted.extend(inspector::tests::layout());
+        wanted.extend(socket::tests::layout());
         wanted.extend(tables::tests::layout());
-        wanted.push(("sizeof(waywire_object)".into(), size_of::<Object>()));
+        wanted.extend(crate::tables::tests::layout());
         wanted.push(("sizeof(waywire_status)".into(), size_of::<u32>()));
         wanted.push(("sizeof(waywire_sender)".into(), size_of::<u32>()));
         wanted.extend(NUMBERS.iter().map(|(name, number)| (name.to_string(), *number as usize)));
+        wanted.extend(socket::tests::numbers());
         let expressions: Vec<String> = wanted.iter().map(|it| it.0.clone()).collect();
         let said = said_by_c(&expressions);
         let found: Vec<(String, usize)> = expressions.into_iter().zip(said).collect();

@@ -173,3 +173,14 @@ pub enum ArgKind {
     /// A file descriptor.
     Fd,
 }
+
+#[cfg(test)]
+pub(crate) mod tests {
+    use super::Object;
+    use crate::sys::tests::layout;
+    use std::mem::{offset_of, size_of};
+
+    pub fn layout() -> Vec<(String, usize)> {
+        layout! { Object, "waywire_object": birth id; }
+    }
+}

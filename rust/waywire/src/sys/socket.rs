@@ -33,9 +33,9 @@ type RawListening = c_void;
 /// `struct pollfd`.
 #[repr(C)]
 pub struct Pollfd {
-    descriptor: RawFd,
+    fd: RawFd,
     events: i16,
-    came: i16,
+    revents: i16,
 }
 
 extern "C" {
@@ -209,12 +209,12 @@ impl Pollfd {
     /// written.
     pub fn new((descriptor, writes): (BorrowedFd<'_>, bool)) -> Pollfd {
         let events = if writes { POLLIN | POLLOUT } else { POLLIN };
-        Pollfd { descriptor: descriptor.as_raw_fd(), events, came: 0 }
+        Pollfd { fd: descriptor.as_raw_fd(), events, revents: 0 }
     }
 
     /// Whether the last call of [`poll`] has found it ready.
     pub fn is_ready(&self) -> bool {
-        self.came != 0
+        self.revents != 0
     }
 }
 
@@ -225,4 +225,31 @@ pub fn poll(polled: &mut [Pollfd], milliseconds: c_int) -> io::Result<()> {
         return Err(io::Error::last_os_error());
     }
     Ok(())
+}
+
+#[cfg(test)]
+pub(super) mod tests {
+    use super::super::tests::layout;
+    use super::*;
+    use std::mem::{offset_of, size_of};
+
+    pub fn layout() -> Vec<(String, usize)> {
+        let mut layout = layout! { Pollfd, "struct pollfd": fd events revents; };
+        layout.push(("sizeof(nfds_t)".into(), size_of::<c_ulong>()));
+        layout
+    }
+
+    /// The numbers of the system, and their names in its headers.
+    pub fn numbers() -> Vec<(String, usize)> {
+        let numbers = [
+            ("F_SETFD", F_SETFD),
+            ("FD_CLOEXEC", FD_CLOEXEC),
+            ("F_DUPFD_CLOEXEC", F_DUPFD_CLOEXEC),
+            ("EMFILE", EMFILE),
+            ("EOVERFLOW", EOVERFLOW),
+            ("POLLIN", POLLIN.into()),
+            ("POLLOUT", POLLOUT.into()),
+        ];
+        numbers.map(|(name, number)| (name.to_string(), number as usize)).into()
+    }
 }
