@@ -89,8 +89,7 @@ impl Client {
     #[inline]
     #[allow(clippy::should_implement_trait)]
     pub fn next(&mut self) -> Result<Option<Incoming<'_>>, NextError> {
-        self.end.next(&mut self.reading)?;
-        Ok(Incoming::of(&mut self.reading))
+        Ok(Incoming::of(self.end.next()?))
     }
 
     /// The object of the server that the last message made; `None` if it made none, or no message was
@@ -110,6 +109,6 @@ impl Client {
     /// old object is gone, and no later message names it, so drop here what belongs to it. While an
     /// event is lent, [`Message::replaced`](crate::Message::replaced) returns the same.
     pub fn replaced(&self) -> Option<Replaced> {
-        self.reading.report().replaced()
+        self.end.replaced()
     }
 }

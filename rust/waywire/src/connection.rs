@@ -56,7 +56,6 @@ use std::os::fd::{BorrowedFd, OwnedFd};
 #[derive(Debug)]
 pub struct Connection<R> {
     pub(crate) end: sys::End,
-    pub(crate) reading: Box<sys::Reading>,
     pub(crate) tables: Tables,
     role: PhantomData<R>,
 }
@@ -72,8 +71,7 @@ pub enum AsServer {}
 impl<R> Connection<R> {
     /// A new connection of an end that was made for the role `R`.
     pub(crate) fn of(end: sys::End, tables: &Tables) -> Connection<R> {
-        let reading = Box::new(sys::Reading::nothing());
-        Connection { end, reading, tables: tables.clone(), role: PhantomData }
+        Connection { end, tables: tables.clone(), role: PhantomData }
     }
 
     /// Its tables: those with which it was made, or those of the last

@@ -53,8 +53,8 @@ impl Server {
     #[inline]
     #[allow(clippy::should_implement_trait)]
     pub fn next(&mut self) -> Result<Option<Request<'_>>, NextError> {
-        self.end.next(&mut self.reading)?;
-        let is_request = self.reading.report().kind() == sys::MESSAGE;
-        Ok(is_request.then(|| Message::of(&mut self.reading)))
+        let reading = self.end.next()?;
+        let is_request = reading.report().kind() == sys::MESSAGE;
+        Ok(is_request.then(|| Message::of(reading)))
     }
 }

@@ -447,21 +447,25 @@ extern "C" {
 }
 
 /// The text of a static string of the library.
-fn static_text(text: *const c_char) -> &'static str {
-    // Safety: the library returns a static string that ends with a NUL, for any number.
+///
+/// # Safety
+///
+/// The pointer leads to a static string that ends with a NUL.
+unsafe fn static_text(text: *const c_char) -> &'static str {
+    // Safety: the caller says so.
     unsafe { CStr::from_ptr(text) }.to_str().unwrap_or("")
 }
 
 /// What a status means.
 pub fn text_of(status: u32) -> &'static str {
-    // Safety: any number is allowed.
-    static_text(unsafe { waywire_strerror(status) })
+    // Safety: any number is allowed, and for each the call returns a static string.
+    unsafe { static_text(waywire_strerror(status)) }
 }
 
 /// How an argument is malformed.
 pub fn spelling_of(spelling: u32) -> &'static str {
-    // Safety: any number is allowed.
-    static_text(unsafe { waywire_strspelling(spelling) })
+    // Safety: as in `text_of`.
+    unsafe { static_text(waywire_strspelling(spelling)) }
 }
 
 #[cfg(test)]

@@ -60,15 +60,22 @@ impl<'a> Decoded<'a> {
         bytes: &'a [u8],
     ) -> Option<Decoded<'a>> {
         let (at, from, length) = (bytes.as_ptr().cast(), sender.number(), bytes.len());
-        // Safety: the tables are the library's, and all else lasts longer than the call.
-        Decoded::by(|decoded| unsafe {
-            waywire_tables_decode(tables.at(), interface, version, from, at, length, decoded)
-        })
+        // Safety: the tables are the library's, and all else lasts longer than the call. The name lies in
+        // the tables, and all else in the bytes, which both are borrowed for `'a`.
+        unsafe {
+            Decoded::by(|decoded| {
+                waywire_tables_decode(tables.at(), interface, version, from, at, length, decoded)
+            })
+        }
     }
 
-    /// What a call of the library decodes, which returns its status: the name must lie in tables,
-    /// and all else in bytes, that are borrowed for `'a`. `None` if nothing is decoded.
-    pub fn by(take_apart: impl FnOnce(*mut RawDecoded) -> u32) -> Option<Decoded<'a>> {
+    /// What a call of the library decodes, which returns its status. `None` if nothing is decoded.
+    ///
+    /// # Safety
+    ///
+    /// The call writes what the library decodes. The name lies in tables, and strings and arrays lie in
+    /// bytes, which all stay as they are as long as `'a` lasts.
+    pub unsafe fn by(take_apart: impl FnOnce(*mut RawDecoded) -> u32) -> Option<Decoded<'a>> {
         let mut raw = RawDecoded {
             target: 0,
             opcode: 0,

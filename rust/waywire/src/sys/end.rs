@@ -8,6 +8,7 @@ use super::{
 use crate::amounts::{Amounts, Sizes};
 use crate::args::Arg;
 use crate::error::{Failed, GlobalError, NewError, NextError, SendError, TablesError};
+use crate::report::Replaced;
 use crate::tables::{Interface, Object};
 use std::ffi::{c_char, c_void, CString};
 use std::mem::{self, MaybeUninit};
@@ -272,9 +273,12 @@ unsafe fn lent_mut<'a>(part: RawPart) -> &'a mut [u8] {
 /// server's. [`Connection`](crate::Connection)
 /// knows by its type which of the two it is, and offers only the calls of that end. The library
 /// refuses the others.
+///
+/// It owns what it has read last, so the report never outlives its end, and is never another end's.
 #[derive(Debug)]
 pub struct End {
     at: NonNull<RawEnd>,
+    reading: Box<Reading>,
 }
 
 // Safety: the header says so: an end is bound to no thread, and used by one call at a time,
@@ -315,7 +319,10 @@ impl End {
     fn made_by_new(status: u32, made: *mut RawEnd) -> Result<End, NewError> {
         match status {
             BAD_SIZES => Err(NewError::BadSizes),
-            _ => NonNull::new(made).map(|at| End { at }).ok_or(NewError::NoMemory),
+            _ => {
+                let at = NonNull::new(made).ok_or(NewError::NoMemory)?;
+                Ok(End { at, reading: Box::new(Reading::nothing()) })
+            }
         }
     }
 
@@ -569,16 +576,23 @@ impl End {
         }
     }
 
-    /// Reads a message. The descriptors of the one before are closed, if nobody has taken them.
+    /// Reads a message, and lends it. The descriptors of the one before are closed, if nobody has taken
+    /// them.
     #[inline]
-    pub fn next(&mut self, reading: &mut Reading) -> Result<(), NextError> {
-        reading.close();
-        let status = unsafe { waywire_end_next(self.at.as_ptr(), &mut reading.report) };
+    pub fn next(&mut self) -> Result<&mut Reading, NextError> {
+        self.reading.close();
+        let status = unsafe { waywire_end_next(self.at.as_ptr(), &mut self.reading.report) };
         if status == OK {
-            // Safety: the end has just written this report, and has given its tokens away.
-            unsafe { reading.hold() };
+            // Safety, besides: the end has just written this report, and has given its tokens away.
+            unsafe { self.reading.hold() };
         }
-        reading.report.result(status)
+        self.reading.report.result(status)?;
+        Ok(&mut self.reading)
+    }
+
+    /// The object that the message read last has replaced.
+    pub fn replaced(&self) -> Option<Replaced> {
+        self.reading.report.replaced()
     }
 
     // What a client alone has.

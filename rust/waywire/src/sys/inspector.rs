@@ -240,8 +240,9 @@ impl<'a> Followed<'a> {
     pub fn decoded(&self) -> Option<Decoded<'a>> {
         let (at, sender) = (self.inspector.0.as_ptr(), self.sender.number());
         // Safety: the message is one of this inspector's, which is borrowed since. Names lie in its
-        // tables, which last as long as it does, and the rest in the bytes.
-        Decoded::by(|decoded| unsafe { waywire_inspector_decode(at, sender, &self.raw, decoded) })
+        // tables, which last as long as it does, and the rest in the bytes, which it keeps until it is no
+        // longer borrowed.
+        unsafe { Decoded::by(|decoded| waywire_inspector_decode(at, sender, &self.raw, decoded)) }
     }
 }
 

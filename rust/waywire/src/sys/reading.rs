@@ -19,7 +19,7 @@ pub struct Reading {
 
 impl Reading {
     /// A reading that `next` is to fill.
-    pub fn nothing() -> Reading {
+    pub(super) fn nothing() -> Reading {
         Reading { report: Report::nothing(), held: [const { None }; MOST], count: 0 }
     }
 
@@ -48,13 +48,18 @@ impl Reading {
     ///
     /// The report is new, its tokens are descriptors that its end owned, and the reading holds none.
     #[inline]
-    pub unsafe fn hold(&mut self) {
+    pub(super) unsafe fn hold(&mut self) {
         if self.report.token_count > 0 {
             // Safety: the caller says so.
             unsafe { self.hold_all() };
         }
     }
 
+    /// The same, if it has descriptors.
+    ///
+    /// # Safety
+    ///
+    /// As for `hold`.
     #[cold]
     unsafe fn hold_all(&mut self) {
         self.count = self.report.token_count.min(MOST);
