@@ -94,7 +94,7 @@ impl Client {
     fn connect() -> Result<Client, Failure> {
         let tables = Tables::core()?.read(xdg_shell::TABLES)?.read(wayland::TABLES)?;
         let client = waywire::Client::new(&tables, &Sizes::default())?;
-        let mut link = Link::new(client, socket::connect(None)?);
+        let mut link = Link::new(client, socket::connect(None)?)?;
         let mut told = Told::default();
         let registry = WlDisplay(link.display()).get_registry(&mut link)?;
         link.round_trip(&mut told, WAIT)?;

@@ -264,8 +264,8 @@ fn main() -> Result<(), Failure> {
     let displays = (server.display(), client.display());
     let mut proxy = Proxy {
         tables,
-        client_side: Link::new(server, listener.accept_next()?),
-        compositor_side: Link::new(client, socket::connect(None)?),
+        client_side: Link::new(server, listener.accept_next()?)?,
+        compositor_side: Link::new(client, socket::connect(None)?)?,
         to_compositor: HashMap::new(),
         to_client: HashMap::new(),
         registry,

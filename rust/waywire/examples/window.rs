@@ -32,7 +32,7 @@ waywire::event_handler!(Told: wl_registry, xdg_surface);
 fn main() -> Result<(), Box<dyn Error>> {
     let tables = Tables::core()?.read(xdg_shell::TABLES)?;
     let client = Client::new(&tables, &Sizes::default())?;
-    let mut link = socket::Link::new(client, socket::connect(None)?);
+    let mut link = socket::Link::new(client, socket::connect(None)?)?;
     let mut told = Told::default();
     let registry = WlDisplay(link.display()).get_registry(&mut link)?;
     link.round_trip(&mut told, None)?;

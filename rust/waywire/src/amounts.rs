@@ -1,5 +1,8 @@
 //! Numbers of bytes and tokens.
 
+use crate::args::MAX_ARGS;
+use crate::socket::MOST_DESCRIPTORS;
+
 /// Numbers of bytes and of tokens.
 #[derive(Clone, Copy, Debug, Default, PartialEq, Eq, Hash)]
 #[repr(C)]
@@ -13,7 +16,8 @@ pub struct Amounts {
 /// The sizes of the outbox and the inbox of an end, which never grow. A token is a file descriptor.
 ///
 /// An outbox has at most 16,777,216 bytes and 65,536 tokens. An inbox has from `limit` to 16,777,216
-/// bytes, and from 20 to 65,536 tokens.
+/// bytes, and from 20 to 65,536 tokens. A [`Link`](crate::socket::Link) needs
+/// [more than the least](crate::socket::Link::new).
 #[derive(Clone, Copy, Debug, PartialEq, Eq, Hash)]
 #[repr(C)]
 pub struct Sizes {
@@ -33,6 +37,15 @@ pub struct Sizes {
 impl Sizes {
     /// The limit unless both ends use another: 4,096 bytes, as in libwayland.
     pub const USUAL_LIMIT: u32 = 4096;
+
+    /// Whether an end with these sizes can take what libwayland sends at once, and any message, even while the
+    /// descriptors of an incomplete message wait.
+    pub(crate) fn can_carry(&self) -> bool {
+        let limit = if self.limit == 0 { Sizes::USUAL_LIMIT } else { self.limit };
+        self.out_bytes >= limit as usize
+            && self.out_tokens >= MAX_ARGS
+            && self.in_tokens >= MOST_DESCRIPTORS + MAX_ARGS
+    }
 }
 
 impl Default for Sizes {

@@ -6,6 +6,9 @@ use std::fmt;
 use std::os::fd::{AsFd, AsRawFd, BorrowedFd, OwnedFd};
 use std::slice;
 
+/// The most arguments that a message can have, and so the most descriptors.
+pub const MAX_ARGS: usize = sys::MAX_ARGS as usize;
+
 /// A number in 256ths.
 #[derive(Clone, Copy, PartialEq, Eq, Hash, PartialOrd, Ord)]
 pub struct Fixed(i32);

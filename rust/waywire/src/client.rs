@@ -14,7 +14,7 @@ pub type Client = Connection<AsClient>;
 impl Client {
     /// A client that has only wl_display, with an empty inbox and an empty outbox.
     pub fn new(tables: &Tables, sizes: &Sizes) -> Result<Client, NewError> {
-        sys::End::new_client(&tables.0, sizes).map(|end| Connection::of(end, tables))
+        sys::End::new_client(&tables.0, sizes).map(|end| Connection::of(end, tables, sizes))
     }
 
     /// Binds a global that was announced, of this name and interface, and returns the new object.

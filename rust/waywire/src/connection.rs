@@ -1,6 +1,6 @@
 //! One end of a connection, and the calls that a client and a server both have.
 
-use crate::amounts::Amounts;
+use crate::amounts::{Amounts, Sizes};
 use crate::args::Arg;
 use crate::error::{Failed, SendError};
 use crate::sys;
@@ -57,6 +57,7 @@ use std::os::fd::{BorrowedFd, OwnedFd};
 pub struct Connection<R> {
     pub(crate) end: sys::End,
     pub(crate) tables: Tables,
+    pub(crate) sizes: Sizes,
     role: PhantomData<R>,
 }
 
@@ -70,8 +71,8 @@ pub enum AsServer {}
 
 impl<R> Connection<R> {
     /// A new connection of an end that was made for the role `R`.
-    pub(crate) fn of(end: sys::End, tables: &Tables) -> Connection<R> {
-        Connection { end, tables: tables.clone(), role: PhantomData }
+    pub(crate) fn of(end: sys::End, tables: &Tables, sizes: &Sizes) -> Connection<R> {
+        Connection { end, tables: tables.clone(), sizes: *sizes, role: PhantomData }
     }
 
     /// Its tables: those with which it was made, or those of the last

@@ -122,6 +122,21 @@ pub struct NoMemory;
 #[derive(Clone, Copy, Debug, PartialEq, Eq)]
 pub struct Failed;
 
+/// The inbox of a [`Link`](crate::socket::Link) has no room for what the socket may pass at once, which is a byte
+/// and [`MOST_DESCRIPTORS`](crate::socket::MOST_DESCRIPTORS) descriptors. It is inside the [`io::Error`] of
+/// [`Link::fill`](crate::socket::Link::fill), and of the calls that fill.
+///
+/// If all messages were read before, the inbox is full of the descriptors of a message that is not whole yet
+/// ([`Sizes`](crate::Sizes) says how many to allow for), or of some that belong to no message. Then the
+/// connection cannot go on.
+#[derive(Clone, Copy, Debug, PartialEq, Eq)]
+pub struct InboxFull;
+
+/// The queues of an end are too small for a [`Link`](crate::socket::Link), which
+/// [`Link::new`](crate::socket::Link::new) explains.
+#[derive(Clone, Copy, Debug, PartialEq, Eq)]
+pub struct TooSmall;
+
 /// What is wrong with a received message.
 #[derive(Clone, Copy, Debug, PartialEq, Eq)]
 pub struct Fault {
@@ -326,6 +341,18 @@ impl fmt::Display for Failed {
     }
 }
 
+impl fmt::Display for InboxFull {
+    fn fmt(&self, f: &mut fmt::Formatter<'_>) -> fmt::Result {
+        f.write_str("the inbox has no room for what the socket may pass")
+    }
+}
+
+impl fmt::Display for TooSmall {
+    fn fmt(&self, f: &mut fmt::Formatter<'_>) -> fmt::Result {
+        f.write_str("the end has too little room for a socket")
+    }
+}
+
 impl fmt::Display for Fault {
     fn fmt(&self, f: &mut fmt::Formatter<'_>) -> fmt::Result {
         write!(f, "message at byte {}: {}", self.offset, sys::text_of(self.kind.status()))?;
@@ -348,3 +375,5 @@ impl Error for GlobalError {}
 impl Error for NextError {}
 impl Error for NoMemory {}
 impl Error for Failed {}
+impl Error for InboxFull {}
+impl Error for TooSmall {}

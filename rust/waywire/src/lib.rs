@@ -196,12 +196,13 @@ pub mod typed;
 pub mod wayland;
 
 pub use amounts::{Amounts, Sizes};
-pub use args::{Arg, Args, Fixed, Value};
+pub use args::{Arg, Args, Fixed, Value, MAX_ARGS};
 pub use client::Client;
 pub use connection::{AsClient, AsServer, Connection, Waiting};
 pub use decoded::{Decoded, Spelled};
 pub use error::{
-    Failed, Fault, FaultKind, GlobalError, NewError, NextError, NoMemory, SendError, TablesError,
+    Failed, Fault, FaultKind, GlobalError, InboxFull, NewError, NextError, NoMemory, SendError,
+    TablesError, TooSmall,
 };
 pub use inspector::{Followed, Inspector, Judgement, Known, Made, Sender, Verdict};
 pub use owned::{OwnedMessage, OwnedValue};

@@ -154,6 +154,8 @@ pub struct ProtocolError<'a> {
     pub id: u32,
     /// That object, if the client knows it.
     pub named: Named,
+    /// The interface of that object, if the client knows it.
+    pub interface: Option<Interface>,
     /// Its code, whose meaning depends on the object's interface.
     pub code: u32,
     /// The text, which need not be UTF-8.
@@ -178,6 +180,8 @@ impl fmt::Display for ProtocolError<'_> {
     }
 }
 
+impl std::error::Error for ProtocolError<'_> {}
+
 impl<'a> Incoming<'a> {
     /// What a report says; `None` if no whole message waits.
     #[inline]
@@ -193,6 +197,7 @@ impl<'a> Incoming<'a> {
                 Incoming::Error(ProtocolError {
                     id: report.id(),
                     named: report.named(),
+                    interface: (report.version() != 0).then(|| report.interface()),
                     code: report.code(),
                     text: report.text(),
                 })

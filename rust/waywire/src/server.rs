@@ -14,7 +14,7 @@ pub type Server = Connection<AsServer>;
 impl Server {
     /// A server that has only wl_display, with an empty inbox, an empty outbox and no globals.
     pub fn new(tables: &Tables, sizes: &Sizes) -> Result<Server, NewError> {
-        sys::End::new_server(&tables.0, sizes).map(|end| Connection::of(end, tables))
+        sys::End::new_server(&tables.0, sizes).map(|end| Connection::of(end, tables, sizes))
     }
 
     /// Adds a global and returns its name. [`announce`](Server::announce) writes it to the registries.

@@ -9,9 +9,10 @@
 //! compositor has too many clients that it has not accepted. No other call waits.
 
 use crate::connection::{AsClient, Connection};
+use crate::error::{NextError, SendError, TooSmall};
 use crate::report::{Incoming, ProtocolError};
 use crate::sys::{self, Pollfd};
-use crate::tables::Object;
+use crate::tables::{Object, Tables};
 use crate::typed::EventHandler;
 use crate::wayland::wl_display::WlDisplay;
 use std::env;
@@ -138,7 +139,8 @@ pub fn receive(
 }
 
 /// Waits until one of these sockets can be read or, if its flag is set, be written. Returns which of them
-/// can. It waits at most for `limit`; `None` is no limit.
+/// can. It waits at most for `limit`; `None` is no limit. Without sockets and without a limit it never
+/// returns.
 ///
 /// For two links: `wait([a.awaited(), b.awaited()], None)`.
 pub fn wait<const N: usize>(
@@ -150,7 +152,8 @@ pub fn wait<const N: usize>(
     Ok(polled.map(|it| it.is_ready()))
 }
 
-/// The same for any number of sockets, such as those of a server's clients.
+/// The same for any number of sockets, such as those of a server's clients. If there may be none, give it a
+/// limit, or the socket of a [`Listener`].
 pub fn wait_many<'a>(
     sockets: impl IntoIterator<Item = (BorrowedFd<'a>, bool)>,
     limit: Option<Duration>,
@@ -293,12 +296,12 @@ impl AsFd for Listener {
 ///
 /// For a loop of your own: [`flush`](Link::flush), wait for what [`awaited`](Link::awaited) returns,
 /// [`fill`](Link::fill), and read all messages. If a server's `next` returns
-/// [`OutFull`](crate::NextError::OutFull), its client does not read: end the client, or do not fill before
+/// [`OutFull`](NextError::OutFull), its client does not read: end the client, or do not fill before
 /// a flush has sent something.
 #[derive(Debug)]
 pub struct Link<R> {
-    end: Connection<R>,
-    socket: UnixStream,
+    pub(crate) end: Connection<R>,
+    pub(crate) socket: UnixStream,
 }
 
 impl<R> Deref for Link<R> {
@@ -348,11 +351,41 @@ pub fn has_gone(error: &io::Error) -> bool {
     matches!(error.kind(), BrokenPipe | ConnectionReset | UnexpectedEof)
 }
 
+/// Whether an error of a [`Link`] passes. Nothing is lost then, the connection goes on, and the same call can
+/// be made again: the kernel had no room or no memory (`ENOBUFS`, `ENOMEM`, `ETOOMANYREFS`), there was no
+/// memory for a message ([`NextError::NoMemory`]), or the request of a round trip was not written
+/// ([`SendError::Full`], [`SendError::NoMemory`]).
+///
+/// After such an error, a socket may be ready to be written all the same. So do not wait for that, but call
+/// again some milliseconds later.
+pub fn is_temporary(error: &io::Error) -> bool {
+    let inner = error.get_ref();
+    let read = inner.and_then(|it| it.downcast_ref());
+    let sent = inner.and_then(|it| it.downcast_ref());
+    sys::had_no_room(error)
+        || matches!(read, Some(NextError::NoMemory))
+        || matches!(sent, Some(SendError::Full | SendError::NoMemory))
+}
+
 impl<R> Link<R> {
-    /// A link of an end and its connected socket. The inbox of the end needs room for
-    /// [`MOST_DESCRIPTORS`] tokens; otherwise nothing is received.
-    pub fn new(end: Connection<R>, socket: UnixStream) -> Link<R> {
-        Link { end, socket }
+    /// A link of an end and its connected socket.
+    ///
+    /// # Errors
+    ///
+    /// [`TooSmall`] unless the [`Sizes`](crate::Sizes) of the end have room for any message, and for what
+    /// libwayland sends at once: an outbox of [`limit`](crate::Sizes::limit) bytes and
+    /// [`MAX_ARGS`](crate::MAX_ARGS) tokens, and an inbox of [`MOST_DESCRIPTORS`] tokens and `MAX_ARGS` more,
+    /// which is 48. The end and the socket are closed then.
+    pub fn new(end: Connection<R>, socket: UnixStream) -> Result<Link<R>, TooSmall> {
+        if !end.sizes.can_carry() {
+            return Err(TooSmall);
+        }
+        Ok(Link { end, socket })
+    }
+
+    /// The end and the socket. This sends nothing, and closes nothing.
+    pub fn into_parts(self) -> (Connection<R>, UnixStream) {
+        sys::parts(self)
     }
 
     /// The socket.
@@ -371,7 +404,13 @@ impl<R> Link<R> {
     }
 
     /// Sends what waits, also at a failed end, and closes the descriptors that were sent. It does not wait:
-    /// it returns false if the socket takes no more now. What was not sent still waits.
+    /// it returns false if the socket takes no more now. What was not sent still waits, also after an error.
+    ///
+    /// # Errors
+    ///
+    /// An error [passes](is_temporary) if the kernel has no room now: flush again some milliseconds later. If
+    /// the other end [has gone](has_gone), what it said before can still be read. Any other error ends the
+    /// connection.
     pub fn flush(&mut self) -> io::Result<bool> {
         match self.end.end.flush(self.socket.as_fd()) {
             Err(error) if error.kind() == ErrorKind::WouldBlock => Ok(false),
@@ -382,10 +421,14 @@ impl<R> Link<R> {
     /// Receives once. Read all messages before. It does not wait: [`Came::Nothing`] if nothing is there
     /// yet.
     ///
-    /// It returns the errors of the socket, an error if the inbox has no room, for example because
-    /// descriptors came that belong to no message, and an error if the end has failed. If the process may
-    /// open no more descriptors, or more than [`MOST_DESCRIPTORS`] came at once, some are lost, and the end
-    /// has failed afterwards.
+    /// # Errors
+    ///
+    /// An error [passes](is_temporary) if the kernel has no memory now. Any other error ends the connection:
+    ///
+    /// - [`InboxFull`](crate::InboxFull), for example because descriptors came that belong to no message;
+    /// - [`Failed`](crate::Failed) if the end has failed;
+    /// - an error of the socket. If the process may open no more descriptors, or more than
+    ///   [`MOST_DESCRIPTORS`] came at once, some are lost, and the end has failed afterwards.
     pub fn fill(&mut self) -> io::Result<Came> {
         match self.end.end.fill(self.socket.as_fd()) {
             Ok(0) => Ok(Came::End),
@@ -411,6 +454,12 @@ impl<R> Link<R> {
 
     /// Sends what waits, and waits until something comes, at most for `limit`; `None` is no limit. Read all
     /// messages before. While it waits, it goes on sending.
+    ///
+    /// # Errors
+    ///
+    /// Those of [`flush`](Link::flush) and [`fill`](Link::fill), except that [`Came::End`] says that the other
+    /// end has gone. An error that [passes](is_temporary) comes at once, before the limit: nothing is lost, so
+    /// wait again some milliseconds later.
     pub fn wait(&mut self, limit: Option<Duration>) -> io::Result<Came> {
         let until = Deadline::of(limit);
         loop {
@@ -431,10 +480,24 @@ impl<R> Link<R> {
 pub struct PostedError {
     /// The id of the object that it is about.
     pub id: u32,
+    /// The name of that object's interface, if the client knows the object.
+    pub interface: Option<String>,
     /// Its code, whose meaning depends on the object's interface.
     pub code: u32,
-    /// The whole error in words.
+    /// The whole error in words, as in C: `wl_surface@4: error 2: bad scale`. If the client does not know
+    /// the object, `object` replaces the name of its interface.
     pub text: String,
+}
+
+impl PostedError {
+    /// An error that a client has read, in memory of its own. The tables are the client's.
+    pub fn of(error: &ProtocolError<'_>, tables: &Tables) -> PostedError {
+        let (id, code) = (error.id, error.code);
+        let interface = error.interface.and_then(|it| tables.name(it)).map(String::from);
+        let name = interface.as_deref().unwrap_or("object");
+        let text = format!("{name}@{id}: error {code}: {}", String::from_utf8_lossy(error.text));
+        PostedError { id, interface, code, text }
+    }
 }
 
 impl fmt::Display for PostedError {
@@ -445,12 +508,6 @@ impl fmt::Display for PostedError {
 
 impl std::error::Error for PostedError {}
 
-impl From<ProtocolError<'_>> for PostedError {
-    fn from(error: ProtocolError<'_>) -> PostedError {
-        PostedError { id: error.id, code: error.code, text: error.to_string() }
-    }
-}
-
 impl Link<AsClient> {
     /// Gives the events that were read to the handler. If there are none, it waits for some, at most for
     /// `limit`; `None` is no limit. Returns how many messages there were, 0 if the time is over.
@@ -459,8 +516,12 @@ impl Link<AsClient> {
     /// made stays open, as does the object of a discarded event. The handler does not learn which objects
     /// end: if you keep data for objects, read with `next` yourself.
     ///
-    /// An error ends the connection: [`UnexpectedEof`](io::ErrorKind::UnexpectedEof) if the compositor has
-    /// closed it, [`PostedError`], or [`NextError`](crate::NextError).
+    /// # Errors
+    ///
+    /// An error [passes](is_temporary) if there is no memory for a message, or the kernel has no room or no
+    /// memory now. Nothing is lost, so dispatch again some milliseconds later. Any other error ends the
+    /// connection: [`UnexpectedEof`](io::ErrorKind::UnexpectedEof) if the compositor has closed it,
+    /// [`PostedError`], [`NextError`], or an error of [`fill`](Link::fill) or [`flush`](Link::flush).
     pub fn dispatch(
         &mut self,
         handler: &mut impl EventHandler,
@@ -478,10 +539,12 @@ impl Link<AsClient> {
     /// Dispatches until the compositor has read all that was written before (wl_display.sync). The
     /// handler does not get the event of the sync.
     ///
-    /// The error is [`TimedOut`](io::ErrorKind::TimedOut) if that takes longer than `limit`; if the answer
-    /// comes later, the handler gets it. The error is [`SendError`](crate::SendError) if the sync cannot be
-    /// written. The other errors are those of
-    /// [`dispatch`](Link::dispatch).
+    /// # Errors
+    ///
+    /// [`TimedOut`](io::ErrorKind::TimedOut) if that takes longer than `limit`: the connection goes on, and if
+    /// the answer comes later, the handler gets it. [`SendError`] if the sync cannot be written; nothing has
+    /// changed then. The other errors are those of [`dispatch`](Link::dispatch). After one that
+    /// [passes](is_temporary), the next call sends a new sync, and the handler gets the answer to the first.
     pub fn round_trip(
         &mut self,
         handler: &mut impl EventHandler,
@@ -527,7 +590,9 @@ impl Link<AsClient> {
                     let _is_taken = handler.dispatch_event(&tables, &mut event);
                 }
                 Incoming::Deleted(object) => has_ended |= ended == Some(object),
-                Incoming::Error(error) => return Err(io::Error::other(PostedError::from(error))),
+                Incoming::Error(error) => {
+                    return Err(io::Error::other(PostedError::of(&error, &tables)));
+                }
                 Incoming::Discarded(_) | Incoming::Stray { .. } => {}
             }
         }

@@ -35,7 +35,9 @@ pub use decoded::Decoded;
 pub use end::{End, Going};
 pub use inspector::{Followed, Inspector};
 pub use reading::Reading;
-pub use socket::{connect, has_lost, inherited, poll, receive, send, Listening, Pollfd};
+pub use socket::{
+    connect, had_no_room, has_lost, inherited, parts, poll, receive, send, Listening, Pollfd,
+};
 pub use tables::Tables;
 use tables::{tables_error, RawTables};
 

@@ -265,7 +265,7 @@ fn lost_descriptors_fail_the_end() {
     let _alone = alone();
     let (its, other) = UnixStream::pair().unwrap();
     let client = Client::new(&Tables::core().unwrap(), &Sizes::default()).unwrap();
-    let mut link = Link::new(client, its);
+    let mut link = Link::new(client, its).unwrap();
     let lent = numbered(7);
     let before = open_descriptors();
     let too_many = [lent.as_fd(); socket::MOST_DESCRIPTORS + 1];

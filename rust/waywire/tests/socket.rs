@@ -4,18 +4,21 @@
 mod common;
 
 use common::{number_of, numbered};
-use std::io::{ErrorKind, Read};
+use std::io::{self, ErrorKind, Read};
 use std::os::fd::{AsFd, AsRawFd, OwnedFd};
 use std::os::unix::net::UnixStream;
 use std::path::{Path, PathBuf};
 use std::time::{Duration, Instant};
 use std::{env, fs, thread};
-use waywire::socket::{self, has_gone, BindError, Came, ConnectError, Link, Listener, PostedError};
+use waywire::socket::{
+    self, has_gone, is_temporary, BindError, Came, ConnectError, Link, Listener, PostedError,
+};
 use waywire::wayland::wl_callback::{self, WlCallback};
 use waywire::wayland::wl_display::{self, WlDisplay};
 use waywire::wayland::wl_registry::{self, WlRegistry};
 use waywire::{
-    AsClient, AsServer, Client, NextError, RequestHandler, SendError, Server, Sizes, Tables,
+    AsClient, AsServer, Client, InboxFull, Incoming, NextError, RequestHandler, SendError, Server,
+    Sizes, Tables,
 };
 
 const SOON: Option<Duration> = Some(Duration::from_millis(20));
@@ -26,7 +29,7 @@ fn pair() -> (Link<AsClient>, Link<AsServer>) {
     let (its, other) = UnixStream::pair().unwrap();
     let client = Client::new(&tables, &Sizes::default()).unwrap();
     let server = Server::new(&tables, &Sizes::default()).unwrap();
-    (Link::new(client, its), Link::new(server, other))
+    (Link::new(client, its).unwrap(), Link::new(server, other).unwrap())
 }
 
 /// A server that answers each sync.
@@ -100,11 +103,12 @@ waywire::event_handler!(Done: wl_callback);
 fn a_round_trip_makes_room() {
     let tables = Tables::core().unwrap();
     let (its, other) = UnixStream::pair().unwrap();
-    let sizes = Sizes { out_bytes: 120, ..Sizes::default() };
-    let mut client = Link::new(Client::new(&tables, &sizes).unwrap(), its);
-    let server = Link::new(Server::new(&tables, &Sizes::default()).unwrap(), other);
+    let sizes = Sizes { out_bytes: 4096, ..Sizes::default() };
+    let mut client = Link::new(Client::new(&tables, &sizes).unwrap(), its).unwrap();
+    let server = Server::new(&tables, &Sizes::default()).unwrap();
+    let server = Link::new(server, other).unwrap();
     let display = WlDisplay(client.display());
-    let callbacks: Vec<_> = (0..10).map(|_| display.sync(&mut client).unwrap()).collect();
+    let callbacks: Vec<_> = (0..4096 / 12).map(|_| display.sync(&mut client).unwrap()).collect();
     assert_eq!(display.sync(&mut client), Err(SendError::Full));
     let server = thread::spawn(move || Answering(server).run());
     let mut done = Done::default();
@@ -187,8 +191,31 @@ fn what_ends_a_connection_is_said() {
     let posted = client.round_trip(&mut (), LONG).unwrap_err();
     let posted: &PostedError = posted.get_ref().unwrap().downcast_ref().unwrap();
     assert_eq!((posted.id, posted.code), (1, 3));
-    assert_eq!(posted.to_string(), "error 3 of object 1: no memory");
+    assert_eq!(posted.interface.as_deref(), Some("wl_display"));
+    assert_eq!(posted.to_string(), "wl_display@1: error 3: no memory");
     assert_eq!(WlDisplay(client.display()).sync(&mut client), Err(SendError::Failed));
+
+    // An error about an object that the client does not know.
+    let (mut client, server) = pair();
+    let error = [1, 0, 0, 0, 0, 0, 24, 0, 9, 0, 0, 0, 2, 0, 0, 0, 4, 0, 0, 0];
+    socket::send(&server, [&error, b"bad\0"], &[]).unwrap();
+    let posted = client.dispatch(&mut (), LONG).unwrap_err();
+    let posted: &PostedError = posted.get_ref().unwrap().downcast_ref().unwrap();
+    assert_eq!((posted.id, &posted.interface), (9, &None));
+    assert_eq!(posted.to_string(), "object@9: error 2: bad");
+
+    let (mut client, mut server) = pair();
+    let display = server.display();
+    server.post_error(display, 0, "").unwrap();
+    server.flush().unwrap();
+    assert_eq!(client.wait(LONG).unwrap(), Came::Something);
+    let of_display = client.tables().interface("wl_display");
+    match client.next().unwrap() {
+        Some(Incoming::Error(error)) => {
+            assert_eq!((error.id, error.interface), (1, of_display));
+        }
+        other => panic!("{other:?}"),
+    }
 
     let (mut client, server) = pair();
     socket::send(&server, [&[9, 0, 0, 0], &[0, 0, 8, 0]], &[]).unwrap();
@@ -231,6 +258,69 @@ fn a_socket_that_takes_no_more_is_waited_for() {
     assert_eq!(client.wait(LONG).unwrap(), Came::Something);
     assert!(!client.wants_write());
     assert_eq!(reader.join().unwrap(), syncs);
+}
+
+/// A link needs room for any message, and for what libwayland sends at once.
+#[test]
+fn a_link_with_too_little_room_is_refused() {
+    let tables = Tables::core().unwrap();
+    let is_refused = |sizes: Sizes| {
+        let (its, other) = UnixStream::pair().unwrap();
+        let client = Link::new(Client::new(&tables, &sizes).unwrap(), its);
+        let server = Link::new(Server::new(&tables, &sizes).unwrap(), other);
+        assert_eq!(client.is_err(), server.is_err());
+        client.is_err()
+    };
+    let least =
+        Sizes { out_bytes: 8192, out_tokens: 20, in_bytes: 8192, in_tokens: 48, limit: 8192 };
+    assert!(!is_refused(least));
+    assert!(!is_refused(Sizes { out_bytes: 4096, in_bytes: 4096, limit: 0, ..least }));
+    assert!(is_refused(Sizes { out_bytes: 8191, ..least }));
+    assert!(is_refused(Sizes { out_bytes: 4095, limit: 0, ..least }));
+    assert!(is_refused(Sizes { out_tokens: 19, ..least }));
+    assert!(is_refused(Sizes { in_tokens: 47, ..least }));
+}
+
+/// The socket stays open, and what waits goes on waiting.
+#[test]
+fn a_link_is_taken_apart() {
+    let (mut client, mut server) = pair();
+    WlDisplay(client.display()).sync(&mut client).unwrap();
+    let (end, its) = client.into_parts();
+    assert!(!end.is_drained());
+    assert_eq!(server.fill().unwrap(), Came::Nothing);
+    let mut client = Link::new(end, its).unwrap();
+    assert!(client.flush().unwrap());
+    assert_eq!(server.fill().unwrap(), Came::Something);
+    assert!(server.next().unwrap().is_some());
+}
+
+/// Descriptors that belong to no message fill the inbox, and the next call that fills says so.
+#[test]
+fn a_full_inbox_is_an_error() {
+    let tables = Tables::core().unwrap();
+    let (its, other) = UnixStream::pair().unwrap();
+    let sizes = Sizes { in_tokens: 48, ..Sizes::default() };
+    let mut client = Link::new(Client::new(&tables, &sizes).unwrap(), its).unwrap();
+    let given = numbered(1);
+    socket::send(&other, [&[1, 0, 0, 0], &[]], &[given.as_fd(); 28]).unwrap();
+    assert_eq!(client.fill().unwrap(), Came::Something);
+    let full = client.fill().unwrap_err();
+    assert!(full.get_ref().is_some_and(|it| it.is::<InboxFull>()) && !is_temporary(&full));
+    socket::send(&other, [&[0], &[]], &[]).unwrap();
+    let full = client.dispatch(&mut (), LONG).unwrap_err();
+    assert!(full.get_ref().is_some_and(|it| it.is::<InboxFull>()));
+}
+
+#[test]
+fn some_errors_pass() {
+    let passes = |number| is_temporary(&io::Error::from_raw_os_error(number));
+    // ENOBUFS, ENOMEM, ETOOMANYREFS; EPIPE, EMFILE.
+    assert!([105, 12, 109].into_iter().all(passes) && ![32, 24].into_iter().any(passes));
+    assert!(is_temporary(&io::Error::other(NextError::NoMemory)));
+    assert!(is_temporary(&io::Error::other(SendError::Full)));
+    assert!(!is_temporary(&io::Error::other(NextError::Failed)));
+    assert!(!is_temporary(&ErrorKind::UnexpectedEof.into()));
 }
 
 #[test]
@@ -340,7 +430,7 @@ fn sockets_have_names() {
     other.set_read_timeout(LONG).unwrap();
     env::set_var("WAYLAND_SOCKET", its.as_raw_fd().to_string());
     let client = Client::new(&Tables::core().unwrap(), &Sizes::default()).unwrap();
-    let mut link = Link::new(client, socket::connect(None).unwrap());
+    let mut link = Link::new(client, socket::connect(None).unwrap()).unwrap();
     assert_eq!(env::var_os("WAYLAND_SOCKET"), None);
     assert_ne!(link.socket().as_raw_fd(), its.as_raw_fd());
     WlDisplay(link.display()).sync(&mut link).unwrap();

@@ -71,7 +71,7 @@ impl Client {
             server.add_global(interface, *version)?;
         }
         Ok(Client {
-            link: Link::new(server, socket),
+            link: Link::new(server, socket)?,
             windows: Windows::default(),
             seat: Seat::default(),
             board: Board::default(),

@@ -2,13 +2,17 @@
 
 use super::end::{End, RawEnd, RawPart};
 use super::SOCKET_DESCRIPTORS;
-use crate::error::Failed;
+use crate::connection::Connection;
+use crate::error::{Failed, InboxFull};
+use crate::socket::Link;
 use std::ffi::{c_char, c_int, c_ulong, c_void, CString};
 use std::io;
+use std::mem::ManuallyDrop;
 use std::os::fd::{AsRawFd, BorrowedFd, FromRawFd, OwnedFd, RawFd};
 use std::os::unix::ffi::OsStrExt;
+use std::os::unix::net::UnixStream;
 use std::path::Path;
-use std::ptr::NonNull;
+use std::ptr::{self, NonNull};
 
 /// The most descriptors that come at once.
 const MOST: usize = SOCKET_DESCRIPTORS as usize;
@@ -23,6 +27,12 @@ const BEHIND_STREAMS: c_int = 3;
 const EMFILE: i32 = 24;
 /// More descriptors came than there was room for.
 const EOVERFLOW: i32 = 75;
+/// The kernel has no memory now.
+const ENOMEM: i32 = 12;
+/// The kernel has no room for a message now.
+const ENOBUFS: i32 = 105;
+/// Too many descriptors of this user are on their way now.
+const ETOOMANYREFS: i32 = 109;
 
 const POLLIN: i16 = 1;
 const POLLOUT: i16 = 4;
@@ -66,6 +76,11 @@ extern "C" {
 /// Whether bytes and descriptors that came are lost with this error of receiving.
 pub fn has_lost(error: &io::Error) -> bool {
     matches!(error.raw_os_error(), Some(EMFILE | EOVERFLOW))
+}
+
+/// Whether the kernel had no room or no memory. Nothing is lost then.
+pub fn had_no_room(error: &io::Error) -> bool {
+    matches!(error.raw_os_error(), Some(ENOMEM | ENOBUFS | ETOOMANYREFS))
 }
 
 /// The number of bytes that a call returns, or the error that it leaves.
@@ -165,9 +180,21 @@ impl End {
         if self.has_failed() {
             return Err(io::Error::other(Failed));
         }
+        let room = self.in_room();
+        if room.bytes == 0 || room.tokens < MOST {
+            return Err(io::Error::other(InboxFull));
+        }
         // Safety: the end is the library's, and becomes the owner of its tokens.
         counted(unsafe { waywire_socket_fill(socket.as_raw_fd(), self.at()) })
     }
+}
+
+/// The parts of a link, whose drop does not run.
+pub fn parts<R>(link: Link<R>) -> (Connection<R>, UnixStream) {
+    let link = ManuallyDrop::new(link);
+    let Link { end, socket } = &*link;
+    // Safety: each part is moved out once, and the link is neither used nor dropped any more.
+    unsafe { (ptr::read(end), ptr::read(socket)) }
 }
 
 /// A socket at which clients connect, closed when it is dropped.
@@ -247,6 +274,9 @@ pub(super) mod tests {
             ("F_DUPFD_CLOEXEC", F_DUPFD_CLOEXEC),
             ("EMFILE", EMFILE),
             ("EOVERFLOW", EOVERFLOW),
+            ("ENOMEM", ENOMEM),
+            ("ENOBUFS", ENOBUFS),
+            ("ETOOMANYREFS", ETOOMANYREFS),
             ("POLLIN", POLLIN.into()),
             ("POLLOUT", POLLOUT.into()),
         ];
