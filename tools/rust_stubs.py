@@ -306,10 +306,8 @@ class Module:
         self.say(*wrapped("    ", f"pub fn handle_{side}", [parameters[0], parameters[2]], " -> bool {"),
                  f"        {side}_of(handler, message).is_some()", "    }", "")
         self.say(*wrapped("    ", f"fn {side}_of", [parameters[0], parameters[2]], " -> Option<()> {"))
-        self.say(f"        let (target, opcode) = ({type_name(interface.name)}(message.target()), message.opcode());")
-        if any(it.args for it in messages):
-            self.say("        let mut fields = waywire::typed::fields(message);")
-        self.say("        match opcode {")
+        self.say(f"        let (target, opcode) = ({type_name(interface.name)}(message.target()), message.opcode());",
+                 "        let mut fields = waywire::typed::fields(message);", "        match opcode {")
         for it in messages:
             self.call(interface, side, it)
         self.say("            _ => return None,", "        }", "        Some(())", "    }")
@@ -330,19 +328,21 @@ class Module:
         self.say("    }")
 
     def call(self, interface, side, message):
-        """The arm that reads the arguments of a message and calls its method."""
-        head = f"{side}::{constant(message.name)} =>"
-        call = f"handler.{word(message.name)}"
-        if side == "event" or all(it.type != "new_id" or it.interface for it in message.args):
-            given = ["target", *(self.read(interface, it) for it in message.args)]
-            self.say(*wrapped("            ", f"{head} {call}", given, ","))
-            return
-        others = [it for it in message.args if it.type != "new_id"]
-        given = ["target", *map(self.name, others), "interface", "version", "object"]
-        self.say(f"            {head} {{",
-                 *(f"                let {self.name(it)} = {self.read(interface, it)};" for it in others),
-                 "                let (interface, version, object) = fields.bound()?;",
-                 f"                {call}({', '.join(given)})", "            }")
+        """The arm that reads the arguments of a message, requires that there are no more, and calls its method."""
+        self.say(f"            {side}::{constant(message.name)} => {{")
+        given = ["target"]
+        for it in message.args:
+            if side == "request" and it.type == "new_id" and it.interface is None:
+                names, value = ["interface", "version", "object"], "fields.bound()?"
+            else:
+                names, value = [word(it.name, OWN | {"target"})], self.read(interface, it)
+            pattern = names[0] if len(names) == 1 else f"({', '.join(names)})"
+            line = f"                let {pattern} = {value};"
+            self.say(*([line] if len(line) <= WIDTH else
+                       [f"                let {pattern} =", f"                    {value};"]))
+            given += names
+        self.say("                fields.none_left()?;",
+                 *wrapped("                ", f"handler.{word(message.name)}", given, ";"), "            }")
 
     def interface(self, interface):
         name = type_name(interface.name)

@@ -18,6 +18,9 @@ pub struct OwnedMessage {
     pub version: u32,
     /// Which message of the interface it is.
     pub opcode: u16,
+    /// Whether it is wl_registry.global and the client does not remember the global:
+    /// [`Message::is_forgotten`].
+    pub is_forgotten: bool,
     /// Its arguments, in order.
     pub args: Vec<OwnedValue>,
 }
@@ -110,13 +113,18 @@ impl From<Value<'_, OwnedFd>> for OwnedValue {
 }
 
 impl Message<'_> {
-    /// A copy in memory of its own, with the descriptors, so that the end can be used while you read it.
+    /// A copy in memory of its own, so that the end can be used while you read it. The descriptors among the
+    /// arguments move into the copy.
+    ///
+    /// A [discarded](crate::Incoming::Discarded) event has no arguments, so its copy has no descriptors: they
+    /// are closed when the end reads on. [`take_descriptor`](Message::take_descriptor) takes them before.
     pub fn into_owned(mut self) -> OwnedMessage {
         OwnedMessage {
             target: self.target(),
             interface: self.interface(),
             version: self.version(),
             opcode: self.opcode(),
+            is_forgotten: self.is_forgotten(),
             args: self.take_args().map(OwnedValue::from).collect(),
         }
     }

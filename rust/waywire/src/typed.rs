@@ -320,6 +320,12 @@ impl<'a, I: Iterator<Item = Value<'a, OwnedFd>>> Fields<I> {
         new_object: NewId -> Object;
     }
 
+    /// `None` if an argument is left: then the message has more arguments than were read.
+    #[inline]
+    pub fn none_left(&mut self) -> Option<()> {
+        self.0.next().is_none().then_some(())
+    }
+
     /// A descriptor, unless it was taken before.
     #[inline]
     pub fn fd(&mut self) -> Option<OwnedFd> {

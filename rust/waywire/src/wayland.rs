@@ -138,14 +138,16 @@ pub mod wl_display {
         let (target, opcode) = (WlDisplay(message.target()), message.opcode());
         let mut fields = waywire::typed::fields(message);
         match opcode {
-            request::SYNC => handler.sync(
-                target,
-                super::wl_callback::WlCallback(fields.new_object()?),
-            ),
-            request::GET_REGISTRY => handler.get_registry(
-                target,
-                super::wl_registry::WlRegistry(fields.new_object()?),
-            ),
+            request::SYNC => {
+                let callback = super::wl_callback::WlCallback(fields.new_object()?);
+                fields.none_left()?;
+                handler.sync(target, callback);
+            }
+            request::GET_REGISTRY => {
+                let registry = super::wl_registry::WlRegistry(fields.new_object()?);
+                fields.none_left()?;
+                handler.get_registry(target, registry);
+            }
             _ => return None,
         }
         Some(())
@@ -241,13 +243,18 @@ pub mod wl_registry {
         let (target, opcode) = (WlRegistry(message.target()), message.opcode());
         let mut fields = waywire::typed::fields(message);
         match opcode {
-            event::GLOBAL => handler.global(
-                target,
-                fields.uint()?,
-                fields.string()?,
-                fields.uint()?,
-            ),
-            event::GLOBAL_REMOVE => handler.global_remove(target, fields.uint()?),
+            event::GLOBAL => {
+                let name = fields.uint()?;
+                let interface = fields.string()?;
+                let version = fields.uint()?;
+                fields.none_left()?;
+                handler.global(target, name, interface, version);
+            }
+            event::GLOBAL_REMOVE => {
+                let name = fields.uint()?;
+                fields.none_left()?;
+                handler.global_remove(target, name);
+            }
             _ => return None,
         }
         Some(())
@@ -293,7 +300,8 @@ pub mod wl_registry {
             request::BIND => {
                 let name = fields.uint()?;
                 let (interface, version, object) = fields.bound()?;
-                handler.bind(target, name, interface, version, object)
+                fields.none_left()?;
+                handler.bind(target, name, interface, version, object);
             }
             _ => return None,
         }
@@ -381,7 +389,11 @@ pub mod wl_callback {
         let (target, opcode) = (WlCallback(message.target()), message.opcode());
         let mut fields = waywire::typed::fields(message);
         match opcode {
-            event::DONE => handler.done(target, fields.uint()?),
+            event::DONE => {
+                let callback_data = fields.uint()?;
+                fields.none_left()?;
+                handler.done(target, callback_data);
+            }
             _ => return None,
         }
         Some(())
@@ -482,14 +494,16 @@ pub mod wl_compositor {
         let (target, opcode) = (WlCompositor(message.target()), message.opcode());
         let mut fields = waywire::typed::fields(message);
         match opcode {
-            request::CREATE_SURFACE => handler.create_surface(
-                target,
-                super::wl_surface::WlSurface(fields.new_object()?),
-            ),
-            request::CREATE_REGION => handler.create_region(
-                target,
-                super::wl_region::WlRegion(fields.new_object()?),
-            ),
+            request::CREATE_SURFACE => {
+                let id = super::wl_surface::WlSurface(fields.new_object()?);
+                fields.none_left()?;
+                handler.create_surface(target, id);
+            }
+            request::CREATE_REGION => {
+                let id = super::wl_region::WlRegion(fields.new_object()?);
+                fields.none_left()?;
+                handler.create_region(target, id);
+            }
             _ => return None,
         }
         Some(())
@@ -965,7 +979,11 @@ pub mod wl_shm {
         let (target, opcode) = (WlShm(message.target()), message.opcode());
         let mut fields = waywire::typed::fields(message);
         match opcode {
-            event::FORMAT => handler.format(target, Format(fields.uint()?)),
+            event::FORMAT => {
+                let format = Format(fields.uint()?);
+                fields.none_left()?;
+                handler.format(target, format);
+            }
             _ => return None,
         }
         Some(())
@@ -1014,13 +1032,17 @@ pub mod wl_shm {
         let (target, opcode) = (WlShm(message.target()), message.opcode());
         let mut fields = waywire::typed::fields(message);
         match opcode {
-            request::CREATE_POOL => handler.create_pool(
-                target,
-                super::wl_shm_pool::WlShmPool(fields.new_object()?),
-                fields.fd()?,
-                fields.int()?,
-            ),
-            request::RELEASE => handler.release(target),
+            request::CREATE_POOL => {
+                let id = super::wl_shm_pool::WlShmPool(fields.new_object()?);
+                let fd = fields.fd()?;
+                let size = fields.int()?;
+                fields.none_left()?;
+                handler.create_pool(target, id, fd, size);
+            }
+            request::RELEASE => {
+                fields.none_left()?;
+                handler.release(target);
+            }
             _ => return None,
         }
         Some(())
@@ -1158,17 +1180,25 @@ pub mod wl_shm_pool {
         let (target, opcode) = (WlShmPool(message.target()), message.opcode());
         let mut fields = waywire::typed::fields(message);
         match opcode {
-            request::CREATE_BUFFER => handler.create_buffer(
-                target,
-                super::wl_buffer::WlBuffer(fields.new_object()?),
-                fields.int()?,
-                fields.int()?,
-                fields.int()?,
-                fields.int()?,
-                super::wl_shm::Format(fields.uint()?),
-            ),
-            request::DESTROY => handler.destroy(target),
-            request::RESIZE => handler.resize(target, fields.int()?),
+            request::CREATE_BUFFER => {
+                let id = super::wl_buffer::WlBuffer(fields.new_object()?);
+                let offset = fields.int()?;
+                let width = fields.int()?;
+                let height = fields.int()?;
+                let stride = fields.int()?;
+                let format = super::wl_shm::Format(fields.uint()?);
+                fields.none_left()?;
+                handler.create_buffer(target, id, offset, width, height, stride, format);
+            }
+            request::DESTROY => {
+                fields.none_left()?;
+                handler.destroy(target);
+            }
+            request::RESIZE => {
+                let size = fields.int()?;
+                fields.none_left()?;
+                handler.resize(target, size);
+            }
             _ => return None,
         }
         Some(())
@@ -1255,8 +1285,12 @@ pub mod wl_buffer {
 
     fn event_of(handler: &mut impl Events, message: &mut impl waywire::Readable) -> Option<()> {
         let (target, opcode) = (WlBuffer(message.target()), message.opcode());
+        let mut fields = waywire::typed::fields(message);
         match opcode {
-            event::RELEASE => handler.release(target),
+            event::RELEASE => {
+                fields.none_left()?;
+                handler.release(target);
+            }
             _ => return None,
         }
         Some(())
@@ -1292,8 +1326,12 @@ pub mod wl_buffer {
 
     fn request_of(handler: &mut impl Requests, message: &mut impl waywire::Readable) -> Option<()> {
         let (target, opcode) = (WlBuffer(message.target()), message.opcode());
+        let mut fields = waywire::typed::fields(message);
         match opcode {
-            request::DESTROY => handler.destroy(target),
+            request::DESTROY => {
+                fields.none_left()?;
+                handler.destroy(target);
+            }
             _ => return None,
         }
         Some(())
@@ -1667,13 +1705,26 @@ pub mod wl_surface {
         let (target, opcode) = (WlSurface(message.target()), message.opcode());
         let mut fields = waywire::typed::fields(message);
         match opcode {
-            event::ENTER => handler.enter(target, super::wl_output::WlOutput(fields.object()?)),
-            event::LEAVE => handler.leave(target, super::wl_output::WlOutput(fields.object()?)),
-            event::PREFERRED_BUFFER_SCALE => handler.preferred_buffer_scale(target, fields.int()?),
-            event::PREFERRED_BUFFER_TRANSFORM => handler.preferred_buffer_transform(
-                target,
-                fields.uint()?,
-            ),
+            event::ENTER => {
+                let output = super::wl_output::WlOutput(fields.object()?);
+                fields.none_left()?;
+                handler.enter(target, output);
+            }
+            event::LEAVE => {
+                let output = super::wl_output::WlOutput(fields.object()?);
+                fields.none_left()?;
+                handler.leave(target, output);
+            }
+            event::PREFERRED_BUFFER_SCALE => {
+                let factor = fields.int()?;
+                fields.none_left()?;
+                handler.preferred_buffer_scale(target, factor);
+            }
+            event::PREFERRED_BUFFER_TRANSFORM => {
+                let transform = fields.uint()?;
+                fields.none_left()?;
+                handler.preferred_buffer_transform(target, transform);
+            }
             _ => return None,
         }
         Some(())
@@ -1794,46 +1845,68 @@ pub mod wl_surface {
         let (target, opcode) = (WlSurface(message.target()), message.opcode());
         let mut fields = waywire::typed::fields(message);
         match opcode {
-            request::DESTROY => handler.destroy(target),
-            request::ATTACH => handler.attach(
-                target,
-                fields.nullable_object()?.map(super::wl_buffer::WlBuffer),
-                fields.int()?,
-                fields.int()?,
-            ),
-            request::DAMAGE => handler.damage(
-                target,
-                fields.int()?,
-                fields.int()?,
-                fields.int()?,
-                fields.int()?,
-            ),
-            request::FRAME => handler.frame(
-                target,
-                super::wl_callback::WlCallback(fields.new_object()?),
-            ),
-            request::SET_OPAQUE_REGION => handler.set_opaque_region(
-                target,
-                fields.nullable_object()?.map(super::wl_region::WlRegion),
-            ),
-            request::SET_INPUT_REGION => handler.set_input_region(
-                target,
-                fields.nullable_object()?.map(super::wl_region::WlRegion),
-            ),
-            request::COMMIT => handler.commit(target),
-            request::SET_BUFFER_TRANSFORM => handler.set_buffer_transform(
-                target,
-                super::wl_output::Transform(fields.int()? as u32),
-            ),
-            request::SET_BUFFER_SCALE => handler.set_buffer_scale(target, fields.int()?),
-            request::DAMAGE_BUFFER => handler.damage_buffer(
-                target,
-                fields.int()?,
-                fields.int()?,
-                fields.int()?,
-                fields.int()?,
-            ),
-            request::OFFSET => handler.offset(target, fields.int()?, fields.int()?),
+            request::DESTROY => {
+                fields.none_left()?;
+                handler.destroy(target);
+            }
+            request::ATTACH => {
+                let buffer = fields.nullable_object()?.map(super::wl_buffer::WlBuffer);
+                let x = fields.int()?;
+                let y = fields.int()?;
+                fields.none_left()?;
+                handler.attach(target, buffer, x, y);
+            }
+            request::DAMAGE => {
+                let x = fields.int()?;
+                let y = fields.int()?;
+                let width = fields.int()?;
+                let height = fields.int()?;
+                fields.none_left()?;
+                handler.damage(target, x, y, width, height);
+            }
+            request::FRAME => {
+                let callback = super::wl_callback::WlCallback(fields.new_object()?);
+                fields.none_left()?;
+                handler.frame(target, callback);
+            }
+            request::SET_OPAQUE_REGION => {
+                let region = fields.nullable_object()?.map(super::wl_region::WlRegion);
+                fields.none_left()?;
+                handler.set_opaque_region(target, region);
+            }
+            request::SET_INPUT_REGION => {
+                let region = fields.nullable_object()?.map(super::wl_region::WlRegion);
+                fields.none_left()?;
+                handler.set_input_region(target, region);
+            }
+            request::COMMIT => {
+                fields.none_left()?;
+                handler.commit(target);
+            }
+            request::SET_BUFFER_TRANSFORM => {
+                let transform = super::wl_output::Transform(fields.int()? as u32);
+                fields.none_left()?;
+                handler.set_buffer_transform(target, transform);
+            }
+            request::SET_BUFFER_SCALE => {
+                let scale = fields.int()?;
+                fields.none_left()?;
+                handler.set_buffer_scale(target, scale);
+            }
+            request::DAMAGE_BUFFER => {
+                let x = fields.int()?;
+                let y = fields.int()?;
+                let width = fields.int()?;
+                let height = fields.int()?;
+                fields.none_left()?;
+                handler.damage_buffer(target, x, y, width, height);
+            }
+            request::OFFSET => {
+                let x = fields.int()?;
+                let y = fields.int()?;
+                fields.none_left()?;
+                handler.offset(target, x, y);
+            }
             _ => return None,
         }
         Some(())
@@ -1968,21 +2041,26 @@ pub mod wl_region {
         let (target, opcode) = (WlRegion(message.target()), message.opcode());
         let mut fields = waywire::typed::fields(message);
         match opcode {
-            request::DESTROY => handler.destroy(target),
-            request::ADD => handler.add(
-                target,
-                fields.int()?,
-                fields.int()?,
-                fields.int()?,
-                fields.int()?,
-            ),
-            request::SUBTRACT => handler.subtract(
-                target,
-                fields.int()?,
-                fields.int()?,
-                fields.int()?,
-                fields.int()?,
-            ),
+            request::DESTROY => {
+                fields.none_left()?;
+                handler.destroy(target);
+            }
+            request::ADD => {
+                let x = fields.int()?;
+                let y = fields.int()?;
+                let width = fields.int()?;
+                let height = fields.int()?;
+                fields.none_left()?;
+                handler.add(target, x, y, width, height);
+            }
+            request::SUBTRACT => {
+                let x = fields.int()?;
+                let y = fields.int()?;
+                let width = fields.int()?;
+                let height = fields.int()?;
+                fields.none_left()?;
+                handler.subtract(target, x, y, width, height);
+            }
             _ => return None,
         }
         Some(())
@@ -2188,8 +2266,16 @@ pub mod wl_seat {
         let (target, opcode) = (WlSeat(message.target()), message.opcode());
         let mut fields = waywire::typed::fields(message);
         match opcode {
-            event::CAPABILITIES => handler.capabilities(target, Capability(fields.uint()?)),
-            event::NAME => handler.name(target, fields.string()?),
+            event::CAPABILITIES => {
+                let capabilities = Capability(fields.uint()?);
+                fields.none_left()?;
+                handler.capabilities(target, capabilities);
+            }
+            event::NAME => {
+                let name = fields.string()?;
+                fields.none_left()?;
+                handler.name(target, name);
+            }
             _ => return None,
         }
         Some(())
@@ -2242,19 +2328,25 @@ pub mod wl_seat {
         let (target, opcode) = (WlSeat(message.target()), message.opcode());
         let mut fields = waywire::typed::fields(message);
         match opcode {
-            request::GET_POINTER => handler.get_pointer(
-                target,
-                super::wl_pointer::WlPointer(fields.new_object()?),
-            ),
-            request::GET_KEYBOARD => handler.get_keyboard(
-                target,
-                super::wl_keyboard::WlKeyboard(fields.new_object()?),
-            ),
-            request::GET_TOUCH => handler.get_touch(
-                target,
-                super::wl_touch::WlTouch(fields.new_object()?),
-            ),
-            request::RELEASE => handler.release(target),
+            request::GET_POINTER => {
+                let id = super::wl_pointer::WlPointer(fields.new_object()?);
+                fields.none_left()?;
+                handler.get_pointer(target, id);
+            }
+            request::GET_KEYBOARD => {
+                let id = super::wl_keyboard::WlKeyboard(fields.new_object()?);
+                fields.none_left()?;
+                handler.get_keyboard(target, id);
+            }
+            request::GET_TOUCH => {
+                let id = super::wl_touch::WlTouch(fields.new_object()?);
+                fields.none_left()?;
+                handler.get_touch(target, id);
+            }
+            request::RELEASE => {
+                fields.none_left()?;
+                handler.release(target);
+            }
             _ => return None,
         }
         Some(())
@@ -2715,55 +2807,75 @@ pub mod wl_pointer {
         let (target, opcode) = (WlPointer(message.target()), message.opcode());
         let mut fields = waywire::typed::fields(message);
         match opcode {
-            event::ENTER => handler.enter(
-                target,
-                fields.uint()?,
-                super::wl_surface::WlSurface(fields.object()?),
-                fields.fixed()?,
-                fields.fixed()?,
-            ),
-            event::LEAVE => handler.leave(
-                target,
-                fields.uint()?,
-                super::wl_surface::WlSurface(fields.object()?),
-            ),
-            event::MOTION => handler.motion(
-                target,
-                fields.uint()?,
-                fields.fixed()?,
-                fields.fixed()?,
-            ),
-            event::BUTTON => handler.button(
-                target,
-                fields.uint()?,
-                fields.uint()?,
-                fields.uint()?,
-                ButtonState(fields.uint()?),
-            ),
-            event::AXIS => handler.axis(
-                target,
-                fields.uint()?,
-                Axis(fields.uint()?),
-                fields.fixed()?,
-            ),
-            event::FRAME => handler.frame(target),
-            event::AXIS_SOURCE => handler.axis_source(target, AxisSource(fields.uint()?)),
-            event::AXIS_STOP => handler.axis_stop(target, fields.uint()?, Axis(fields.uint()?)),
-            event::AXIS_DISCRETE => handler.axis_discrete(
-                target,
-                Axis(fields.uint()?),
-                fields.int()?,
-            ),
-            event::AXIS_VALUE120 => handler.axis_value120(
-                target,
-                Axis(fields.uint()?),
-                fields.int()?,
-            ),
-            event::AXIS_RELATIVE_DIRECTION => handler.axis_relative_direction(
-                target,
-                fields.uint()?,
-                fields.uint()?,
-            ),
+            event::ENTER => {
+                let serial = fields.uint()?;
+                let surface = super::wl_surface::WlSurface(fields.object()?);
+                let surface_x = fields.fixed()?;
+                let surface_y = fields.fixed()?;
+                fields.none_left()?;
+                handler.enter(target, serial, surface, surface_x, surface_y);
+            }
+            event::LEAVE => {
+                let serial = fields.uint()?;
+                let surface = super::wl_surface::WlSurface(fields.object()?);
+                fields.none_left()?;
+                handler.leave(target, serial, surface);
+            }
+            event::MOTION => {
+                let time = fields.uint()?;
+                let surface_x = fields.fixed()?;
+                let surface_y = fields.fixed()?;
+                fields.none_left()?;
+                handler.motion(target, time, surface_x, surface_y);
+            }
+            event::BUTTON => {
+                let serial = fields.uint()?;
+                let time = fields.uint()?;
+                let button = fields.uint()?;
+                let state = ButtonState(fields.uint()?);
+                fields.none_left()?;
+                handler.button(target, serial, time, button, state);
+            }
+            event::AXIS => {
+                let time = fields.uint()?;
+                let axis = Axis(fields.uint()?);
+                let value = fields.fixed()?;
+                fields.none_left()?;
+                handler.axis(target, time, axis, value);
+            }
+            event::FRAME => {
+                fields.none_left()?;
+                handler.frame(target);
+            }
+            event::AXIS_SOURCE => {
+                let axis_source = AxisSource(fields.uint()?);
+                fields.none_left()?;
+                handler.axis_source(target, axis_source);
+            }
+            event::AXIS_STOP => {
+                let time = fields.uint()?;
+                let axis = Axis(fields.uint()?);
+                fields.none_left()?;
+                handler.axis_stop(target, time, axis);
+            }
+            event::AXIS_DISCRETE => {
+                let axis = Axis(fields.uint()?);
+                let discrete = fields.int()?;
+                fields.none_left()?;
+                handler.axis_discrete(target, axis, discrete);
+            }
+            event::AXIS_VALUE120 => {
+                let axis = Axis(fields.uint()?);
+                let value120 = fields.int()?;
+                fields.none_left()?;
+                handler.axis_value120(target, axis, value120);
+            }
+            event::AXIS_RELATIVE_DIRECTION => {
+                let axis = fields.uint()?;
+                let direction = fields.uint()?;
+                fields.none_left()?;
+                handler.axis_relative_direction(target, axis, direction);
+            }
             _ => return None,
         }
         Some(())
@@ -2813,14 +2925,18 @@ pub mod wl_pointer {
         let (target, opcode) = (WlPointer(message.target()), message.opcode());
         let mut fields = waywire::typed::fields(message);
         match opcode {
-            request::SET_CURSOR => handler.set_cursor(
-                target,
-                fields.uint()?,
-                fields.nullable_object()?.map(super::wl_surface::WlSurface),
-                fields.int()?,
-                fields.int()?,
-            ),
-            request::RELEASE => handler.release(target),
+            request::SET_CURSOR => {
+                let serial = fields.uint()?;
+                let surface = fields.nullable_object()?.map(super::wl_surface::WlSurface);
+                let hotspot_x = fields.int()?;
+                let hotspot_y = fields.int()?;
+                fields.none_left()?;
+                handler.set_cursor(target, serial, surface, hotspot_x, hotspot_y);
+            }
+            request::RELEASE => {
+                fields.none_left()?;
+                handler.release(target);
+            }
             _ => return None,
         }
         Some(())
@@ -3113,39 +3229,49 @@ pub mod wl_keyboard {
         let (target, opcode) = (WlKeyboard(message.target()), message.opcode());
         let mut fields = waywire::typed::fields(message);
         match opcode {
-            event::KEYMAP => handler.keymap(
-                target,
-                KeymapFormat(fields.uint()?),
-                fields.fd()?,
-                fields.uint()?,
-            ),
-            event::ENTER => handler.enter(
-                target,
-                fields.uint()?,
-                super::wl_surface::WlSurface(fields.object()?),
-                fields.array()?,
-            ),
-            event::LEAVE => handler.leave(
-                target,
-                fields.uint()?,
-                super::wl_surface::WlSurface(fields.object()?),
-            ),
-            event::KEY => handler.key(
-                target,
-                fields.uint()?,
-                fields.uint()?,
-                fields.uint()?,
-                KeyState(fields.uint()?),
-            ),
-            event::MODIFIERS => handler.modifiers(
-                target,
-                fields.uint()?,
-                fields.uint()?,
-                fields.uint()?,
-                fields.uint()?,
-                fields.uint()?,
-            ),
-            event::REPEAT_INFO => handler.repeat_info(target, fields.int()?, fields.int()?),
+            event::KEYMAP => {
+                let format = KeymapFormat(fields.uint()?);
+                let fd = fields.fd()?;
+                let size = fields.uint()?;
+                fields.none_left()?;
+                handler.keymap(target, format, fd, size);
+            }
+            event::ENTER => {
+                let serial = fields.uint()?;
+                let surface = super::wl_surface::WlSurface(fields.object()?);
+                let keys = fields.array()?;
+                fields.none_left()?;
+                handler.enter(target, serial, surface, keys);
+            }
+            event::LEAVE => {
+                let serial = fields.uint()?;
+                let surface = super::wl_surface::WlSurface(fields.object()?);
+                fields.none_left()?;
+                handler.leave(target, serial, surface);
+            }
+            event::KEY => {
+                let serial = fields.uint()?;
+                let time = fields.uint()?;
+                let key = fields.uint()?;
+                let state = KeyState(fields.uint()?);
+                fields.none_left()?;
+                handler.key(target, serial, time, key, state);
+            }
+            event::MODIFIERS => {
+                let serial = fields.uint()?;
+                let mods_depressed = fields.uint()?;
+                let mods_latched = fields.uint()?;
+                let mods_locked = fields.uint()?;
+                let group = fields.uint()?;
+                fields.none_left()?;
+                handler.modifiers(target, serial, mods_depressed, mods_latched, mods_locked, group);
+            }
+            event::REPEAT_INFO => {
+                let rate = fields.int()?;
+                let delay = fields.int()?;
+                fields.none_left()?;
+                handler.repeat_info(target, rate, delay);
+            }
             _ => return None,
         }
         Some(())
@@ -3181,8 +3307,12 @@ pub mod wl_keyboard {
 
     fn request_of(handler: &mut impl Requests, message: &mut impl waywire::Readable) -> Option<()> {
         let (target, opcode) = (WlKeyboard(message.target()), message.opcode());
+        let mut fields = waywire::typed::fields(message);
         match opcode {
-            request::RELEASE => handler.release(target),
+            request::RELEASE => {
+                fields.none_left()?;
+                handler.release(target);
+            }
             _ => return None,
         }
         Some(())
@@ -3443,27 +3573,52 @@ pub mod wl_touch {
         let (target, opcode) = (WlTouch(message.target()), message.opcode());
         let mut fields = waywire::typed::fields(message);
         match opcode {
-            event::DOWN => handler.down(
-                target,
-                fields.uint()?,
-                fields.uint()?,
-                super::wl_surface::WlSurface(fields.object()?),
-                fields.int()?,
-                fields.fixed()?,
-                fields.fixed()?,
-            ),
-            event::UP => handler.up(target, fields.uint()?, fields.uint()?, fields.int()?),
-            event::MOTION => handler.motion(
-                target,
-                fields.uint()?,
-                fields.int()?,
-                fields.fixed()?,
-                fields.fixed()?,
-            ),
-            event::FRAME => handler.frame(target),
-            event::CANCEL => handler.cancel(target),
-            event::SHAPE => handler.shape(target, fields.int()?, fields.fixed()?, fields.fixed()?),
-            event::ORIENTATION => handler.orientation(target, fields.int()?, fields.fixed()?),
+            event::DOWN => {
+                let serial = fields.uint()?;
+                let time = fields.uint()?;
+                let surface = super::wl_surface::WlSurface(fields.object()?);
+                let id = fields.int()?;
+                let x = fields.fixed()?;
+                let y = fields.fixed()?;
+                fields.none_left()?;
+                handler.down(target, serial, time, surface, id, x, y);
+            }
+            event::UP => {
+                let serial = fields.uint()?;
+                let time = fields.uint()?;
+                let id = fields.int()?;
+                fields.none_left()?;
+                handler.up(target, serial, time, id);
+            }
+            event::MOTION => {
+                let time = fields.uint()?;
+                let id = fields.int()?;
+                let x = fields.fixed()?;
+                let y = fields.fixed()?;
+                fields.none_left()?;
+                handler.motion(target, time, id, x, y);
+            }
+            event::FRAME => {
+                fields.none_left()?;
+                handler.frame(target);
+            }
+            event::CANCEL => {
+                fields.none_left()?;
+                handler.cancel(target);
+            }
+            event::SHAPE => {
+                let id = fields.int()?;
+                let major = fields.fixed()?;
+                let minor = fields.fixed()?;
+                fields.none_left()?;
+                handler.shape(target, id, major, minor);
+            }
+            event::ORIENTATION => {
+                let id = fields.int()?;
+                let orientation = fields.fixed()?;
+                fields.none_left()?;
+                handler.orientation(target, id, orientation);
+            }
             _ => return None,
         }
         Some(())
@@ -3499,8 +3654,12 @@ pub mod wl_touch {
 
     fn request_of(handler: &mut impl Requests, message: &mut impl waywire::Readable) -> Option<()> {
         let (target, opcode) = (WlTouch(message.target()), message.opcode());
+        let mut fields = waywire::typed::fields(message);
         match opcode {
-            request::RELEASE => handler.release(target),
+            request::RELEASE => {
+                fields.none_left()?;
+                handler.release(target);
+            }
             _ => return None,
         }
         Some(())
@@ -3859,28 +4018,55 @@ pub mod wl_output {
         let (target, opcode) = (WlOutput(message.target()), message.opcode());
         let mut fields = waywire::typed::fields(message);
         match opcode {
-            event::GEOMETRY => handler.geometry(
-                target,
-                fields.int()?,
-                fields.int()?,
-                fields.int()?,
-                fields.int()?,
-                Subpixel(fields.int()? as u32),
-                fields.string()?,
-                fields.string()?,
-                Transform(fields.int()? as u32),
-            ),
-            event::MODE => handler.mode(
-                target,
-                Mode(fields.uint()?),
-                fields.int()?,
-                fields.int()?,
-                fields.int()?,
-            ),
-            event::DONE => handler.done(target),
-            event::SCALE => handler.scale(target, fields.int()?),
-            event::NAME => handler.name(target, fields.string()?),
-            event::DESCRIPTION => handler.description(target, fields.string()?),
+            event::GEOMETRY => {
+                let x = fields.int()?;
+                let y = fields.int()?;
+                let physical_width = fields.int()?;
+                let physical_height = fields.int()?;
+                let subpixel = Subpixel(fields.int()? as u32);
+                let make = fields.string()?;
+                let model = fields.string()?;
+                let transform = Transform(fields.int()? as u32);
+                fields.none_left()?;
+                handler.geometry(
+                    target,
+                    x,
+                    y,
+                    physical_width,
+                    physical_height,
+                    subpixel,
+                    make,
+                    model,
+                    transform,
+                );
+            }
+            event::MODE => {
+                let flags = Mode(fields.uint()?);
+                let width = fields.int()?;
+                let height = fields.int()?;
+                let refresh = fields.int()?;
+                fields.none_left()?;
+                handler.mode(target, flags, width, height, refresh);
+            }
+            event::DONE => {
+                fields.none_left()?;
+                handler.done(target);
+            }
+            event::SCALE => {
+                let factor = fields.int()?;
+                fields.none_left()?;
+                handler.scale(target, factor);
+            }
+            event::NAME => {
+                let name = fields.string()?;
+                fields.none_left()?;
+                handler.name(target, name);
+            }
+            event::DESCRIPTION => {
+                let description = fields.string()?;
+                fields.none_left()?;
+                handler.description(target, description);
+            }
             _ => return None,
         }
         Some(())
@@ -3916,8 +4102,12 @@ pub mod wl_output {
 
     fn request_of(handler: &mut impl Requests, message: &mut impl waywire::Readable) -> Option<()> {
         let (target, opcode) = (WlOutput(message.target()), message.opcode());
+        let mut fields = waywire::typed::fields(message);
         match opcode {
-            request::RELEASE => handler.release(target),
+            request::RELEASE => {
+                fields.none_left()?;
+                handler.release(target);
+            }
             _ => return None,
         }
         Some(())
@@ -4044,13 +4234,17 @@ pub mod wl_subcompositor {
         let (target, opcode) = (WlSubcompositor(message.target()), message.opcode());
         let mut fields = waywire::typed::fields(message);
         match opcode {
-            request::DESTROY => handler.destroy(target),
-            request::GET_SUBSURFACE => handler.get_subsurface(
-                target,
-                super::wl_subsurface::WlSubsurface(fields.new_object()?),
-                super::wl_surface::WlSurface(fields.object()?),
-                super::wl_surface::WlSurface(fields.object()?),
-            ),
+            request::DESTROY => {
+                fields.none_left()?;
+                handler.destroy(target);
+            }
+            request::GET_SUBSURFACE => {
+                let id = super::wl_subsurface::WlSubsurface(fields.new_object()?);
+                let surface = super::wl_surface::WlSurface(fields.object()?);
+                let parent = super::wl_surface::WlSurface(fields.object()?);
+                fields.none_left()?;
+                handler.get_subsurface(target, id, surface, parent);
+            }
             _ => return None,
         }
         Some(())
@@ -4249,18 +4443,34 @@ pub mod wl_subsurface {
         let (target, opcode) = (WlSubsurface(message.target()), message.opcode());
         let mut fields = waywire::typed::fields(message);
         match opcode {
-            request::DESTROY => handler.destroy(target),
-            request::SET_POSITION => handler.set_position(target, fields.int()?, fields.int()?),
-            request::PLACE_ABOVE => handler.place_above(
-                target,
-                super::wl_surface::WlSurface(fields.object()?),
-            ),
-            request::PLACE_BELOW => handler.place_below(
-                target,
-                super::wl_surface::WlSurface(fields.object()?),
-            ),
-            request::SET_SYNC => handler.set_sync(target),
-            request::SET_DESYNC => handler.set_desync(target),
+            request::DESTROY => {
+                fields.none_left()?;
+                handler.destroy(target);
+            }
+            request::SET_POSITION => {
+                let x = fields.int()?;
+                let y = fields.int()?;
+                fields.none_left()?;
+                handler.set_position(target, x, y);
+            }
+            request::PLACE_ABOVE => {
+                let sibling = super::wl_surface::WlSurface(fields.object()?);
+                fields.none_left()?;
+                handler.place_above(target, sibling);
+            }
+            request::PLACE_BELOW => {
+                let sibling = super::wl_surface::WlSurface(fields.object()?);
+                fields.none_left()?;
+                handler.place_below(target, sibling);
+            }
+            request::SET_SYNC => {
+                fields.none_left()?;
+                handler.set_sync(target);
+            }
+            request::SET_DESYNC => {
+                fields.none_left()?;
+                handler.set_desync(target);
+            }
             _ => return None,
         }
         Some(())
@@ -4363,11 +4573,12 @@ pub mod wl_shell {
         let (target, opcode) = (WlShell(message.target()), message.opcode());
         let mut fields = waywire::typed::fields(message);
         match opcode {
-            request::GET_SHELL_SURFACE => handler.get_shell_surface(
-                target,
-                super::wl_shell_surface::WlShellSurface(fields.new_object()?),
-                super::wl_surface::WlSurface(fields.object()?),
-            ),
+            request::GET_SHELL_SURFACE => {
+                let id = super::wl_shell_surface::WlShellSurface(fields.new_object()?);
+                let surface = super::wl_surface::WlSurface(fields.object()?);
+                fields.none_left()?;
+                handler.get_shell_surface(target, id, surface);
+            }
             _ => return None,
         }
         Some(())
@@ -4775,14 +4986,22 @@ pub mod wl_shell_surface {
         let (target, opcode) = (WlShellSurface(message.target()), message.opcode());
         let mut fields = waywire::typed::fields(message);
         match opcode {
-            event::PING => handler.ping(target, fields.uint()?),
-            event::CONFIGURE => handler.configure(
-                target,
-                Resize(fields.uint()?),
-                fields.int()?,
-                fields.int()?,
-            ),
-            event::POPUP_DONE => handler.popup_done(target),
+            event::PING => {
+                let serial = fields.uint()?;
+                fields.none_left()?;
+                handler.ping(target, serial);
+            }
+            event::CONFIGURE => {
+                let edges = Resize(fields.uint()?);
+                let width = fields.int()?;
+                let height = fields.int()?;
+                fields.none_left()?;
+                handler.configure(target, edges, width, height);
+            }
+            event::POPUP_DONE => {
+                fields.none_left()?;
+                handler.popup_done(target);
+            }
             _ => return None,
         }
         Some(())
@@ -4900,47 +5119,68 @@ pub mod wl_shell_surface {
         let (target, opcode) = (WlShellSurface(message.target()), message.opcode());
         let mut fields = waywire::typed::fields(message);
         match opcode {
-            request::PONG => handler.pong(target, fields.uint()?),
-            request::MOVE => handler.move_(
-                target,
-                super::wl_seat::WlSeat(fields.object()?),
-                fields.uint()?,
-            ),
-            request::RESIZE => handler.resize(
-                target,
-                super::wl_seat::WlSeat(fields.object()?),
-                fields.uint()?,
-                Resize(fields.uint()?),
-            ),
-            request::SET_TOPLEVEL => handler.set_toplevel(target),
-            request::SET_TRANSIENT => handler.set_transient(
-                target,
-                super::wl_surface::WlSurface(fields.object()?),
-                fields.int()?,
-                fields.int()?,
-                Transient(fields.uint()?),
-            ),
-            request::SET_FULLSCREEN => handler.set_fullscreen(
-                target,
-                FullscreenMethod(fields.uint()?),
-                fields.uint()?,
-                fields.nullable_object()?.map(super::wl_output::WlOutput),
-            ),
-            request::SET_POPUP => handler.set_popup(
-                target,
-                super::wl_seat::WlSeat(fields.object()?),
-                fields.uint()?,
-                super::wl_surface::WlSurface(fields.object()?),
-                fields.int()?,
-                fields.int()?,
-                Transient(fields.uint()?),
-            ),
-            request::SET_MAXIMIZED => handler.set_maximized(
-                target,
-                fields.nullable_object()?.map(super::wl_output::WlOutput),
-            ),
-            request::SET_TITLE => handler.set_title(target, fields.string()?),
-            request::SET_CLASS => handler.set_class(target, fields.string()?),
+            request::PONG => {
+                let serial = fields.uint()?;
+                fields.none_left()?;
+                handler.pong(target, serial);
+            }
+            request::MOVE => {
+                let seat = super::wl_seat::WlSeat(fields.object()?);
+                let serial = fields.uint()?;
+                fields.none_left()?;
+                handler.move_(target, seat, serial);
+            }
+            request::RESIZE => {
+                let seat = super::wl_seat::WlSeat(fields.object()?);
+                let serial = fields.uint()?;
+                let edges = Resize(fields.uint()?);
+                fields.none_left()?;
+                handler.resize(target, seat, serial, edges);
+            }
+            request::SET_TOPLEVEL => {
+                fields.none_left()?;
+                handler.set_toplevel(target);
+            }
+            request::SET_TRANSIENT => {
+                let parent = super::wl_surface::WlSurface(fields.object()?);
+                let x = fields.int()?;
+                let y = fields.int()?;
+                let flags = Transient(fields.uint()?);
+                fields.none_left()?;
+                handler.set_transient(target, parent, x, y, flags);
+            }
+            request::SET_FULLSCREEN => {
+                let method = FullscreenMethod(fields.uint()?);
+                let framerate = fields.uint()?;
+                let output = fields.nullable_object()?.map(super::wl_output::WlOutput);
+                fields.none_left()?;
+                handler.set_fullscreen(target, method, framerate, output);
+            }
+            request::SET_POPUP => {
+                let seat = super::wl_seat::WlSeat(fields.object()?);
+                let serial = fields.uint()?;
+                let parent = super::wl_surface::WlSurface(fields.object()?);
+                let x = fields.int()?;
+                let y = fields.int()?;
+                let flags = Transient(fields.uint()?);
+                fields.none_left()?;
+                handler.set_popup(target, seat, serial, parent, x, y, flags);
+            }
+            request::SET_MAXIMIZED => {
+                let output = fields.nullable_object()?.map(super::wl_output::WlOutput);
+                fields.none_left()?;
+                handler.set_maximized(target, output);
+            }
+            request::SET_TITLE => {
+                let title = fields.string()?;
+                fields.none_left()?;
+                handler.set_title(target, title);
+            }
+            request::SET_CLASS => {
+                let class_ = fields.string()?;
+                fields.none_left()?;
+                handler.set_class(target, class_);
+            }
             _ => return None,
         }
         Some(())
@@ -5044,11 +5284,15 @@ pub mod wl_fixes {
         let (target, opcode) = (WlFixes(message.target()), message.opcode());
         let mut fields = waywire::typed::fields(message);
         match opcode {
-            request::DESTROY => handler.destroy(target),
-            request::DESTROY_REGISTRY => handler.destroy_registry(
-                target,
-                super::wl_registry::WlRegistry(fields.object()?),
-            ),
+            request::DESTROY => {
+                fields.none_left()?;
+                handler.destroy(target);
+            }
+            request::DESTROY_REGISTRY => {
+                let registry = super::wl_registry::WlRegistry(fields.object()?);
+                fields.none_left()?;
+                handler.destroy_registry(target, registry);
+            }
             _ => return None,
         }
         Some(())

@@ -6,8 +6,8 @@ use waywire::wayland::{
     wl_surface,
 };
 use waywire::{
-    Amounts, Client, Connection, EventHandler, Handle, Incoming, Object, RequestHandler, Server,
-    Sizes, Tables,
+    Amounts, Client, Connection, EventHandler, Handle, Incoming, Object, OwnedMessage, OwnedValue,
+    RequestHandler, Server, Sizes, Tables,
 };
 
 /// All that handlers were called with.
@@ -50,7 +50,11 @@ impl wl_surface::Events for Seen {
     }
 }
 
-impl wl_shm::Requests for Seen {}
+impl wl_shm::Requests for Seen {
+    fn release(&mut self, _shm: wl_shm::WlShm) {
+        self.0.push("release".into());
+    }
+}
 
 waywire::event_handler!(Seen: wl_registry, wl_surface);
 waywire::request_handler!(Seen: wl_registry, wl_shm);
@@ -169,6 +173,57 @@ fn a_message_of_another_interface_is_not_dispatched() {
     assert!(seen.dispatch_request(&pair.tables, &mut message));
     assert!(!wl_shm::dispatch_request(&mut seen, &pair.tables, &mut message));
     assert_eq!(seen.0, [""; 0]);
+}
+
+/// Tables of a user may have other arguments for a message than the typed calls.
+#[test]
+fn a_message_with_more_arguments_is_not_dispatched() {
+    let pair = Pair::new(&[]);
+    let message = |interface, opcode, args| OwnedMessage {
+        target: pair.registry.0,
+        interface: pair.tables.interface(interface).unwrap(),
+        version: 1,
+        opcode,
+        is_forgotten: false,
+        args,
+    };
+    let mut seen = Seen::default();
+    let two = vec![OwnedValue::Uint(1), OwnedValue::Uint(2)];
+    let mut event = message("wl_registry", wl_registry::event::GLOBAL_REMOVE, two);
+    assert!(!seen.dispatch_event(&pair.tables, &mut event));
+    let one = vec![OwnedValue::Uint(1)];
+    let mut request = message("wl_shm", wl_shm::request::RELEASE, one);
+    assert!(!seen.dispatch_request(&pair.tables, &mut request));
+    assert_eq!(seen.0, [""; 0]);
+    event.args.pop();
+    assert!(seen.dispatch_event(&pair.tables, &mut event));
+    request.args.pop();
+    assert!(seen.dispatch_request(&pair.tables, &mut request));
+    assert_eq!(seen.0, ["global_remove 1", "release"]);
+}
+
+/// The client does not remember a global whose interface its tables lack, also in a copy.
+#[test]
+fn a_copy_says_what_is_forgotten() {
+    let more = Tables::core().unwrap().read(b"interface wp_thing 1\nrequest destroy D\n").unwrap();
+    let mut server = Server::new(&more, &Sizes::default()).unwrap();
+    let mut client = Client::new(&Tables::core().unwrap(), &Sizes::default()).unwrap();
+    for name in ["wl_seat", "wp_thing"] {
+        server.add_global(more.interface(name).unwrap(), 1).unwrap();
+    }
+    wl_display::WlDisplay(client.display()).get_registry(&mut client).unwrap();
+    carry(&mut client, &mut server);
+    assert!(server.next().unwrap().is_some());
+    server.announce().unwrap();
+    carry(&mut server, &mut client);
+    for is_forgotten in [false, true] {
+        match client.next().unwrap() {
+            Some(Incoming::Event(event)) => {
+                assert_eq!(event.into_owned().is_forgotten, is_forgotten);
+            }
+            other => panic!("{other:?}"),
+        }
+    }
 }
 
 #[test]
