@@ -9,8 +9,8 @@ use std::slice;
 /// The most arguments that a message can have, and so the most descriptors.
 pub const MAX_ARGS: usize = sys::MAX_ARGS as usize;
 
-/// A number in 256ths.
-#[derive(Clone, Copy, PartialEq, Eq, Hash, PartialOrd, Ord)]
+/// A number in 256ths. It is displayed as an [`f64`], with the same options.
+#[derive(Clone, Copy, Default, PartialEq, Eq, Hash, PartialOrd, Ord)]
 pub struct Fixed(i32);
 
 impl Fixed {
@@ -41,9 +41,15 @@ impl From<f64> for Fixed {
     }
 }
 
+impl fmt::Display for Fixed {
+    fn fmt(&self, f: &mut fmt::Formatter<'_>) -> fmt::Result {
+        fmt::Display::fmt(&f64::from(*self), f)
+    }
+}
+
 impl fmt::Debug for Fixed {
     fn fmt(&self, f: &mut fmt::Formatter<'_>) -> fmt::Result {
-        write!(f, "{}", f64::from(*self))
+        fmt::Display::fmt(self, f)
     }
 }
 
@@ -230,5 +236,17 @@ impl ExactSizeIterator for Args<'_> {}
 impl fmt::Debug for Args<'_> {
     fn fmt(&self, f: &mut fmt::Formatter<'_>) -> fmt::Result {
         f.debug_list().entries(self.clone()).finish()
+    }
+}
+
+#[cfg(test)]
+mod tests {
+    use super::Fixed;
+
+    #[test]
+    fn fixed_numbers_are_displayed() {
+        let number = Fixed::from_raw(384);
+        assert_eq!((format!("{number}"), format!("{number:6.2}")), ("1.5".into(), "  1.50".into()));
+        assert_eq!((format!("{number:?}"), Fixed::default().raw()), ("1.5".into(), 0));
     }
 }

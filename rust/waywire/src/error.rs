@@ -355,10 +355,16 @@ impl fmt::Display for TooSmall {
 
 impl fmt::Display for Fault {
     fn fmt(&self, f: &mut fmt::Formatter<'_>) -> fmt::Result {
-        write!(f, "message at byte {}: {}", self.offset, sys::text_of(self.kind.status()))?;
-        match self.kind {
+        write!(f, "message at byte {}: {}", self.offset, self.kind)
+    }
+}
+
+impl fmt::Display for FaultKind {
+    fn fmt(&self, f: &mut fmt::Formatter<'_>) -> fmt::Result {
+        f.write_str(sys::text_of(self.status()))?;
+        match self {
             FaultKind::BadArgument { place, spelling } => {
-                write!(f, ", argument {place}: {}", sys::spelling_of(spelling))
+                write!(f, ", argument {place}: {}", sys::spelling_of(*spelling))
             }
             FaultKind::BadObject { place } | FaultKind::BadNewId { place } => {
                 write!(f, ", argument {place}")
@@ -372,8 +378,37 @@ impl Error for NewError {}
 impl Error for TablesError {}
 impl Error for SendError {}
 impl Error for GlobalError {}
-impl Error for NextError {}
+impl Error for Fault {}
+impl Error for FaultKind {}
 impl Error for NoMemory {}
 impl Error for Failed {}
 impl Error for InboxFull {}
 impl Error for TooSmall {}
+
+impl Error for NextError {
+    fn source(&self) -> Option<&(dyn Error + 'static)> {
+        match self {
+            NextError::Fault(fault) => Some(fault),
+            _ => None,
+        }
+    }
+}
+
+#[cfg(test)]
+mod tests {
+    use super::*;
+
+    #[test]
+    fn faults_are_errors() {
+        let kind = FaultKind::BadArgument { place: 2, spelling: 1 };
+        let (status, spelling) = (sys::text_of(sys::FAULT_BAD_ARGUMENT), sys::spelling_of(1));
+        assert_eq!(kind.to_string(), format!("{status}, argument 2: {spelling}"));
+        let fault = Fault { kind, offset: 12 };
+        assert_eq!(fault.to_string(), format!("message at byte 12: {kind}"));
+        let error = NextError::Fault(fault);
+        assert_eq!(error.to_string(), fault.to_string());
+        let source = error.source().and_then(|it| it.downcast_ref::<Fault>());
+        assert_eq!(source, Some(&fault));
+        assert!(NextError::Failed.source().is_none());
+    }
+}

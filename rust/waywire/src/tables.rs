@@ -3,6 +3,7 @@
 use crate::error::{NewError, TablesError};
 use crate::inspector::Sender;
 use crate::sys;
+use std::cmp::Ordering;
 use std::fmt;
 
 /// An object: its id and its birth. Only both together identify it, since ids are used again.
@@ -11,7 +12,9 @@ use std::fmt;
 /// no harm. The client makes objects with ids from 1 on, the server with ids from 0xff000000 on, and each
 /// end counts the births of both ranges separately. Keep an object together with its end, since no call
 /// can distinguish it from an object of another connection.
-#[derive(Clone, Copy, PartialEq, Eq, Hash, PartialOrd, Ord)]
+///
+/// Objects are ordered by their ids, and those with the same id by their births.
+#[derive(Clone, Copy, PartialEq, Eq, Hash)]
 #[repr(C)]
 pub struct Object {
     birth: u64,
@@ -30,6 +33,18 @@ impl Object {
     }
 
     pub(crate) const NONE: Object = Object { birth: 0, id: 0 };
+}
+
+impl Ord for Object {
+    fn cmp(&self, other: &Object) -> Ordering {
+        (self.id, self.birth).cmp(&(other.id, other.birth))
+    }
+}
+
+impl PartialOrd for Object {
+    fn partial_cmp(&self, other: &Object) -> Option<Ordering> {
+        Some(self.cmp(other))
+    }
 }
 
 impl fmt::Debug for Object {
@@ -182,5 +197,13 @@ pub(crate) mod tests {
 
     pub fn layout() -> Vec<(String, usize)> {
         layout! { Object, "waywire_object": birth id; }
+    }
+
+    #[test]
+    fn objects_are_ordered_by_id() {
+        let object = |id, birth| Object { birth, id };
+        let mut objects = [object(3, 2), object(2, 9), object(3, 1), object(1, 0)];
+        objects.sort();
+        assert_eq!(objects, [object(1, 0), object(2, 9), object(3, 1), object(3, 2)]);
     }
 }

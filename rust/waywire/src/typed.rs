@@ -7,14 +7,15 @@ use crate::owned::{OwnedMessage, OwnedValue};
 use crate::report::Message;
 use crate::server::Server;
 use crate::tables::{Interface, Object, Tables};
-use std::fmt::{self, Formatter};
+use std::fmt::{self, Debug, Formatter};
+use std::hash::Hash;
 use std::os::fd::OwnedFd;
 
 /// An object whose interface the compiler knows.
 ///
 /// It is a plain value, as [`Object`] is, and can be made from any object. The end knows which interface
 /// the object really has, and checks each call by that.
-pub trait Handle: Copy {
+pub trait Handle: Copy + Eq + Hash + Debug {
     /// The name of the interface.
     const NAME: &'static str;
     /// Its newest version.

@@ -1,7 +1,7 @@
 //! Tables that threads share, and ends that go from one thread to another.
 
 use std::thread;
-use waywire::{request, Arg, Client, Inspector, Server, Sizes, Tables};
+use waywire::{request, Arg, Client, Decoded, Inspector, Server, Sizes, Tables};
 
 fn may_go_and_be_shared<T: Send + Sync>() {}
 
@@ -37,6 +37,7 @@ impl Pair {
 #[test]
 fn tables_and_ends_may_go_to_other_threads() {
     may_go_and_be_shared::<Tables>();
+    may_go_and_be_shared::<Decoded<'_>>();
     may_go::<Client>();
     may_go::<Server>();
     may_go::<Inspector>();

@@ -50,6 +50,13 @@ pub struct Decoded<'a> {
     lent: PhantomData<&'a [u8]>,
 }
 
+// Safety: it only lends a name of tables and slices of bytes, which nobody changes as long as `'a` lasts, and
+// nothing here writes through the pointers. The header says so of both: tables never change, and any thread
+// may read what the pointers of an inspector lead to, until a call that may change the inspector. Such a call
+// takes the inspector by a `&mut`.
+unsafe impl Send for Decoded<'_> {}
+unsafe impl Sync for Decoded<'_> {}
+
 impl<'a> Decoded<'a> {
     /// `None` past the tables.
     pub fn new(
