@@ -1,5 +1,5 @@
 //! Finds libwaywire: below `WAYWIRE_DIR` if that is set, otherwise by pkg-config. `WAYWIRE_DIR` is the folder where
-//! the library is installed, or the repository's `out/c`, in which `make` builds it.
+//! the library is installed, or the repository's `out/c`, in which `make` builds it. The path must be absolute.
 //!
 //! If the archive is there, it is linked, otherwise the shared library. The library's version must be compatible
 //! with this package's: the same major number and, below 1, the same minor number. Without the library, the
@@ -59,7 +59,9 @@ impl Installed {
             return None;
         }
         if let Some(folder) = env::var_os("WAYWIRE_DIR").map(PathBuf::from) {
-            return Some(Installed::below(folder));
+            let installed = Installed::below(folder.clone());
+            installed.warn(&folder);
+            return Some(installed);
         }
         Some(Installed {
             libraries: asked("waywire", "libdir")?,
@@ -76,6 +78,18 @@ impl Installed {
         }
         let [libraries, headers] = ["lib", "include"].map(|it| folder.join(it));
         Installed { libraries, headers, data: folder.join("share/waywire") }
+    }
+
+    /// Warns if `WAYWIRE_DIR` names no folder with the library.
+    fn warn(&self, folder: &Path) {
+        let folder = folder.display();
+        if self.libraries.is_relative() {
+            println!("cargo:warning=WAYWIRE_DIR is no absolute path: {folder}");
+        }
+        let libraries = ["libwaywire.a", "libwaywire.so"].map(|it| self.libraries.join(it));
+        if !self.headers.join("waywire.h").exists() && !libraries.iter().any(|it| it.exists()) {
+            println!("cargo:warning=WAYWIRE_DIR has neither the header nor the library: {folder}");
+        }
     }
 
     fn link(&self) {

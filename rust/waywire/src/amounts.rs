@@ -38,8 +38,8 @@ impl Sizes {
     /// The limit unless both ends use another: 4,096 bytes, as in libwayland.
     pub const USUAL_LIMIT: u32 = 4096;
 
-    /// Whether an end with these sizes can take what libwayland sends at once, and any message, even while the
-    /// descriptors of an incomplete message wait.
+    /// Whether an end with these sizes can take what libwayland sends at once, and any message, even while
+    /// the descriptors of an incomplete message wait.
     pub(crate) fn can_carry(&self) -> bool {
         let limit = if self.limit == 0 { Sizes::USUAL_LIMIT } else { self.limit };
         self.out_bytes >= limit as usize

@@ -18,6 +18,14 @@ impl Client {
     }
 
     /// Binds a global that was announced, of this name and interface, and returns the new object.
+    ///
+    /// # Errors
+    ///
+    /// - [`SendError::Failed`], [`SendError::Stale`];
+    /// - [`SendError::NoSuchMessage`] if `registry` is no wl_registry;
+    /// - [`SendError::BadBind`] if the client remembers no global of this name, interface and version: see
+    ///   [`Message::is_forgotten`](crate::Message::is_forgotten);
+    /// - [`SendError::Full`], [`SendError::NoIds`], [`SendError::NoMemory`].
     pub fn bind(
         &mut self,
         registry: Object,
@@ -34,11 +42,15 @@ impl Client {
     ///
     /// At this end the object has the version that the tables have now, so no request and no event in
     /// them is too new for it. If you send a request that is newer than the bind, it is written, and the
-    /// server ends the connection. The call returns [`SendError::BadBind`] only if the tables have no
-    /// such interface, or if the version is 0 or above theirs.
+    /// server ends the connection.
     ///
     /// Prefer [`bind`](Client::bind): the proof about two ends does not cover this call, since their
     /// versions of the object may differ.
+    ///
+    /// # Errors
+    ///
+    /// Those of [`bind`](Client::bind), but [`SendError::BadBind`] only if the tables have no such interface,
+    /// or if the version is 0 or above theirs.
     pub fn bind_unannounced(
         &mut self,
         registry: Object,

@@ -105,6 +105,10 @@ impl<R> Connection<R> {
     /// At a client, drop what the number refers to at [`Incoming::Deleted`](crate::Incoming::Deleted).
     /// That does not come for an object that the server made: drop it when you destroy the object,
     /// and when another object replaces it ([`Client::replaced`](crate::Client::replaced)).
+    ///
+    /// # Errors
+    ///
+    /// [`SendError::Stale`] if the object is not live, and [`SendError::NoMemory`].
     pub fn set_user(&mut self, object: Object, user: usize) -> Result<(), SendError> {
         self.end.set_user(object, user)
     }
@@ -186,6 +190,10 @@ impl<R> Connection<R> {
     /// Moves what waits to be sent into the slice, as much as fits, and appends at most so many
     /// descriptors to the list; also at a failed end. The descriptors of a message go with its first
     /// byte: send them together with these bytes. libwayland takes 28 with one `sendmsg`.
+    ///
+    /// If the message in front has more descriptors than `most`, nothing is taken, and each later call with
+    /// this `most` takes nothing either. This never happens if `most` is at least
+    /// [`MAX_ARGS`](crate::MAX_ARGS).
     #[inline]
     pub fn take(
         &mut self,

@@ -122,9 +122,9 @@ pub struct NoMemory;
 #[derive(Clone, Copy, Debug, PartialEq, Eq)]
 pub struct Failed;
 
-/// The inbox of a [`Link`](crate::socket::Link) has no room for what the socket may pass at once, which is a byte
-/// and [`MOST_DESCRIPTORS`](crate::socket::MOST_DESCRIPTORS) descriptors. It is inside the [`io::Error`] of
-/// [`Link::fill`](crate::socket::Link::fill), and of the calls that fill.
+/// The inbox of a [`Link`](crate::socket::Link) has no room for what the socket may pass at once, which is a
+/// byte and [`MOST_DESCRIPTORS`](crate::socket::MOST_DESCRIPTORS) descriptors. It is inside the [`io::Error`]
+/// of [`Link::fill`](crate::socket::Link::fill), and of the calls that fill.
 ///
 /// If all messages were read before, the inbox is full of the descriptors of a message that is not whole yet
 /// ([`Sizes`](crate::Sizes) says how many to allow for), or of some that belong to no message. Then the

@@ -61,8 +61,9 @@
 //! - **Sent.** A call lends its descriptor ([`Arg::Fd`]; typed calls take `impl AsFd`). The end sends a
 //!   duplicate, and closes that once it has gone, or at once if the call is refused.
 //! - **Received.** A typed handler gets each descriptor as an [`OwnedFd`](std::os::fd::OwnedFd);
-//!   [`Message::take_descriptor`] and [`Message::into_owned`] take them, too. A descriptor that nobody takes
-//!   is closed at the end's next `next`, whether or not that reads a message.
+//!   [`Message::take_descriptor`] and [`Message::into_owned`] take them, too. From a discarded event, only
+//!   `take_descriptor` does. A descriptor that nobody takes is closed at the end's next `next`, whether or
+//!   not that reads a message.
 //! - **Waiting.** What waits in an end is closed when the end is dropped.
 //!
 //! # Typed calls

@@ -97,8 +97,9 @@ impl<'a> Message<'a> {
 
     /// Its line, as `waywire trace` prints it: `<- wl_surface@4.enter(wl_output@7)`. `sender` is who wrote it.
     ///
-    /// It differs from a trace in two ways: an object whose interface the signature leaves open is
-    /// `unknown@id`, and a descriptor has its own number.
+    /// It differs from a trace in three ways: an object whose interface the signature leaves open is
+    /// `unknown@id`, a descriptor has its own number, and two dots replace the arguments of a discarded
+    /// event.
     pub fn line(&self, tables: &Tables, sender: Sender) -> String {
         self.report().line(&tables.0, sender)
     }

@@ -18,11 +18,21 @@ impl Server {
     }
 
     /// Adds a global and returns its name. [`announce`](Server::announce) writes it to the registries.
+    ///
+    /// # Errors
+    ///
+    /// [`GlobalError::Failed`], [`GlobalError::BadGlobal`], [`GlobalError::TooMany`] and
+    /// [`GlobalError::NoMemory`].
     pub fn add_global(&mut self, interface: Interface, version: u32) -> Result<u32, GlobalError> {
         self.end.add_global(interface.0, version)
     }
 
     /// Withdraws a global. It can still be bound, since a bind may be on its way.
+    /// [`announce`](Server::announce) writes global_remove to the registries that were told of it.
+    ///
+    /// # Errors
+    ///
+    /// [`GlobalError::Failed`] and [`GlobalError::NoSuchGlobal`].
     pub fn withdraw(&mut self, name: u32) -> Result<(), GlobalError> {
         self.end.withdraw(name)
     }
@@ -30,18 +40,30 @@ impl Server {
     /// Writes to each open registry which globals were added or withdrawn since the last call, as far
     /// as the events fit, and returns how many events it wrote. Call it after a request has made a
     /// registry, after a change of the globals, and after a take if not all events had fitted.
+    ///
+    /// # Errors
+    ///
+    /// Only [`SendError::Failed`]. It is no error if events do not fit: the next call continues there.
     pub fn announce(&mut self) -> Result<usize, SendError> {
         self.end.announce()
     }
 
-    /// Ends an object without its event, such as a callback that nobody waits for.
+    /// Ends an object without its event, such as a callback that nobody waits for, and writes its delete_id.
+    ///
+    /// # Errors
+    ///
+    /// [`SendError::Failed`], [`SendError::Stale`], [`SendError::NotDroppable`] and [`SendError::Full`].
     pub fn drop_object(&mut self, object: Object) -> Result<(), SendError> {
         self.end.drop_object(object)
     }
 
     /// Ends the connection with wl_display.error about an object. At most 40 bytes of the text are
-    /// written, and nothing from a NUL on. The server has failed afterwards: take what waits, and send
-    /// it.
+    /// written, and nothing from a NUL on. The outbox always has room for it. The server has failed
+    /// afterwards: take what waits, and send it.
+    ///
+    /// # Errors
+    ///
+    /// [`SendError::Failed`] and [`SendError::Stale`].
     pub fn post_error(&mut self, object: Object, code: u32, text: &str) -> Result<(), SendError> {
         self.end.post_error(object, code, text)
     }

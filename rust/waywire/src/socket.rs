@@ -39,7 +39,7 @@ pub const MOST_DESCRIPTORS: usize = sys::SOCKET_DESCRIPTORS as usize;
 /// look at `name`. The number itself stays open, since no call can know whether it belongs to something
 /// else in this process. Dropping the [`Link`] ends the connection all the same.
 ///
-/// The call uses the environment only through [`std::env`], which locks it against other Rust code. That
+/// The call uses the environment only through [`mod@std::env`], which locks it against other Rust code. That
 /// lock does not stop another thread that reads the environment in C, for example by `getenv`, while this
 /// call removes `WAYLAND_SOCKET`. So if there are such threads, connect before you start them.
 ///
@@ -457,9 +457,9 @@ impl<R> Link<R> {
     ///
     /// # Errors
     ///
-    /// Those of [`flush`](Link::flush) and [`fill`](Link::fill), except that [`Came::End`] says that the other
-    /// end has gone. An error that [passes](is_temporary) comes at once, before the limit: nothing is lost, so
-    /// wait again some milliseconds later.
+    /// Those of [`flush`](Link::flush) and [`fill`](Link::fill), except that [`Came::End`] says that the
+    /// other end has gone. An error that [passes](is_temporary) comes at once, before the limit: nothing is
+    /// lost, so wait again some milliseconds later.
     pub fn wait(&mut self, limit: Option<Duration>) -> io::Result<Came> {
         let until = Deadline::of(limit);
         loop {
@@ -541,9 +541,9 @@ impl Link<AsClient> {
     ///
     /// # Errors
     ///
-    /// [`TimedOut`](io::ErrorKind::TimedOut) if that takes longer than `limit`: the connection goes on, and if
-    /// the answer comes later, the handler gets it. [`SendError`] if the sync cannot be written; nothing has
-    /// changed then. The other errors are those of [`dispatch`](Link::dispatch). After one that
+    /// [`TimedOut`](io::ErrorKind::TimedOut) if that takes longer than `limit`: the connection goes on, and
+    /// if the answer comes later, the handler gets it. [`SendError`] if the sync cannot be written; nothing
+    /// has changed then. The other errors are those of [`dispatch`](Link::dispatch). After one that
     /// [passes](is_temporary), the next call sends a new sync, and the handler gets the answer to the first.
     pub fn round_trip(
         &mut self,
