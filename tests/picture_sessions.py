@@ -1,5 +1,6 @@
 """Generated sessions for `check-picture`: a short one as lines of the inspector, and a long recording."""
 
+import itertools
 import json
 import random
 import struct
@@ -191,6 +192,60 @@ def controlled():
     lines.add("event", device, "selection", 1, [given("ext_data_control_offer_v1", made)],
               f"ext_data_control_offer_v1@{made}")
     lines.add("event", named("wl_keyboard", 9), "leave", 2, [number_of(2), given("wl_surface", 4)], "2, wl_surface@4")
+    return lines.ended()
+
+
+def broken(lines, fault, target, name, opcode, arguments, printed):
+    """Adds a message that breaks a rule."""
+    lines.add("request", target, name, opcode, arguments, printed)
+    message = lines.lines.pop()
+    parts = {it: message[it] for it in ("number", "direction", "offset", "size", "bytes")}
+    lines.lines.append({"type": "broken", "client": 1, "fault": fault, "words": fault, **parts,
+                        "object": message["object"], "message": message})
+
+
+def new_id_of_zero():
+    """A client whose new id is 0."""
+    lines = Lines("client")
+    broken(lines, "F6", named("wl_display", 1), "get_registry", 1, [new("wl_registry", 0)], "new id wl_registry@0")
+    return lines.ended("broken")
+
+
+def asked_after_the_end(is_broken):
+    """A client that asks twice before the session ends, by a broken rule or by an error, and twice after that."""
+    lines, display, surface = Lines("client"), named("wl_display", 1), named("wl_surface", 4)
+    callback = itertools.count(10)
+
+    def ask():
+        for target, name, opcode in ((display, "sync", 0), (surface, "frame", 3)):
+            made = new("wl_callback", next(callback))
+            lines.add("request", target, name, opcode, [made], f"new id wl_callback@{made['id']}")
+
+    ask()
+    if is_broken:
+        broken(lines, "F2", named("wl_region", 99), "destroy", 0, [], "")
+    else:
+        lines.add("event", display, "error", 0, [given("wl_surface", 4), number_of(3), string("gone")],
+                  'wl_surface@4, 3, "gone"')
+        lines.lines.append({"type": "error", "client": 1, "number": lines.number, "object": surface, "code": 3,
+                            "text": "gone"})
+    ask()
+    lines.add("request", surface, "commit", 6, [], "")
+    lines.add("event", named("xdg_wm_base", 5), "ping", 0, [number_of(1)], "1")
+    return lines.ended("broken" if is_broken else "error")
+
+
+def buffer_of_two_surfaces(last):
+    """Two surfaces show one buffer, until its last message."""
+    lines, buffer = Lines("client"), named("wl_buffer", 7)
+    for surface in (named("wl_surface", 4), named("wl_surface", 5)):
+        lines.add("request", surface, "attach", 1, [given("wl_buffer", 7), number_of(0), number_of(0)],
+                  "wl_buffer@7, 0, 0")
+        lines.add("request", surface, "commit", 6, [], "")
+    if last == "release":
+        lines.add("event", buffer, "release", 0, [], "")
+    else:
+        lines.add("request", buffer, "destroy", 0, [], "", destroyed=[buffer])
     return lines.ended()
 
 

@@ -14,7 +14,8 @@ function argumentWords(session, message, place) {
     const object = session.objects[value];
     switch (kind) {
         case "object": return object ? { text: "", object } : { text: "nil" };
-        case "new": return { text: `version ${object.version}`, object };
+        // A new id of 0 names no object.
+        case "new": return object ? { text: `version ${object.version}`, object } : { text: "0" };
         case "string": return { text: value < 0 ? "nil" : `“${session.raw.strings[value]}”` };
         case "array": {
             const contents = session.contents.get(`${message} ${place}`);
@@ -36,8 +37,8 @@ function printedArgument(session, message, place) {
         case "object": return { text: object?.printed ?? "nil", object };
         case "new": {
             const isBind = session.isOf(message, "wl_registry", "bind");
-            const text = `new id ${object.printed}`;
-            return { text: isBind ? `"${object.interface}", ${object.version}, ${text}` : text, object };
+            const text = `new id ${object?.printed ?? 0}`;
+            return { text: object && isBind ? `"${object.interface}", ${object.version}, ${text}` : text, object };
         }
         case "fixed": return { text: value.toFixed(8) };
         case "array": return { text: `array[${value}]` };

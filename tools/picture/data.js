@@ -73,9 +73,9 @@ class Session {
         const { ended, cut } = raw.verdict ?? {};
         const end = this.isTimed && !raw.left_out ? Math.round((ended ?? cut ?? 0) * 1e6) - begin : 0;
         this.span = Math.max(this.count ? this.time[last] : 0, end, 1);
-        // After a message that broke a rule, and after an error, no answer is looked for.
-        const lastLooked = raw.broken ?? raw.error;
-        this.looked = lastLooked ? this.time[lastLooked.place] ?? this.span : this.span;
+        // The last message whose answer is looked for: one that broke a rule, or an error, ends the session.
+        this.lastAsked = (raw.broken ?? raw.error)?.place ?? last;
+        this.looked = raw.broken || raw.error ? this.time[this.lastAsked] ?? this.span : this.span;
     }
 
     // Where the values of each message begin, its direction, its place in its stream, and its number in it.
@@ -180,6 +180,17 @@ class Session {
     isOpen(object) {
         return object.destroyed < 0 && object.freed < 0 && object.end < 0;
     }
+}
+
+// The session with all that is found in it.
+function readSession(raw) {
+    const session = new Session(raw);
+    addWaits(session);
+    session.milestones = milestones(session);
+    session.objects.forEach((it) => { it.group = purposeOf(session, it); });
+    addFindings(session);
+    addSelections(session);
+    return session;
 }
 
 // Which program a client is, and its process, if they are known.

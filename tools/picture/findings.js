@@ -55,7 +55,7 @@ const ANSWERS = {
 
 function lateFindings(session) {
     const found = [];
-    for (const { key, name } of WAITS) {
+    for (const { key, name } of session.waitKinds) {
         const own = session.waits.filter((it) => it.key === key && it.to >= 0 && !it.isGone);
         const late = own.filter((it) => it.isSlow);
         if (late.length) {
@@ -99,7 +99,7 @@ function unansweredFindings(session) {
     const found = [], { looked, time, count } = session;
     const isLong = (it) => (session.isTimed ? looked - time[it.from] >= SECOND : count - it.from > 200);
     const isAnswered = (it) => it.to >= 0 && (!it.isGone || session.nameOf(it.to) === "discarded");
-    for (const { key, name } of WAITS.filter((it) => it.key !== "held")) {
+    for (const { key, name } of session.waitKinds.filter((it) => it.key !== "held")) {
         const own = session.waits.filter((it) => it.key === key), left = own.filter((it) => it.to < 0 && isLong(it));
         const isMute = own.length > 1 && isLong(own[0]) && !own.some(isAnswered);
         if (left.length || isMute) {

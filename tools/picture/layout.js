@@ -150,7 +150,7 @@ const shortName = (object) => shortInterface(object.interface) + object.at;
 // The rows of the waits: the busiest objects of a kind have rows of their own.
 function waitRows(session) {
     const rows = [];
-    for (const { key, label } of WAITS) {
+    for (const { key, label } of session.waitKinds) {
         const parts = grouped(session.waits.filter((it) => it.key === key), (it) => it.object);
         const busiest = [...parts].sort(([, a], [, b]) => b.length - a.length);
         const own = busiest.length > OWN_ROWS + 1 ? busiest.slice(0, OWN_ROWS) : busiest;

@@ -4,12 +4,7 @@
 async function openPage() {
     const status = document.getElementById("status");
     try {
-        const session = new Session(await unpacked(document.getElementById("data").textContent));
-        addWaits(session);
-        session.milestones = milestones(session);
-        session.objects.forEach((it) => { it.group = purposeOf(session, it); });
-        addFindings(session);
-        addSelections(session);
+        const session = readSession(await unpacked(document.getElementById("data").textContent));
         window.app = new App(session);
         window.app.start();
         status.remove();

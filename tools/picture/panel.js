@@ -212,7 +212,7 @@ class Panel {
     }
 
     waitRow(wait, message) {
-        const { session } = this.app, { label, name } = WAITS.find((it) => it.key === wait.key);
+        const { session } = this.app, { label, name } = session.waitKinds.find((it) => it.key === wait.key);
         const took = session.isTimed && wait.to >= 0 ? ` after ${duration(wait.took)}${wait.isSlow ? ", late" : ""}` : "";
         if (wait.to === message) {
             return this.row(label, "answers ", this.toMessage(wait.from), took);

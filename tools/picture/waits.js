@@ -1,6 +1,7 @@
 "use strict";
-// What waited for what: questions with their answers, and the milestones on the way to a window.
+// What waited for what: questions with their answers.
 
+// The kinds that every session may have. A session adds a kind for each other question that the inspector names.
 const WAITS = [
     { key: "sync", label: "sync → done", name: "wl_display.sync" },
     { key: "configure", label: "configure → ack", name: "configure" },
@@ -35,19 +36,24 @@ class Waiting {
         this.waits = [];
         this.callbacks = new Map();         // a callback's number: its wait
         this.surfaces = new Map();          // a surface's number: what its next commit takes into effect
-        this.holds = new Map();             // a buffer's number: its wait
+        this.holds = new Map();             // a buffer's number: its waits, one for each surface that shows it
+        this.kinds = [...WAITS];
         this.serials = new Map();           // an object's number: waits by serial, for acks and pongs
     }
 
-    // A wait from a message on. `asked` is the request that asked, where another takes it into effect.
+    // A wait from a message on. `asked` is the request that asked, if another takes it into effect. After the end of
+    // the session nothing is waited for, and it returns null.
     open(key, object, from, asked = from) {
+        if (from > this.session.lastAsked) {
+            return null;
+        }
         const wait = { key, object, from, asked, to: -1, isGone: false, isSlow: false, next: -1 };
         this.waits.push(wait);
         return wait;
     }
 
     close(wait, to, isGone = false) {
-        if (wait && wait.to < 0) {
+        if (wait && wait.to < 0 && to >= 0) {
             wait.to = to;
             wait.isGone = isGone;
         }
@@ -95,6 +101,9 @@ class Waiting {
     }
 
     commit(i, about, surface) {
+        if (i > this.session.lastAsked) {
+            return;
+        }
         const opened = [];
         for (const [key, list] of [["frame", surface.frames], ["presented", surface.feedback]]) {
             for (const { asked, number } of list) {
@@ -118,13 +127,14 @@ class Waiting {
 
     // What the compositor holds from here on; a buffer that is shown again before it was released is held on.
     hold(i, about, asked, buffer) {
-        const held = this.holds.get(buffer);
-        if (held && held.to < 0 && held.object === about) {
+        const holds = (this.holds.get(buffer) ?? []).filter((it) => it.to < 0);
+        const held = holds.find((it) => it.object === about);
+        if (held) {
             held.next = -1;
             return held;
         }
         const wait = this.open("held", about, i, asked);
-        this.holds.set(buffer, wait);
+        this.holds.set(buffer, [...holds, wait]);
         this.session.objects[buffer].holds.push(wait);
         return wait;
     }
@@ -151,7 +161,7 @@ class Waiting {
         } else if (about.interface === "wp_presentation_feedback" && (name === "presented" || name === "discarded")) {
             this.close(this.callbacks.get(number), i, name === "discarded");
         } else if (about.interface === "wl_buffer" && name === "release") {
-            this.close(this.holds.get(number), i);
+            this.holds.get(number)?.forEach((it) => this.close(it, i));
         } else if ((name === "configure" && ACKED.has(about.interface)) || name === "ping") {
             if (!this.serials.has(number)) {
                 this.serials.set(number, new Map());
@@ -180,8 +190,8 @@ class Waiting {
             if (!about || known.has(from)) {
                 return;
             }
-            if (!WAITS.some((it) => it.key === key)) {
-                WAITS.push({ key, label: `${session.nameOf(from)} → answer`, name: key });
+            if (!this.kinds.some((it) => it.key === key)) {
+                this.kinds.push({ key, label: `${session.nameOf(from)} → answer`, name: key });
             }
             this.close(this.open(key, about, from), answer);
         };
@@ -206,12 +216,13 @@ class Waiting {
                 this.event(i, about, name);
             }
         }
-        for (const [buffer, wait] of this.holds) {
-            this.close(wait, session.objects[buffer].destroyed, true);
+        for (const [buffer, waits] of this.holds) {
+            waits.forEach((it) => this.close(it, session.objects[buffer].destroyed, true));
         }
         this.waits.filter((it) => it.object.destroyed >= 0).forEach((it) => this.close(it, it.object.destroyed, true));
         this.uncommitted();
         this.others();
+        session.waitKinds = this.kinds;
         return this.waits.filter((it) => !it.object.isCursor);
     }
 }
@@ -244,7 +255,7 @@ function addWaits(session) {
             add(wait.to, wait);
         }
     }
-    for (const { key } of session.isTimed ? WAITS : []) {
+    for (const { key } of session.isTimed ? session.waitKinds : []) {
         markLate(session, key);
     }
 }
@@ -257,40 +268,4 @@ function markLate(session, key) {
         wait.isSlow = true;
         session.slow.add(wait.from).add(wait.to);
     }
-}
-
-const ROLES = /^(get_toplevel|get_popup|get_layer_surface|get_lock_surface|get_shell_surface|get_xdg_popup)$/;
-
-// The first steps to a window, in order: a name and a message each.
-function milestones(session) {
-    const found = [], seen = new Set();
-    const add = (name, message) => {
-        if (!seen.has(name)) {
-            seen.add(name);
-            found.push({ name, message });
-        }
-    };
-    for (let i = 0; i < session.count && seen.size < 6; i++) {
-        const about = session.objects[session.object[i]];
-        const name = session.nameOf(i);
-        if (!about || i === session.bad) {
-            continue;
-        }
-        if (name === "bind" && about.interface === "wl_registry") {
-            add("first bind", i);
-        } else if (name === "create_surface") {
-            add("surface", i);
-        } else if (ROLES.test(name)) {
-            add("role", i);
-        } else if (name === "configure" && ACKED.has(about.interface)) {
-            add("configured", i);
-        } else if (name === "attach" && about.interface === "wl_surface" && session.value(i, 0) >= 0
-            && !about.isCursor) {
-            add("first buffer", i);
-        } else if (seen.has("first buffer") && session.waitsOf.get(i)?.some((it) => it.to === i && !it.isGone
-            && (it.key === "frame" || it.key === "presented"))) {
-            add("first frame", i);
-        }
-    }
-    return found;
 }
