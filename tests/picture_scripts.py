@@ -71,4 +71,50 @@ def buffer_of_two_surfaces():
         equal(found, [["held", "wl_surface@4", 2, 5, is_gone], ["held", "wl_surface@5", 4, 5, is_gone]], last)
 
 
-TESTS = (new_id_of_zero, nothing_is_asked_after_the_end, buffer_of_two_surfaces)
+# ---- the filter, and objects
+
+
+def first_with_an_id():
+    """The first object with a reused id has a letter too, by which the filter finds it alone."""
+    lines = picture_sessions.reused_id()
+    words = ("@10", "@10a", "@10b", "@10c", "wl_surface@10a", "surface#10a", "@10d", "@5", "@5a")
+    found = value(lines, f"{json.dumps(words)}.map((it) => linesOf(session, it))")
+    equal(dict(zip(words, found)), {
+        "@10": [1, 2, 3, 4, 5, 6, 7, 8], "@10a": [1, 2, 3], "@10b": [4, 5, 6], "@10c": [7, 8],
+        "wl_surface@10a": [1, 2, 3], "surface#10a": [1, 2, 3], "@10d": [], "@5": [1, 4, 7], "@5a": [1, 4, 7]}, "found")
+    equal(value(lines, "session.objects.map((it) => it.alone)"), ["@5", "@10a", "@10b", "@10c"], "the words of links")
+    equal(value(lines, "session.objects.map((it) => it.at)"), ["@5", "@10", "@10b", "@10c"], "what is shown")
+
+
+def open_questions():
+    """Both lines of a question without an answer are found, but not those of a buffer that is held."""
+    lines = picture_sessions.questions_left()
+    equal(value(lines, "session.waits.map((it) => it.key)"), ["frame", "held"], "waits")
+    equal(value(lines, "linesOf(session, 'is:open')"), [1, 3], "is:open")
+
+
+def pasted_lines():
+    """A line finds itself, also one with numbers below 0; a word behind a minus is excluded."""
+    lines = picture_sessions.questions_left()
+    line = value(lines, "session.line(1)")
+    equal(line, "-> wl_surface@4.attach(wl_buffer@7, -1, -5)", "the line")
+    for text, wanted in ((line, [2]), ("-attach", [1, 3]), ("-@7 ->", [1, 3]), ("-1", [2]), ("-wl_callback -attach", [3])):
+        equal(value(lines, f"linesOf(session, {json.dumps(text)})"), wanted, text)
+    text = "wl_surface@10b.commit()"
+    equal(value(picture_sessions.reused_id(), f"[linesOf(session, '{text}'), linesOf(session, '{text}')]"), [[5], [5]],
+          "twice")
+
+
+def interface_of_no_table():
+    """A bind names an object whose interface no table has; later messages for its id belong to it."""
+    found = value(picture_sessions.unknown_interface(), """session.objects.map((it) => [it.name, it.made + 1,
+        it.messages.map((message) => message + 1), beginWords(session, it)])""")
+    unknown = "what made it is not known"
+    equal(found, [["wl_registry@2", 0, [1, 4], unknown], ["my_shell@5", 1, [2], unknown],
+                  ["unknown@6", 0, [3, 6], unknown], ["my_panel@5b", 4, [5], unknown]], "objects")
+    equal(value(picture_sessions.small(), "beginWords(session, session.objects.find((it) => it.id === 1))"),
+          "there from the start", "wl_display")
+
+
+TESTS = (new_id_of_zero, nothing_is_asked_after_the_end, buffer_of_two_surfaces, first_with_an_id, open_questions,
+         pasted_lines, interface_of_no_table)

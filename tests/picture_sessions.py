@@ -63,8 +63,8 @@ def quoted(text):
     return f'"{"".join(plain)}"'
 
 
-def new(interface, number):
-    return {"kind": "new", "name": None, **named(interface, number), "version": 1}
+def new(interface, number, birth=1):
+    return {"kind": "new", "name": None, **named(interface, number, birth), "version": 1}
 
 
 def string(text):
@@ -247,6 +247,41 @@ def buffer_of_two_surfaces(last):
     else:
         lines.add("request", buffer, "destroy", 0, [], "", destroyed=[buffer])
     return lines.ended()
+
+
+def reused_id():
+    """Three surfaces with one id, one after the other; the last one stays."""
+    lines = Lines("client")
+    for birth in (1, 4, 7):
+        surface = named("wl_surface", 10, birth)
+        lines.add("request", named("wl_compositor", 5), "create_surface", 0, [new("wl_surface", 10, birth)],
+                  "new id wl_surface@10")
+        lines.add("request", surface, "commit", 6, [], "")
+        if birth < 7:
+            lines.add("request", surface, "destroy", 0, [], "", destroyed=[surface])
+    return lines.ended()
+
+
+def questions_left():
+    """A surface asks for a frame and shows a buffer; neither a frame nor a release comes."""
+    lines, surface = Lines("client"), named("wl_surface", 4)
+    lines.add("request", surface, "frame", 3, [new("wl_callback", 8)], "new id wl_callback@8")
+    lines.add("request", surface, "attach", 1, [given("wl_buffer", 7), number_of(-1), number_of(-5)],
+              "wl_buffer@7, -1, -5")
+    lines.add("request", surface, "commit", 6, [], "")
+    return lines.ended()
+
+
+def unknown_interface():
+    """A client binds an interface that no table has, and another one with the same id later; and a message is for an
+    object that no message has made."""
+    lines, registry = Lines("client"), named("wl_registry", 2)
+    for interface in ("my_shell", "my_panel"):
+        lines.add("request", registry, "bind", 0, [number_of(1), new(interface, 5, lines.number + 1)],
+                  f'1, "{interface}", 1, new id {interface}@5', made=[])
+        for target in (named(None, 5, 0), named(None, 6, 0)):
+            lines.add("event", target, None, 0, [], "", state="unknown", text=f"<- unknown@{target['id']}, opcode 0")
+    return lines.ended("unknown")
 
 
 def words(*numbers):

@@ -79,11 +79,13 @@ class Columns:
     """The contents of a page for the session of one client."""
 
     def __init__(self, client=1):
-        self.client, self.others = client, {}
+        self.client, self.others, self.is_there = client, {}, False
         self.head, self.who = {}, {}
         self.verdict = self.broken = self.error = None
         self.signatures, self.strings = Numbered(), Numbered()
         self.objects, self.about, self.ranks = {}, [], {}
+        # By id, the objects that a bind made with an interface that no table has.
+        self.bound = {}
         names = ("time", "piece", "signature", "object", "size", "offset", "state")
         self.rows = {it: array("q") for it in names}
         self.values, self.rest, self.bytes = [], [], []
@@ -110,6 +112,7 @@ class Columns:
                     raise NoSession(f"line {found['line']}: bad line")
                 elif kind in does:
                     if found.get("client", 1) == self.client:
+                        self.is_there = True
                         does[kind](found)
                     elif kind == "client":
                         self.others[found["client"]] = [found.get("name"), found.get("pid")]
@@ -119,7 +122,7 @@ class Columns:
                 raise NoLines from error
         if not self.head:
             raise NoLines
-        if self.verdict is None and self.others:
+        if not self.is_there and self.others:
             raise NoSession(f"there is no client {self.client}; there are {sorted(self.others)}")
 
     def take_client(self, found):
@@ -156,6 +159,8 @@ class Columns:
         if not found or not found.get("id"):
             return -1
         identity, interface = found["id"], found.get("interface")
+        if interface is None and identity in self.bound:
+            return self.bound[identity]
         key = (identity, found.get("birth", 0), interface is None)
         number = self.objects.get(key)
         if number is None:
@@ -169,12 +174,17 @@ class Columns:
             self.about[number][3] = version
         return number
 
+    def new_object(self, argument):
+        """The number of an object that a message makes; what had its id before is gone."""
+        self.bound.pop(argument["id"], None)
+        return self.object(argument, argument.get("version"))
+
     def value(self, argument):
         kind = argument["kind"]
         if kind == "object":
             return self.object(argument)
         if kind == "new":
-            return self.object(argument, argument.get("version"))
+            return self.new_object(argument)
         if kind == "string":
             value = argument["value"]
             return -1 if value is None else self.strings.of(value)
@@ -218,8 +228,20 @@ class Columns:
         for what, kept in (("made", self.made), ("destroyed", self.destroyed), ("freed", self.freed)):
             for it in found.get(what) or ():
                 kept += (place, self.object(it))
+        self.note_bound(place, found)
         self.rest.append(self.end_of_line(found, arguments))
         self.bytes.append(found["bytes"][: 2 * MOST_BYTES])
+
+    def note_bound(self, place, found):
+        """A bind makes an object even if no table has its interface. The lines do not say so, and name the object only
+        in the bind."""
+        is_bind = found["object"].get("interface") == "wl_registry" and found["message"] == "bind"
+        is_broken = self.broken is not None and self.broken["place"] == place
+        if is_bind and not found.get("made") and not is_broken:
+            for it in found["arguments"]:
+                if it["kind"] == "new" and it["id"] and it.get("interface"):
+                    self.bound[it["id"]] = self.object(it)
+                    self.made += (place, self.bound[it["id"]])
 
     def note_names(self, place, arguments):
         """Notes the names of values, by their enum, and what arrays hold."""

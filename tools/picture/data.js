@@ -20,14 +20,18 @@ function summed(differences, Column) {
     return column;
 }
 
-// The letters behind an id: none for its first object, b for the second, .., z, aa, ab, ..
-function birthLetters(birth) {
+// A birth in letters: a for the first object with an id, b for the second, .., z, aa, ab, .. A birth that is not known
+// has none.
+function lettersOf(birth) {
     let letters = "";
-    for (let rest = birth; rest > 0 && birth > 1; rest = Math.floor((rest - 1) / 26)) {
+    for (let rest = birth; rest > 0; rest = Math.floor((rest - 1) / 26)) {
         letters = String.fromCharCode(97 + (rest - 1) % 26) + letters;
     }
     return letters;
 }
+
+// The letters that are shown behind an id: none for its first object.
+const birthLetters = (birth) => (birth > 1 ? lettersOf(birth) : "");
 
 function newObject(number, iface, id, birth, version) {
     const isServers = id >= FIRST_OF_COMPOSITOR;
@@ -67,6 +71,7 @@ class Session {
         this.lowered = null;
         this.bad = raw.broken?.place ?? -1;
         this.placeAll();
+        this.nameAlone();
         this.fillObjects();
         const last = Math.max(0, this.count - 1);
         // The session's end, if the page has the whole session and the recording says when it ended.
@@ -96,6 +101,12 @@ class Session {
         }
         this.requests = numbers[REQUEST];
         this.events = numbers[EVENT];
+    }
+
+    // The word by which the filter finds an object and no other: if its id was reused, the first one has a letter too.
+    nameAlone() {
+        const reused = new Set(this.objects.filter((it) => it.birth > 1).map((it) => it.id));
+        this.objects.forEach((it) => { it.alone = it.birth === 1 && reused.has(it.id) ? `${it.at}a` : it.at; });
     }
 
     fillObjects() {

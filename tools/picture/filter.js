@@ -3,17 +3,18 @@
 
 const IS = {
     late: (session) => (i) => session.slow.has(i),
-    // Its name before.
+    // Older links have this name.
     slow: (session) => IS.late(session),
     fd: (session) => (i) => session.signatures[session.signature[i]].kinds.some(([kind]) => kind === "fd"),
     bad: (session) => (i) => i === session.bad || i === session.raw.error?.place,
     zombie: (session) => (i) => (session.state[i] & 3) === 1 && session.direction[i] === EVENT,
-    // Questions without an answer.
+    // Questions without an answer, and what took them into effect.
     open: (session) => {
-        const left = new Set(session.waits.filter((it) => it.to < 0).map((it) => it.from));
-        return (i) => left.has(i);
+        const open = session.waits.filter((it) => it.to < 0 && it.key !== "held");
+        const lines = new Set(open.flatMap((it) => [it.asked, it.from]));
+        return (i) => lines.has(i);
     },
-    // What is for, or made, an object that was never destroyed.
+    // What made an object that was never destroyed.
     left: (session) => {
         const made = new Set(session.objects.filter((it) => it.made >= 0 && session.isOpen(it)).map((it) => it.made));
         return (i) => made.has(i);
@@ -21,7 +22,7 @@ const IS = {
 };
 
 // An object as the page or WAYLAND_DEBUG shows it: `@10`, `@10b`, `wl_surface@10`, `surface@10`, `wl_surface#10`; one
-// that the compositor made is `@s3` or `@4278190083`.
+// that the compositor made is `@s3` or `@4278190083`. `@10a` is the first object with its id.
 const NAMED = /^([a-z0-9_]*)@(\d+)([a-z]*)$/;
 const asPrinted = (word) => word.replace(/[@#](s?)(\d+)/g, (_, isServers, digits) =>
     `@${isServers ? FIRST_OF_COMPOSITOR + Number(digits) : digits}`);
@@ -29,16 +30,22 @@ const asPrinted = (word) => word.replace(/[@#](s?)(\d+)/g, (_, isServers, digits
 // The objects that are named so: all with the id, or the one with these letters.
 function objectsAt(session, [, name, id, letters]) {
     const isNamed = (it) => [it.interface, shortInterface(it.interface)].some((own) => own.toLowerCase() === name);
-    return session.objects.filter((it) => it.id === Number(id) && (!letters || birthLetters(it.birth) === letters)
+    return session.objects.filter((it) => it.id === Number(id) && (!letters || lettersOf(it.birth) === letters)
         && (!name || isNamed(it)));
 }
 
-// A line in small letters, with the letters of births, as the list shows it.
+// A line in small letters, with the letters of births, as the list shows it. It is made once; most are the plain line.
 function lineWithLetters(session, message) {
-    const [object, name] = session.parts(message), letters = (it) => (it ? birthLetters(it.birth) : "");
-    const rest = printedParts(session, message).map((it) => it.text + letters(it.object)).join("");
-    return `${object}${letters(session.objects[session.object[message]])}${object && name ? "." : ""}${name}${rest}`
-        .toLowerCase();
+    session.lettered ??= new Array(session.count);
+    if (session.lettered[message] === undefined) {
+        const [object, name] = session.parts(message), letters = (it) => (it ? birthLetters(it.birth) : "");
+        const rest = printedParts(session, message).map((it) => it.text + letters(it.object)).join("");
+        const about = object + letters(session.objects[session.object[message]]);
+        const line = `${session.arrow(message)} ${about}${object && name ? "." : ""}${name}${rest}`.toLowerCase();
+        const plain = session.searched()[message];
+        session.lettered[message] = line === plain ? plain : line;
+    }
+    return session.lettered[message];
 }
 
 // A word as a test of a message, by its number.
@@ -71,6 +78,9 @@ function testOf(session, word) {
         || (isOfObject && (lines[i].includes(printed) || lineWithLetters(session, i).includes(printed)));
 }
 
+// A word that must not be in the line. A pasted line may have an arrow, and numbers below 0.
+const NOT = /^-(?![\d>])/;
+
 // For each message whether it fits; null if there are no words, and all do.
 function filtered(session, text) {
     const words = text.toLowerCase().split(/\s+/).filter((it) => it && it !== "-");
@@ -78,7 +88,7 @@ function filtered(session, text) {
         return null;
     }
     const tests = words.map((word) => {
-        const isNot = word.startsWith("-") && word !== "->";
+        const isNot = NOT.test(word);
         const test = testOf(session, isNot ? word.slice(1) : word);
         return isNot ? (i) => !test(i) : test;
     });

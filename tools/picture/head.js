@@ -49,7 +49,7 @@ function countsOf(session) {
     const events = part(counted(totals[EVENT]), " ←");
     events.setAttribute("aria-label", `${events.textContent.slice(0, -1)} events`);
     const parts = [requests, " ", events, " · ", session.isTimed ? [part(duration(session.span)), " · "] : [],
-        part(counted(made.length), ` object${made.length === 1 ? "" : "s"}, `, counted(left), " open at the end"),
+        part(counted(made.length), ` object${made.length === 1 ? "" : "s"}, `, counted(left), " left at the end"),
         descriptors ? [" · ", part(counted(descriptors), descriptors === 1 ? " fd" : " fds")] : []];
     line.append(...parts.flat());
     return line;

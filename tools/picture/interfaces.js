@@ -24,7 +24,7 @@ function countsByInterface(session) {
 
 function interfacesTable(session, panel) {
     const table = element("table"), head = element("tr");
-    head.append(...["interface", "→", "←", "bytes", "made", "open"].map((it) => {
+    head.append(...["interface", "→", "←", "bytes", "made", "left"].map((it) => {
         const cell = element("th", "", it);
         cell.scope = "col";
         return cell;

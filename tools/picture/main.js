@@ -147,7 +147,7 @@ class App {
 
     filterByObject() {
         const object = this.selectedObject();
-        this.setFilter(object && this.filter !== object.at ? object.at : "");
+        this.setFilter(object && this.filter !== object.alone ? object.alone : "");
     }
 
     filterByInterface() {

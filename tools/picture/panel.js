@@ -1,6 +1,13 @@
 "use strict";
 // The tabs beside the list: the session, the message, the interfaces.
 
+// How an object began that no message of the page has made. A recording that begins in the middle of its session names
+// the objects that were there.
+function beginWords(session, object) {
+    const isNamed = typeof session.raw.head.from === "number" && object.interface !== "unknown";
+    return object.id === 1 || isNamed ? "there from the start" : "what made it is not known";
+}
+
 class Panel {
     constructor(app, place) {
         this.app = app;
@@ -56,7 +63,7 @@ class Panel {
     }
 
     toObject(object) {
-        return this.link(object.name, object.made >= 0 ? object.made : object.messages[0] ?? -1, object.at);
+        return this.link(object.name, object.made >= 0 ? object.made : object.messages[0] ?? -1, object.alone);
     }
 
     row(name, ...parts) {
@@ -234,10 +241,10 @@ class Panel {
             const maker = session.objects[session.object[message]];
             return [this.toMessage(message), `, ${maker ? maker.name : "unknown"}.${session.nameOf(message)}`];
         };
-        life.push(...(object.made >= 0 ? ["made by ", by(object.made)] : ["there from the start"]));
+        life.push(...(object.made >= 0 ? ["made by ", by(object.made)] : [beginWords(session, object)]));
         life.push(...(object.destroyed >= 0 ? ["; destroyed by ", by(object.destroyed)] : []));
         life.push(...(object.freed >= 0 ? ["; its id was freed by ", this.toMessage(object.freed)] : []));
-        life.push(session.isOpen(object) ? "; open at the end" : "");
+        life.push(session.isOpen(object) ? "; left at the end" : "");
         const name = element("p");
         name.append(this.toObject(object));
         return [element("h2", "", "Object"), name, object.version ? this.row("version", String(object.version)) : null,
