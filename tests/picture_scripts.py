@@ -116,5 +116,123 @@ def interface_of_no_table():
           "there from the start", "wl_display")
 
 
+# ---- the keyboard and the pointer
+
+# A place that a pointer is dragged over, and the events that come.
+DRAGS = """(() => {
+    const place = new EventTarget(), said = [];
+    place.setPointerCapture = () => {};
+    const on = (name) => () => { said.push(name); };
+    onDrag(place, { moved: on("moved"), dragged: on("dragged"), clicked: on("clicked"), over: on("over") });
+    const act = (type, clientX, clientY, parts = {}) => place.dispatchEvent(eventOf(type, {
+        button: 0, pointerId: 1, isPrimary: true, pointerType: "mouse", clientX, clientY, offsetX: clientX, ...parts }));
+    %s
+    return said;
+})()"""
+
+
+def clicks_and_drags():
+    """What moves little is a click, in whatever direction; what the browser takes away is neither."""
+    for what, events, wanted in (
+            ("a click", 'act("pointerdown", 9, 9); act("pointermove", 10, 11); act("pointerup", 10, 11);',
+             ["over", "clicked"]),
+            ("straight down", 'act("pointerdown", 9, 9); act("pointermove", 9, 30); act("pointerup", 9, 30);',
+             ["moved", "over", "dragged"]),
+            ("a tap", """act("pointerdown", 9, 9, { pointerType: "touch" }); act("pointermove", 12, 14);
+                act("pointerup", 12, 14);""", ["over", "clicked"]),
+            ("a finger that scrolls", """act("pointerdown", 9, 9, { pointerType: "touch" }); act("pointermove", 9, 14);
+                act("pointercancel", 9, 14); act("pointerup", 9, 14);""", ["over"]),
+            ("a second finger", """act("pointerdown", 9, 9); act("pointerdown", 50, 9, { isPrimary: false, pointerId: 2 });
+                act("pointermove", 90, 9, { pointerId: 2 }); act("pointerup", 90, 9, { pointerId: 2 });
+                act("pointerup", 9, 9);""", ["over", "clicked"]),
+            ("another button", 'act("pointerdown", 9, 9, { button: 2 }); act("pointerup", 9, 9);', [])):
+        equal(value(picture_sessions.small(), DRAGS % events), wanted, what)
+
+
+def wheel_and_pinch():
+    """A pinch sends many events, each of which zooms by little; no event zooms by much."""
+    found = value(picture_sessions.small(), """[[2, 0], [-2, 0], [120, 0], [-1e6, 0], [3, 1]].map(([deltaY, deltaMode]) =>
+        Math.round(100 * zoomOf({ deltaY, deltaMode })))""")
+    equal(found, [101, 99, 128, 78, 128], "percent")
+
+
+def keys_of_what_has_the_focus():
+    """Keys that scroll are those of the text or the picture that has the focus; links keep their own."""
+    found = value(picture_sessions.small(), """["ArrowDown", "PageUp", "Home", "Enter", "ArrowLeft", "j"].map((key) =>
+        ["list", "told", "a"].map((it) => isTaken({ closest: (words) => words.split(/, /).includes(
+            it === "told" ? "#told" : it) ? {} : null }, key)))""")
+    equal(found, [*3 * [[False, True, False]], *2 * [[False, False, True]], 3 * [False]], "taken")
+
+
+# ---- the picture
+
+
+def same_messages_in_both_scales():
+    """The messages on both edges stay in view, however often the scale is switched."""
+    found = value(picture_sessions.small(), """(() => {
+        document.getElementById = () => ({ setAttribute() {} });
+        const app = appOf(session), seen = [];
+        app.view.show(app.view.at(1), app.view.at(6));
+        for (let k = 0; k < 5; k++) {
+            seen.push([app.view.isTime, ...app.view.seen()]);
+            switchScale(app);
+        }
+        return seen;
+    })()""")
+    equal(found, [[is_time, 1, 7] for is_time in (True, False, True, False, True)], "the messages that are seen")
+
+
+def last_message_has_a_place():
+    """By order, the last message is not on the edge of the picture."""
+    for lines in (picture_sessions.small(), picture_sessions.small()[:3]):
+        found = value(lines, """(() => {
+            const view = new View(session);
+            view.scale(false);
+            view.all();
+            return view.right - view.xOf(session.count - 1);
+        })()""")
+        equal(found > 2, True, f"{found} pixels are left")
+
+
+def rows_of_many_objects():
+    """An unfolded interface has at most 400 rows for objects, which are used again, and says what else there is."""
+    rows = """(() => {
+        const { rows, rowOf } = new Layout(session, new Map([["wl_region", false]]), false);
+        const own = rows.filter((it) => it.interface === "wl_region");
+        const regions = session.objects.filter((it) => it.interface === "wl_region");
+        return [own.filter((it) => it.kind === "life").length, own.filter((it) => it.kind === "more").map((it) =>
+            [it.label, it.most, it.objects.length]), regions.filter((it) => !rowOf.has(it)).length];
+    })()"""
+    for count, later, wanted in ((20, 3, [20, [], 0]), (400, 9, [400, [], 0]), (1405, 9, [400, [["1,005 more", 1005, 1005]], 0])):
+        equal(value(picture_sessions.many_regions(count, later), rows), wanted, f"{count} regions")
+
+
+def click_near_a_hidden_message():
+    """A click in the picture selects a message that the filter lets through."""
+    found = value(picture_sessions.small(), """[[6, 7, 8], [6, 7], [6], []].map((numbers) => {
+        const isShown = Uint8Array.from(session.signature, (_, it) => numbers.includes(it + 1));
+        const app = appOf(session, { isShown });
+        const row = { objects: [session.objects.find((it) => it.interface === "wl_surface")] };
+        return app.messageAt(row, app.view.at(7)) + 1;
+    })""")
+    equal(found, [8, 7, 6, 0], "the message")
+
+
+def hidden_message_is_said():
+    """If the filter hides the selected message, its count says so."""
+    found = value(picture_sessions.small(), """(() => {
+        const place = { textContent: "" };
+        document.getElementById = () => place;
+        return [["", 0], ["commit", 5], ["commit", 0], ["commit", -1]].map(([text, selected]) => {
+            const isShown = filtered(session, text);
+            showFound(appOf(session, { isShown, selected, list: { rows: isShown?.filter((it) => it) } }));
+            return place.textContent;
+        });
+    })()""")
+    equal(found, ["", "3 of 8", "3 of 8, message 1 is hidden", "3 of 8"], "what is said")
+
+
 TESTS = (new_id_of_zero, nothing_is_asked_after_the_end, buffer_of_two_surfaces, first_with_an_id, open_questions,
-         pasted_lines, interface_of_no_table)
+         pasted_lines, interface_of_no_table, clicks_and_drags, wheel_and_pinch, keys_of_what_has_the_focus,
+         same_messages_in_both_scales, last_message_has_a_place, rows_of_many_objects, click_near_a_hidden_message,
+         hidden_message_is_said)

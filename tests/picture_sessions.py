@@ -284,6 +284,22 @@ def unknown_interface():
     return lines.ended("unknown")
 
 
+def many_regions(count, later):
+    """A client makes regions, destroys all of them, and makes some more."""
+    lines, numbers = Lines("client"), range(10, 10 + count + later)
+    for at in numbers[:count]:
+        lines.add("request", named("wl_compositor", 5), "create_region", 1, [new("wl_region", at)],
+                  f"new id wl_region@{at}")
+    for at in numbers[:count]:
+        region = named("wl_region", at)
+        lines.add("request", region, "destroy", 0, [], "", destroyed=[region])
+        lines.add("event", named("wl_display", 1), "delete_id", 1, [number_of(at)], str(at), freed=[region])
+    for at in numbers[count:]:
+        lines.add("request", named("wl_compositor", 5), "create_region", 1, [new("wl_region", at)],
+                  f"new id wl_region@{at}")
+    return lines.ended()
+
+
 def words(*numbers):
     return struct.pack(f"<{len(numbers)}I", *numbers)
 

@@ -15,7 +15,7 @@ class Drawing {
         this.left = view.left;
         pen.fillStyle = colours.ground;
         pen.fillRect(0, 0, view.width, height);
-        this.seen = [view.first(view.from), view.first(view.to + 1e-9)];
+        this.seen = view.seen();
         this.drawGrid(height);
         const selected = layout.rowOf.get(app.selectedObject());
         for (const row of layout.rows) {
@@ -169,6 +169,11 @@ class Drawing {
             open[direction] = { x, to: x + 1.5, y: yOf(i) };
         }
         open.forEach((run, direction) => run && put(run, direction));
+    }
+
+    // The objects of an unfolded interface that have no row of their own.
+    more(row, y) {
+        this.fold(row, y);
     }
 
     // How many objects live, if there are too many for a row each.

@@ -68,7 +68,7 @@ function switchScale(app) {
         return;
     }
     const isWhole = view.from <= 0 && view.to >= view.end();
-    const [first, last] = [view.first(view.from), Math.max(0, view.first(view.to) - 1)];
+    const [first, behind] = view.seen(), last = Math.max(0, behind - 1);
     view.scale(!view.isTime);
     if (isWhole) {
         view.all();
@@ -98,6 +98,21 @@ function showHelp() {
     document.getElementById("keys").showModal();
 }
 
+// How many messages the filter finds, and whether the selected one is hidden.
+function showFound(app) {
+    const { isShown, selected, session, list: { rows } } = app, place = document.getElementById("found");
+    const isHidden = isShown && selected >= 0 && !isShown[selected];
+    const words = (isShown ? `${counted(rows.length)} of ${counted(session.count)}` : "")
+        + (isHidden ? `, message ${counted(selected + 1)} is hidden` : "");
+    // A reader of the screen hears each change.
+    if (place.textContent !== words) {
+        place.textContent = words;
+    }
+}
+
+// The address follows once nothing was changed for so many milliseconds: browsers refuse many changes in a short time.
+const QUIET = 200;
+
 function writeHash(app) {
     const parts = [];
     if (app.selected >= 0) {
@@ -107,7 +122,14 @@ function writeHash(app) {
         parts.push(`f=${encodeURIComponent(app.filter)}`);
     }
     app.hash = parts.join("&");
-    history.replaceState(null, "", `#${app.hash}`);
+    clearTimeout(app.hashTimer);
+    app.hashTimer = setTimeout(() => {
+        try {
+            history.replaceState(null, "", `#${app.hash}`);
+        } catch {
+            // Refused all the same. The next change is written.
+        }
+    }, QUIET);
 }
 
 // Applies the hash of the address, unless the page itself wrote it.

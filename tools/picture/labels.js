@@ -61,7 +61,7 @@ function drawLabel(drawing, row, y) {
         return;
     }
     const count = row.count > 1 ? counted(row.count) : "";
-    const most = row.kind === "fold" ? `most ${counted(row.most)} at once` : "";
+    const most = row.steps ? `most ${counted(row.most)} at once` : "";
     if (view.isNarrow) {
         const beside = view.left + widthOf(pen, row.label, LABEL.name) + 10;
         writeWhole(drawing, row.label, view.left, y + 12, colours.text, LABEL.name);

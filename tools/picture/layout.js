@@ -8,6 +8,10 @@ const WIDE = 1200, NARROW = 600;
 const HEIGHT = { heading: 26, wait: 36, life: 20, fold: 36, above: 17 };
 const MOST_ROWS = 8;
 const OWN_ROWS = 4;
+// An interface has at most so many rows for its objects, and one more for those that overlap with all of these.
+const MOST_LANES = 400;
+// The edges of the view are rounded by less than this. The places of messages are whole numbers.
+const ROUNDED = 1e-3;
 
 const GROUPS = [
     { key: "windows", label: "Windows" }, { key: "buffers", label: "Buffers" }, { key: "input", label: "Input" },
@@ -54,8 +58,9 @@ class View {
         return this.places[message];
     }
 
+    // The end of the session. By order it is behind the last message, so that this has a place too.
     end() {
-        return this.isTime ? this.session.span : this.session.count + (this.session.count < 2 ? 1 : 0);
+        return this.isTime ? this.session.span : this.session.count + 1;
     }
 
     all() {
@@ -113,36 +118,40 @@ class View {
 
     // The first message at this place or behind it.
     first(at) {
-        let low = 0, high = this.session.count;
-        while (low < high) {
-            const middle = (low + high) >> 1;
-            if (this.at(middle) < at) {
-                low = middle + 1;
-            } else {
-                high = middle;
-            }
-        }
-        return low;
+        return firstWhere(this.session.count, (it) => this.at(it) >= at);
+    }
+
+    // The first message behind this place.
+    behind(at) {
+        return firstWhere(this.session.count, (it) => this.at(it) > at);
+    }
+
+    // The first message that is seen, and the first behind those that are. Those on the edges are seen.
+    seen() {
+        return [this.first(this.from - ROUNDED), this.behind(this.to + ROUNDED)];
     }
 
     isSeen(message) {
-        return this.at(message) >= this.from && this.at(message) <= this.to;
+        return this.at(message) >= this.from - ROUNDED && this.at(message) <= this.to + ROUNDED;
     }
 }
 
-// The first place in a list of messages that is at this message or behind it.
-function firstFrom(list, message) {
-    let low = 0, high = list.length;
+// The first number from 0 on that passes a test, which all numbers after it pass too; the count if none does.
+function firstWhere(count, passes) {
+    let low = 0, high = count;
     while (low < high) {
         const middle = (low + high) >> 1;
-        if (list[middle] < message) {
-            low = middle + 1;
-        } else {
+        if (passes(middle)) {
             high = middle;
+        } else {
+            low = middle + 1;
         }
     }
     return low;
 }
+
+// The first place in a list of messages that is at this message or behind it.
+const firstFrom = (list, message) => firstWhere(list.length, (it) => list[it] >= message);
 
 const shortInterface = (name) => name.replace(/^(wl|wp|xdg|z?wlr|zwp|zxdg|ext|org_kde_kwin|org_kde)_/, "");
 const shortName = (object) => shortInterface(object.interface) + object.at;
@@ -185,12 +194,15 @@ function belowOf(session, waits) {
 const beginOf = (object) => Math.max(0, object.made);
 const endOf = (session, object) => (object.end >= 0 ? object.end : session.count);
 
-// Lives that do not overlap share a row.
+// Lives that do not overlap share a row. `more` has those for which no row is left.
 function lanesOf(session, objects) {
-    const lanes = [], ends = [];
+    const lanes = [], ends = [], more = [];
     for (const it of objects) {
-        // With few lanes the heap of ends is short; with many, the rows are folded.
-        let lane = lanes.length > 400 ? -1 : ends.findIndex((end) => end < beginOf(it));
+        let lane = ends.findIndex((end) => end < beginOf(it));
+        if (lane < 0 && lanes.length === MOST_LANES) {
+            more.push(it);
+            continue;
+        }
         if (lane < 0) {
             lane = lanes.length;
             lanes.push([]);
@@ -198,7 +210,7 @@ function lanesOf(session, objects) {
         lanes[lane].push(it);
         ends[lane] = endOf(session, it);
     }
-    return lanes;
+    return { lanes, more };
 }
 
 // How many of the objects live: a message, and the number from there on.
@@ -209,8 +221,15 @@ function stepsOf(session, objects) {
     return changes.map(([message, by]) => [message, live += by]);
 }
 
-// The rows of the objects, by what their interfaces are for. `unfolded` has the interfaces opened or closed by hand.
-function lifeRows(session, unfolded) {
+// One row for many objects: how many of them live, and the most that do at one time.
+function rowOfMany(session, kind, label, objects) {
+    const steps = stepsOf(session, objects), most = steps.reduce((a, [, live]) => Math.max(a, live), 0);
+    return { kind, label, objects, steps, most, height: HEIGHT.fold };
+}
+
+// The rows of the objects, by what their interfaces are for. `folds` says of an interface whether it is folded, if
+// that was chosen by hand.
+function lifeRows(session, folds) {
     const rows = [];
     const byGroup = grouped(session.objects.filter((it) => it.made >= 0 || it.messages.length), (it) => it.group);
     for (const { key, label } of GROUPS.filter((it) => byGroup.has(it.key))) {
@@ -219,18 +238,19 @@ function lifeRows(session, unfolded) {
         const isLong = (lanes) => lanes.length > MOST_ROWS;
         for (const [name, objects] of parts) {
             objects.sort((a, b) => a.made - b.made);
-            const lanes = lanesOf(session, objects);
+            const { lanes, more } = lanesOf(session, objects);
             const base = { group: key, interface: name, count: objects.length };
-            const isFolded = unfolded.get(name) ?? isLong(lanes);
+            const isFolded = folds.get(name) ?? isLong(lanes);
             if (isFolded && lanes.length > 1) {
-                const steps = stepsOf(session, objects);
-                const most = steps.reduce((a, [, live]) => Math.max(a, live), 0);
-                rows.push({ ...base, kind: "fold", label: name, objects, steps, most, height: HEIGHT.fold });
+                rows.push({ ...base, ...rowOfMany(session, "fold", name, objects) });
                 continue;
             }
-            lanes.slice(0, 400).forEach((lane, place) => rows.push({
+            lanes.forEach((lane, place) => rows.push({
                 ...base, kind: "life", label: place ? "" : name, objects: lane, height: HEIGHT.life,
             }));
+            if (more.length) {
+                rows.push({ ...base, ...rowOfMany(session, "more", `${counted(more.length)} more`, more), count: 0 });
+            }
         }
     }
     return rows;
@@ -238,10 +258,10 @@ function lifeRows(session, unfolded) {
 
 // All rows with their places, and for each object its row. Where the picture is narrow, a row has its name above it.
 class Layout {
-    constructor(session, unfolded, isNarrow) {
+    constructor(session, folds, isNarrow) {
         const waits = waitRows(session);
         this.rows = waits.length ? [{ kind: "heading", label: "Waits", group: "", height: HEIGHT.heading }] : [];
-        this.rows.push(...waits, ...lifeRows(session, unfolded));
+        this.rows.push(...waits, ...lifeRows(session, folds));
         this.rowOf = new Map();
         let y = 0;
         for (const row of this.rows) {

@@ -7,7 +7,7 @@ class App {
         this.selected = -1;
         this.filter = "";
         this.isShown = null;
-        this.unfolded = new Map();
+        this.folds = new Map();
         const place = (id) => document.getElementById(id);
         this.places = { overview: place("overview"), axis: place("axis"), picture: place("picture"),
             scroller: place("scroller"), tall: place("tall") };
@@ -22,7 +22,7 @@ class App {
     }
 
     layOut() {
-        this.layout = new Layout(this.session, this.unfolded, this.view.isNarrow);
+        this.layout = new Layout(this.session, this.folds, this.view.isNarrow);
     }
 
     start() {
@@ -92,6 +92,7 @@ class App {
             this.panel.draw();
             this.list.draw();
         }
+        showFound(this);
         writeHash(this);
         this.drawSoon();
     }
@@ -162,8 +163,7 @@ class App {
         }
         this.isShown = filtered(this.session, text);
         this.list.fill();
-        const status = document.getElementById("found");
-        status.textContent = this.isShown ? `${counted(this.list.rows.length)} of ${counted(this.session.count)}` : "";
+        showFound(this);
         if (this.selected >= 0 && this.list.placeOf(this.selected) >= 0) {
             this.list.reveal(this.selected);
         }
@@ -214,7 +214,7 @@ class App {
     fold(name = this.selectedObject()?.interface) {
         if (name) {
             const isFolded = this.layout.rows.some((it) => it.kind === "fold" && it.interface === name);
-            this.unfolded.set(name, !isFolded);
+            this.folds.set(name, !isFolded);
             this.layOut();
             this.drawSoon();
         }
@@ -246,13 +246,14 @@ class App {
         return fits.length ? fits.reduce((a, b) => (size(b) < size(a) ? b : a)).from : -1;
     }
 
+    // The nearest message of those that the filter lets through; -1 if there is none.
     messageAt(row, at) {
-        const { view } = this;
+        const { view, isShown } = this;
         const own = row.objects.filter((it) => at >= view.at(Math.max(0, it.made)) - 4 * (view.atX(1) - view.atX(0))
             && (it.end < 0 || at <= view.at(it.end) + 4 * (view.atX(1) - view.atX(0))));
         let best = -1;
         for (const it of own.length ? own : row.objects) {
-            for (const message of [...it.messages, ...it.naming]) {
+            for (const message of [...it.messages, ...it.naming].filter((one) => !isShown || isShown[one])) {
                 if (best < 0 || Math.abs(view.at(message) - at) < Math.abs(view.at(best) - at)) {
                     best = message;
                 }

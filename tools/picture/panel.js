@@ -28,6 +28,7 @@ class Panel {
     }
 
     show(tab) {
+        const isOther = tab !== this.tab;
         this.tab = tab;
         for (const it of this.tabs) {
             it.setAttribute("aria-selected", String(it.dataset.tab === tab));
@@ -35,11 +36,19 @@ class Panel {
         }
         this.body.setAttribute("aria-labelledby", `tab-${tab}`);
         this.draw();
+        if (isOther) {
+            this.body.scrollTop = 0;
+        }
     }
 
     draw() {
-        this.body.replaceChildren(...this[this.tab]().flat(4).filter((it) => it !== null && it !== ""));
-        addBreaks(this.body);
+        const { body } = this, hadFocus = body.contains(document.activeElement);
+        body.replaceChildren(...this[this.tab]().flat(4).filter((it) => it !== null && it !== ""));
+        addBreaks(body);
+        // The link that had the focus is gone.
+        if (hadFocus && !body.contains(document.activeElement)) {
+            body.focus({ preventScroll: true });
+        }
     }
 
     // A link to a message; or to what a filter finds.

@@ -47,7 +47,7 @@ function drawSelection(app, pen, top, height) {
     const { session, view, colours, layout, selected } = app;
     const place = (message) => {
         const row = layout.rowOf.get(session.objects[session.object[message]]);
-        return row && { x: view.xOf(message), y: row.y + row.above - top + (row.kind === "fold" ? 24 : 10) };
+        return row && { x: view.xOf(message), y: row.y + row.above - top + (row.steps ? 24 : 10) };
     };
     const mark = (message, colour, wide) => {
         if (view.isSeen(message)) {
