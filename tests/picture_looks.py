@@ -72,6 +72,20 @@ ROOM_OF_FILTER = """(() => {
     pen.font = style.font;
     return field.clientWidth - 2 * parseFloat(style.paddingLeft) - pen.measureText(field.placeholder).width;
 })()"""
+# The least contrast of the numbers and the times in the list with what is behind them.
+CONTRAST = """(() => {
+    const parts = (colour) => colour.match(/[\\d.]+/g).slice(0, 3).map((it) => it / 255)
+        .map((it) => (it <= 0.04045 ? it / 12.92 : ((it + 0.055) / 1.055) ** 2.4));
+    const light = (colour) => parts(colour).reduce((sum, it, at) => sum + it * [0.2126, 0.7152, 0.0722][at], 0.05);
+    const behind = (it) => {
+        const { backgroundColor } = getComputedStyle(it);
+        return backgroundColor.endsWith(', 0)') ? behind(it.parentElement) : backgroundColor;
+    };
+    return Math.min(...Array.from(document.querySelectorAll('.number, .time'), (it) => {
+        const [least, most] = [getComputedStyle(it).color, behind(it)].map(light).sort((a, b) => a - b);
+        return most / least;
+    }));
+})()"""
 VERDICT = """(({ left, top, right, bottom }) => [left, top, right, bottom])
     (document.querySelector('.pill').getBoundingClientRect())"""
 

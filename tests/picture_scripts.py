@@ -71,6 +71,13 @@ def buffer_of_two_surfaces():
         equal(found, [["held", "wl_surface@4", 2, 5, is_gone], ["held", "wl_surface@5", 4, 5, is_gone]], last)
 
 
+def taken_by_a_commit():
+    """A commit takes into effect what was asked since the one before, however much that is."""
+    found = value(picture_sessions.commits(), """[15, 17].map((it) => takenByCommit(session, it - 1)
+        .map((one) => session.nameOf(one)))""")
+    equal(found, [["attach", *12 * ["damage_buffer"], "frame"], []], "taken")
+
+
 # ---- the filter, and objects
 
 
@@ -98,7 +105,8 @@ def pasted_lines():
     lines = picture_sessions.questions_left()
     line = value(lines, "session.line(1)")
     equal(line, "-> wl_surface@4.attach(wl_buffer@7, -1, -5)", "the line")
-    for text, wanted in ((line, [2]), ("-attach", [1, 3]), ("-@7 ->", [1, 3]), ("-1", [2]), ("-wl_callback -attach", [3])):
+    for text, wanted in ((line, [2]), ("-attach", [1, 3]), ("-@7 ->", [1, 3]), ("-1", [2]),
+                         ("-wl_callback -attach", [3])):
         equal(value(lines, f"linesOf(session, {json.dumps(text)})"), wanted, text)
     text = "wl_surface@10b.commit()"
     equal(value(picture_sessions.reused_id(), f"[linesOf(session, '{text}'), linesOf(session, '{text}')]"), [[5], [5]],
@@ -203,7 +211,8 @@ def rows_of_many_objects():
         return [own.filter((it) => it.kind === "life").length, own.filter((it) => it.kind === "more").map((it) =>
             [it.label, it.most, it.objects.length]), regions.filter((it) => !rowOf.has(it)).length];
     })()"""
-    for count, later, wanted in ((20, 3, [20, [], 0]), (400, 9, [400, [], 0]), (1405, 9, [400, [["1,005 more", 1005, 1005]], 0])):
+    for count, later, wanted in ((20, 3, [20, [], 0]), (400, 9, [400, [], 0]),
+                                 (1405, 9, [400, [["1,005 more", 1005, 1005]], 0])):
         equal(value(picture_sessions.many_regions(count, later), rows), wanted, f"{count} regions")
 
 
@@ -232,7 +241,7 @@ def hidden_message_is_said():
     equal(found, ["", "3 of 8", "3 of 8, message 1 is hidden", "3 of 8"], "what is said")
 
 
-TESTS = (new_id_of_zero, nothing_is_asked_after_the_end, buffer_of_two_surfaces, first_with_an_id, open_questions,
-         pasted_lines, interface_of_no_table, clicks_and_drags, wheel_and_pinch, keys_of_what_has_the_focus,
-         same_messages_in_both_scales, last_message_has_a_place, rows_of_many_objects, click_near_a_hidden_message,
-         hidden_message_is_said)
+TESTS = (new_id_of_zero, nothing_is_asked_after_the_end, buffer_of_two_surfaces, taken_by_a_commit, first_with_an_id,
+         open_questions, pasted_lines, interface_of_no_table, clicks_and_drags, wheel_and_pinch,
+         keys_of_what_has_the_focus, same_messages_in_both_scales, last_message_has_a_place, rows_of_many_objects,
+         click_near_a_hidden_message, hidden_message_is_said)

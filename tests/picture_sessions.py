@@ -300,6 +300,20 @@ def many_regions(count, later):
     return lines.ended()
 
 
+def commits():
+    """A surface that is damaged often, and is committed twice."""
+    lines, surface = Lines("client"), named("wl_surface", 4)
+    damage = [number_of(0) for _ in range(4)]
+    lines.add("request", surface, "attach", 1, [given("wl_buffer", 7), number_of(0), number_of(0)], "wl_buffer@7, 0, 0")
+    for _ in range(12):
+        lines.add("request", surface, "damage_buffer", 9, damage, "0, 0, 0, 0")
+    lines.add("request", surface, "frame", 3, [new("wl_callback", 8)], "new id wl_callback@8")
+    for _ in range(2):
+        lines.add("request", surface, "commit", 6, [], "")
+        lines.add("event", surface, "enter", 0, [given("wl_output", 9)], "wl_output@9")
+    return lines.ended()
+
+
 def words(*numbers):
     return struct.pack(f"<{len(numbers)}I", *numbers)
 

@@ -3,9 +3,8 @@
 
 const FONT = 'system-ui, "Noto Sans", "DejaVu Sans", sans-serif';
 const MONO = 'ui-monospace, "Noto Sans Mono", "DejaVu Sans Mono", monospace';
-const COLOURS = ["ground", "panel", "text", "soft", "faint", "line", "request", "event", "bad", "amber", "wait", "top",
-    "green", "blue", "row", "dark",
-    "amber-top"];
+const COLOURS = ["ground", "text", "soft", "faint", "line", "request", "event", "bad", "amber", "wait", "top", "green",
+    "blue", "row", "dark", "amber-top"];
 
 // The colours that the style has now, by their names.
 function readColours() {
@@ -86,27 +85,25 @@ function columnsOf(session, view, isShown, whole) {
     return counts;
 }
 
-// The whole session: requests above, events below; the visible part is bright.
-function drawOverview(app, canvas) {
-    const { session, view, colours } = app, height = 47;
-    const pen = fitted(canvas, view.width, height);
-    const key = [view.width, view.isTime, app.filter, session.count].join(" ");
+// The visible part of the session, if it is not all of it.
+function drawSeenPart(app, pen, height) {
+    const { view, colours } = app;
+    if (view.from <= 0 && view.to >= view.end()) {
+        return;
+    }
+    const [a, b] = [view.from, view.to].map((it) => view.left + it / view.end() * view.inner);
+    pen.fillStyle = colours.row;
+    pen.fillRect(a, 0, Math.max(2, b - a), height);
+    pen.strokeStyle = colours.blue;
+    pen.strokeRect(a + 0.5, 0.5, Math.max(1, b - a - 1), height - 1);
+}
+
+// The messages of each column of pixels. They are counted again only if something else is shown.
+function drawColumnsOfAll(app, pen) {
+    const { session, view, colours } = app, key = [view.width, view.isTime, app.filter, session.count].join(" ");
     if (app.overviewKey !== key) {
         app.overviewKey = key;
         app.overviewCounts = columnsOf(session, view, app.isShown, view.end());
-    }
-    if (!view.isNarrow) {
-        write(pen, "→ requests", 14, 20, colours.request, `11px ${FONT}`);
-        write(pen, "← events", 14, 35, colours.event, `11px ${FONT}`);
-    }
-    const { left, inner } = view;
-    const isWhole = view.from <= 0 && view.to >= view.end();
-    if (!isWhole) {
-        pen.fillStyle = colours.row;
-        const [a, b] = [view.from, view.to].map((it) => left + it / view.end() * inner);
-        pen.fillRect(a, 0, Math.max(2, b - a), height);
-        pen.strokeStyle = colours.blue;
-        pen.strokeRect(a + 0.5, 0.5, Math.max(1, b - a - 1), height - 1);
     }
     app.overviewCounts.forEach((counts, direction) => {
         // Half of the height for one message, the full height for as many as in the fullest column.
@@ -115,22 +112,38 @@ function drawOverview(app, canvas) {
         counts.forEach((count, x) => {
             if (count) {
                 const high = most > 1 ? 6 + 13 * Math.sqrt((count - 1) / (most - 1)) : 19;
-                pen.fillRect(left + x, direction === REQUEST ? 23 - high : 24, 1.4, high);
+                pen.fillRect(view.left + x, direction === REQUEST ? 23 - high : 24, 1.4, high);
             }
         });
     });
+}
+
+// The part that is being chosen by a drag.
+function drawChosen(app, pen, [a, b], height) {
+    pen.globalAlpha = 0.2;
+    pen.fillStyle = app.colours.blue;
+    pen.fillRect(Math.min(a, b), 0, Math.abs(b - a), height);
+    pen.globalAlpha = 1;
+}
+
+// The whole session: requests above, events below; the visible part is bright.
+function drawOverview(app, canvas) {
+    const { session, view, colours } = app, height = 47;
+    const pen = fitted(canvas, view.width, height);
+    if (!view.isNarrow) {
+        write(pen, "→ requests", 14, 20, colours.request, `11px ${FONT}`);
+        write(pen, "← events", 14, 35, colours.event, `11px ${FONT}`);
+    }
+    drawSeenPart(app, pen, height);
+    drawColumnsOfAll(app, pen);
     for (const [message, colour] of [[app.selected, colours.text], [session.bad, colours.bad]]) {
         if (message >= 0) {
             pen.fillStyle = colour;
-            pen.fillRect(left + view.at(message) / view.end() * inner - 0.5, 0, 1.5, height);
+            pen.fillRect(view.left + view.at(message) / view.end() * view.inner - 0.5, 0, 1.5, height);
         }
     }
     if (app.overviewDrag) {
-        const [a, b] = app.overviewDrag;
-        pen.globalAlpha = 0.2;
-        pen.fillStyle = colours.blue;
-        pen.fillRect(Math.min(a, b), 0, Math.abs(b - a), height);
-        pen.globalAlpha = 1;
+        drawChosen(app, pen, app.overviewDrag, height);
     }
 }
 
@@ -183,10 +196,7 @@ function drawAxis(app, canvas) {
     }
     if (app.axisDrag) {
         const [a, b] = app.axisDrag;
-        pen.globalAlpha = 0.2;
-        pen.fillStyle = colours.blue;
-        pen.fillRect(Math.min(a, b), 0, Math.abs(b - a), height);
-        pen.globalAlpha = 1;
+        drawChosen(app, pen, app.axisDrag, height);
         const wide = Math.abs(view.atX(b) - view.atX(a));
         write(pen, view.isTime ? duration(wide) : several(Math.round(wide), "message"), Math.max(a, b) + 4, 29,
             colours.text);

@@ -79,21 +79,6 @@ function switchScale(app) {
     app.drawSoon();
 }
 
-function isDark() {
-    const chosen = document.documentElement.dataset.theme;
-    return chosen ? chosen === "dark" : matchMedia("(prefers-color-scheme: dark)").matches;
-}
-
-function switchTheme(app) {
-    document.documentElement.dataset.theme = isDark() ? "light" : "dark";
-    recolour(app);
-}
-
-function recolour(app) {
-    app.colours = readColours();
-    app.draw();
-}
-
 function showHelp() {
     document.getElementById("keys").showModal();
 }

@@ -32,6 +32,9 @@ class List {
         this.place = place;
         this.inner = place.firstElementChild;
         this.rows = [];
+        const { count, time } = app.session;
+        place.style.setProperty("--digits", String(count).length);
+        place.style.setProperty("--time-digits", microseconds(time[count - 1] ?? 0).length);
         place.addEventListener("scroll", () => {
             this.draw();
             app.drawSoon();

@@ -35,7 +35,7 @@ class App {
         document.getElementById("scale").addEventListener("click", () => switchScale(this));
         document.getElementById("theme").addEventListener("click", () => switchTheme(this));
         document.getElementById("help").addEventListener("click", showHelp);
-        matchMedia("(prefers-color-scheme: dark)").addEventListener("change", () => recolour(this));
+        systemIsDark.addEventListener("change", () => followSystem(this));
         window.addEventListener("hashchange", () => readHash(this));
         this.list.fill();
         this.panel.show("session");

@@ -8,6 +8,17 @@ function beginWords(session, object) {
     return object.id === 1 || isNamed ? "there from the start" : "what made it is not known";
 }
 
+// The requests for a commit's surface since the commit before, in their order.
+function takenByCommit(session, message) {
+    const { messages } = session.objects[session.object[message]], found = [];
+    for (let k = firstFrom(messages, message) - 1; k >= 0 && !session.isOf(messages[k], "wl_surface", "commit"); k--) {
+        if (session.direction[messages[k]] === REQUEST) {
+            found.push(messages[k]);
+        }
+    }
+    return found.reverse();
+}
+
 class Panel {
     constructor(app, place) {
         this.app = app;
@@ -86,8 +97,8 @@ class Panel {
         const { session } = this.app, { findings, raw } = session;
         const items = findings.map(({ level, words, message, filter }) => {
             const made = element("li", level);
-            const level_words = { bad: "broken: ", look: "", note: "" }[level];
-            made.append(element("span", "unseen", level_words), this.link(words, message, filter ?? null));
+            const levelWords = { bad: "broken: ", look: "", note: "" }[level];
+            made.append(element("span", "unseen", levelWords), this.link(words, message, filter ?? null));
             return made;
         });
         if (!items.length) {
@@ -180,21 +191,22 @@ class Panel {
             this.objectPart(session.objects[session.object[selected]])];
     }
 
-    // What a commit takes into effect: the requests for its surface since the commit before.
+    // What a commit takes into effect, each name once. A link leads to the last request with its name.
     effects(message) {
         const { session } = this.app;
         if (!session.isOf(message, "wl_surface", "commit")) {
             return [];
         }
-        const { messages } = session.objects[session.object[message]], found = [];
-        for (let k = firstFrom(messages, message) - 1; k >= 0 && !session.isOf(messages[k], "wl_surface", "commit"); k--) {
-            if (session.direction[messages[k]] === REQUEST) {
-                found.unshift(messages[k]);
-            }
+        const found = grouped(takenByCommit(session, message), (it) => session.nameOf(it));
+        const line = element("p", "", found.size ? "Takes into effect " : "No request for this surface since its last "
+            + "commit.");
+        for (const [name, messages] of found) {
+            line.append(this.link(name, messages.at(-1)), messages.length > 1 ? ` (${counted(messages.length)} times)` : "",
+                ", ");
         }
-        const line = element("p", "", found.length ? "Takes into effect " : "Takes nothing into effect.");
-        found.slice(-12).forEach((it, place) => line.append(place ? ", " : "", this.link(session.nameOf(it), it)));
-        line.append(found.length ? "." : "");
+        if (found.size) {
+            line.lastChild.replaceWith(".");
+        }
         return [line];
     }
 
