@@ -71,6 +71,18 @@ def buffer_of_two_surfaces():
         equal(found, [["held", "wl_surface@4", 2, 5, is_gone], ["held", "wl_surface@5", 4, 5, is_gone]], last)
 
 
+def frames_of_subsurfaces():
+    """A frame of a synchronized subsurface is waited for from the commit of its parent on."""
+    for before, behind, wanted in (((), (), 4), (["set_desync"], [], 4), (["set_desync", "set_sync"], [], 6),
+                                   ([], ["set_desync"], 4), (["destroy"], [], 4)):
+        found = value(picture_sessions.subsurface(before, behind), """session.waits.map((it) =>
+            [it.key, it.object.name, it.asked + 1, it.from + 1, session.nameOf(it.to)])""")
+        asked = 2 + len(before)
+        equal(found, [["frame", "wl_surface@4", asked, wanted, "done"]], f"{before}, {behind}")
+    found = value(picture_sessions.subsurface(), "[...session.keptCommits].map((it) => it + 1)")
+    equal(found, [3], "the commit that waits")
+
+
 def taken_by_a_commit():
     """A commit takes into effect what was asked since the one before, however much that is."""
     found = value(picture_sessions.commits(), """[15, 17].map((it) => takenByCommit(session, it - 1)
@@ -241,7 +253,8 @@ def hidden_message_is_said():
     equal(found, ["", "3 of 8", "3 of 8, message 1 is hidden", "3 of 8"], "what is said")
 
 
-TESTS = (new_id_of_zero, nothing_is_asked_after_the_end, buffer_of_two_surfaces, taken_by_a_commit, first_with_an_id,
+TESTS = (new_id_of_zero, nothing_is_asked_after_the_end, buffer_of_two_surfaces, frames_of_subsurfaces, taken_by_a_commit,
+         first_with_an_id,
          open_questions, pasted_lines, interface_of_no_table, clicks_and_drags, wheel_and_pinch,
          keys_of_what_has_the_focus, same_messages_in_both_scales, last_message_has_a_place, rows_of_many_objects,
          click_near_a_hidden_message, hidden_message_is_said)

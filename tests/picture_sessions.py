@@ -314,6 +314,24 @@ def commits():
     return lines.ended()
 
 
+def subsurface(before=(), behind=()):
+    """A surface in another asks for a frame and is committed; then its parent is, and after that the frame comes. There
+    are requests for the subsurface before its commit and behind it."""
+    lines, child, parent = Lines("client"), named("wl_surface", 4), named("wl_surface", 5)
+    lines.add("request", named("wl_subcompositor", 3), "get_subsurface", 1,
+              [new("wl_subsurface", 6), given("wl_surface", 4), given("wl_surface", 5)],
+              "new id wl_subsurface@6, wl_surface@4, wl_surface@5")
+    for it in before:
+        lines.add("request", named("wl_subsurface", 6), it, 5, [], "")
+    lines.add("request", child, "frame", 3, [new("wl_callback", 8)], "new id wl_callback@8")
+    lines.add("request", child, "commit", 6, [], "")
+    for it in behind:
+        lines.add("request", named("wl_subsurface", 6), it, 5, [], "")
+    lines.add("request", parent, "commit", 6, [], "")
+    lines.add("event", named("wl_callback", 8), "done", 0, [number_of(0)], "0")
+    return lines.ended()
+
+
 def words(*numbers):
     return struct.pack(f"<{len(numbers)}I", *numbers)
 

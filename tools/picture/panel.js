@@ -198,8 +198,9 @@ class Panel {
             return [];
         }
         const found = grouped(takenByCommit(session, message), (it) => session.nameOf(it));
-        const line = element("p", "", found.size ? "Takes into effect " : "No request for this surface since its last "
-            + "commit.");
+        const begin = session.keptCommits.has(message) ? "The next commit of its parent takes into effect "
+            : "Takes into effect ";
+        const line = element("p", "", found.size ? begin : "No request for this surface since its last commit.");
         for (const [name, messages] of found) {
             line.append(this.link(name, messages.at(-1)), messages.length > 1 ? ` (${counted(messages.length)} times)` : "",
                 ", ");

@@ -11,23 +11,6 @@ const WAITS = [
     { key: "ping", label: "ping → pong", name: "ping" },
 ];
 const ACKED = new Set(["xdg_surface", "zxdg_surface_v6", "zwlr_layer_surface_v1", "ext_session_lock_surface_v1"]);
-const SLOW = { times: 2, more: 8000, over: 20000 };
-// With fewer answers than this it is not known what is usual.
-const LEAST_USUAL = 3;
-// Questions that are answered at once, or at the latest when the next frame is shown.
-const PROMPT = new Set(["sync", "configure", "frame", "presented", "ping"]), SECOND = 1e6;
-
-function isSlow(took, usual) {
-    return took > SLOW.times * usual && took > usual + SLOW.more && took > SLOW.over;
-}
-
-// Whether an answer came late: it took longer than is usual for its kind, or a second. A buffer is held rightly until
-// the next one is there.
-function isLate(session, wait, usual) {
-    const from = wait.key === "held" ? wait.next : wait.from;
-    const isLong = (took) => isSlow(took, usual) || (PROMPT.has(wait.key) && took >= SECOND);
-    return from >= 0 && isLong(wait.took) && isLong(session.time[wait.to] - session.time[from]);
-}
 
 // Reads a session once, in the order of its messages.
 class Waiting {
@@ -38,6 +21,7 @@ class Waiting {
         this.surfaces = new Map();          // a surface's number: what its next commit takes into effect
         this.holds = new Map();             // a buffer's number: its waits, one for each surface that shows it
         this.kinds = [...WAITS];
+        this.subsurfaces = new Subsurfaces();
         this.serials = new Map();           // an object's number: waits by serial, for acks and pongs
     }
 
@@ -61,7 +45,9 @@ class Waiting {
 
     surface(object) {
         if (!this.surfaces.has(object.number)) {
-            this.surfaces.set(object.number, { frames: [], feedback: [], buffer: null, hold: null, open: [] });
+            // `kept` is what waits for the commit of a parent.
+            const asked = () => ({ frames: [], feedback: [], buffer: null });
+            this.surfaces.set(object.number, { ...asked(), kept: asked(), hold: null, open: [] });
         }
         return this.surfaces.get(object.number);
     }
@@ -80,6 +66,10 @@ class Waiting {
             if (icon) {
                 icon.isCursor = true;
             }
+        } else if (about.interface === "wl_subcompositor" && name === "get_subsurface") {
+            this.subsurfaces.add(session.value(i, 0), session.named(i, 1), session.named(i, 2));
+        } else if (about.interface === "wl_subsurface") {
+            this.ofSubsurface(i, about, name);
         } else if (name === "ack_configure") {
             this.acknowledged(i, about);
         } else if (name === "pong") {
@@ -100,12 +90,45 @@ class Waiting {
         }
     }
 
+    ofSubsurface(i, about, name) {
+        const { subsurfaces } = this, it = subsurfaces.byNumber.get(about.number);
+        if (name === "destroy") {
+            subsurfaces.remove(about.number);
+        } else if (it && (name === "set_sync" || name === "set_desync")) {
+            it.isSync = name === "set_sync";
+            if (!subsurfaces.isSync(it.surface)) {
+                this.applyKept(i, it.surface);
+            }
+        }
+    }
+
     commit(i, about, surface) {
         if (i > this.session.lastAsked) {
             return;
         }
-        const opened = [];
-        for (const [key, list] of [["frame", surface.frames], ["presented", surface.feedback]]) {
+        if (this.subsurfaces.isSync(about)) {
+            const { kept } = surface;
+            kept.frames.push(...surface.frames.splice(0));
+            kept.feedback.push(...surface.feedback.splice(0));
+            kept.buffer = surface.buffer ?? kept.buffer;
+            surface.buffer = null;
+            this.session.keptCommits.add(i);
+            return;
+        }
+        this.apply(i, about, surface);
+        this.subsurfaces.within(about).forEach((it) => this.applyKept(i, it));
+    }
+
+    // What was kept for a surface, and for those within it, takes effect.
+    applyKept(i, about) {
+        this.apply(i, about, this.surface(about).kept);
+        this.subsurfaces.within(about).forEach((it) => this.applyKept(i, it));
+    }
+
+    // A message takes into effect what was asked for a surface.
+    apply(i, about, pending) {
+        const opened = [], surface = this.surface(about);
+        for (const [key, list] of [["frame", pending.frames], ["presented", pending.feedback]]) {
             for (const { asked, number } of list) {
                 const wait = this.open(key, about, i, asked);
                 this.callbacks.set(number, wait);
@@ -113,9 +136,9 @@ class Waiting {
             }
             list.length = 0;
         }
-        if (surface.buffer) {
-            const { asked, number } = surface.buffer, last = surface.hold;
-            surface.buffer = null;
+        if (pending.buffer) {
+            const { asked, number } = pending.buffer, last = surface.hold;
+            pending.buffer = null;
             if (last && last.next < 0) {
                 last.next = i;
             }
@@ -173,9 +196,10 @@ class Waiting {
 
     // Frames that no commit takes into effect.
     uncommitted() {
-        for (const [number, { frames, feedback }] of this.surfaces) {
+        for (const [number, { frames, feedback, kept }] of this.surfaces) {
             const surface = this.session.objects[number];
-            for (const [key, list] of surface.destroyed < 0 ? [["frame", frames], ["presented", feedback]] : []) {
+            const lists = [["frame", [...kept.frames, ...frames]], ["presented", [...kept.feedback, ...feedback]]];
+            for (const [key, list] of surface.destroyed < 0 ? lists : []) {
                 list.forEach(({ asked }) => this.open(key, surface, asked));
             }
         }
@@ -230,6 +254,8 @@ class Waiting {
 // Adds to a session its waits, and for each message what it answers and what answers it.
 function addWaits(session) {
     session.objects.forEach((it) => { it.holds = []; });
+    // The commits of synchronized subsurfaces.
+    session.keptCommits = new Set();
     session.waits = new Waiting(session).read();
     session.answer = new Int32Array(session.count).fill(-1);
     session.question = new Int32Array(session.count).fill(-1);
@@ -257,15 +283,5 @@ function addWaits(session) {
     }
     for (const { key } of session.isTimed ? session.waitKinds : []) {
         markLate(session, key);
-    }
-}
-
-// Marks the answers of a kind that came late.
-function markLate(session, key) {
-    const own = session.waits.filter((it) => it.key === key && it.to >= 0 && !it.isGone);
-    const usual = session.usual[key] = median(own.map((it) => it.took));
-    for (const wait of own.filter((it) => isLate(session, it, usual))) {
-        wait.isSlow = true;
-        session.slow.add(wait.from).add(wait.to);
     }
 }
