@@ -4,9 +4,10 @@
  * all interfaces that its messages name, unless the tables have them already. The client reads the text. So the
  * tables have an interface before an event can come for it.
  *
- * A struct does not say which messages destroy an object, so nothing is marked `D` but in the core. A delete_id
- * then ends a live object, and the server may reuse the id of a live object of its own. No message has a since number: libwayland
- * delivers an event that is newer than its object, and leaves it to the server to refuse a request that is. */
+ * A struct does not say which messages destroy an object, so nothing is marked `D` except in the core. A delete_id
+ * then ends a live object, and the server may reuse the id of a live object of its own. No message has a since
+ * number: libwayland delivers an event that is newer than its object, and leaves it to the server to refuse a
+ * request that is. */
 #include "client.h"
 
 #include <errno.h>
