@@ -148,21 +148,19 @@ class Runs(unittest.TestCase):
 class Compositors(unittest.TestCase):
     """What a test at an example compositor comes to, with a stand-in for the compositor."""
 
+    # The signal is blocked, so that one which comes before the wait is not lost.
     PROGRAM = """import os, signal, socket, sys
 how, path = sys.argv[1], sys.argv[-1]
-def leave(*_):
-    os.remove(path)
-    print(how, "compositor")
-    sys.exit(how == "bad")
-signal.signal(signal.SIGTERM, leave)
+signal.pthread_sigmask(signal.SIG_BLOCK, [signal.SIGTERM])
 listening = socket.socket(socket.AF_UNIX)
 listening.bind(path)
 listening.listen()
 kept = listening.accept()
-if how == "early":
-    leave()
-while True:
-    signal.pause()
+if how != "early":
+    signal.sigwait([signal.SIGTERM])
+os.remove(path)
+print(how, "compositor")
+sys.exit(how == "bad")
 """
 
     def outcome(self, how, why):
