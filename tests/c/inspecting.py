@@ -411,8 +411,9 @@ class Passing(Inspected):
         for _ in range(4):
             for _ in range(64):
                 client.sendall(part)
+            # Not what is resident, of which the system takes some away and gives it back.
             with open(f"/proc/{self.tool.pid}/status", encoding="ascii") as file:
-                used.append(int(re.search(r"VmRSS:\s*(\d+) kB", file.read())[1]))
+                used.append(int(re.search(r"VmData:\s*(\d+) kB", file.read())[1]))
         self.assertLess(used[-1], used[0] + 1000, used)
         client.close()
         reader.join(LONG)
@@ -428,6 +429,7 @@ class Passing(Inspected):
         count, numbers = 10_000, range(2, 102)
         part = b"".join(sync(it) for it in numbers)
         answer = b"".join(done(it) for it in numbers)
+        self.lines = []
         reader = threading.Thread(target=self.drain, args=(self.tool.stdout,), daemon=True)
         reader.start()
         for _ in range(count // len(numbers)):
@@ -437,17 +439,19 @@ class Passing(Inspected):
             self.passes(compositor, client, answer)
         client.close()
         self.assertEqual(compositor.recv(100), b"")
+        verdict = f"lawful: {count} requests, {2 * count} events, 0 and 0 bytes left"
+        # Once it is told to stop, the tool waits for its reader only a second.
+        self.assertTrue(has_come(lambda: self.lines and verdict in self.lines[-1], LONG), self.lines[-1:])
         self.tool.send_signal(signal.SIGTERM)
         self.assertEqual(self.tool.wait(LONG), 0)
         reader.join(LONG)
-        lines = self.of_one(self.lines).splitlines()
+        lines = self.of_one("".join(self.lines)).splitlines()
         self.assertEqual(sum(it.startswith("-> wl_display@1.sync(") for it in lines), count)
-        verdict = f"lawful: {count} requests, {2 * count} events, 0 and 0 bytes left"
         self.assertEqual(lines[-1], verdict)
         self.checked(self.recorded, lines)
 
     def drain(self, file):
-        self.lines = file.read()
+        self.lines.extend(file)
 
 
 class Sockets(Inspected):
@@ -827,12 +831,12 @@ sys.exit({{}})
                     began = time.monotonic()
                     self.tool.send_signal(signal.SIGTERM)
                     got = peer.recv(len(sync(3)), socket.MSG_WAITALL)
-                    if got != sync(3) and time.monotonic() - began > GRACE:
-                        self.skipTest(f"the command has not answered within {GRACE} s")
-                    self.assertEqual(got, sync(3))
-                    said, _ = self.finish(None, status)
-                self.assertEqual(said.splitlines()[-1],
-                                 "lawful: 2 requests, 0 events, 0 and 0 bytes left")
+                    said, _ = self.finish(None, None)
+                found = got, self.tool.returncode, said.splitlines()[-1]
+                wanted = sync(3), status, "lawful: 2 requests, 0 events, 0 and 0 bytes left"
+                if found != wanted and time.monotonic() - began > GRACE:
+                    self.skipTest(f"the command has not ended within {GRACE} s")
+                self.assertEqual(found, wanted)
 
     def test_a_command_that_does_not_stop(self):
         words = STAYING + f"""
