@@ -41,12 +41,27 @@ class Weston(real_clients.RealClients):
         paths = self.start_at_files("--record", self.recorded, "weston-simple-shm")
         self.addCleanup(self.weston.send_signal, signal.SIGCONT)
         self.weston.send_signal(signal.SIGSTOP)
-        time.sleep(3)
+        self.comes_true(lambda: self.state_of(self.weston) == "T" and self.waits_for_a_frame(paths[0]))
+        # The tool reports what has waited for a second.
+        time.sleep(1.5)
         self.finish(signal.SIGINT, None)
         lines = self.read(paths[0]).splitlines()
         self.assertRegex(lines[-2], r"\Awl_surface@\d+\.frame: 1 not answered, waiting \d+\.\d s\Z")
         again, _ = self.ran("--read", self.recorded)
         self.assertEqual(again.splitlines()[-2:], lines[-2:])
+
+    def state_of(self, process):
+        """What a process does: T if it is stopped, S if it waits."""
+        with open(f"/proc/{process.pid}/stat", encoding="ascii", errors="replace") as file:
+            return file.read().rpartition(")")[2].split()[0]
+
+    def waits_for_a_frame(self, path):
+        """Whether the tool has passed on all that came, and the last frame callback is not done."""
+        if self.state_of(self.tool) != "S":
+            return False
+        _, frame, behind = self.read(path).rpartition(".frame(new id ")
+        callback = behind.partition(")")[0]
+        return bool(frame) and f"<- {callback}.done(" not in behind
 
     def test_the_compositor_is_killed(self):
         paths = self.start_at_files("weston-simple-shm")
