@@ -18,7 +18,8 @@ def judged(desktop, tool, words):
     ran = desktop.start([tool, "--output", path, *words], stderr=subprocess.PIPE)
     try:
         def said():
-            with open(path, encoding="utf-8") as file:
+            # A character at the end may not be whole yet.
+            with open(path, encoding="utf-8", errors="replace") as file:
                 return file.read()
         has_drawn = has_come(lambda: ran.poll() is not None or os.path.exists(path) and re.search(DRAWN, said()))
         ran.send_signal(signal.SIGTERM)
