@@ -100,10 +100,10 @@ def has_come(test, seconds=COMES_UP):
 
 
 def end(process):
-    """Ends a process, by force if it has not ended after twenty seconds."""
+    """Ends a process, by force if it does not end by itself."""
     process.terminate()
     try:
-        process.wait(20)
+        process.wait(COMES_UP)
     except subprocess.TimeoutExpired:
         process.kill()
         process.wait()

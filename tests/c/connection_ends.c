@@ -631,7 +631,7 @@ static void many_events(void)
 	begin(&small);
 	MUST(!waywire_connection_listen(client, display.object, on_stray, NULL, &heard));
 	MUST(waywire_socket_send(waywire_connection_fd(server), parts, NULL, 0) == sizeof strays);
-	MUST(!waywire_connection_roundtrip(client, 10000));
+	MUST(!waywire_connection_roundtrip(client, 100000));
 	MUST(heard > 0 && heard < STRAYS);
 	end();
 }

@@ -12,7 +12,7 @@
 #include <waywire-socket.h>
 
 /* How long something may take to come, in milliseconds. */
-#define WAIT 60000
+#define WAIT 300000
 
 /* How many descriptors this process has. */
 static inline size_t count_open(void)
