@@ -19,7 +19,7 @@ MODULES = {"gtk3": "import gi; gi.require_version('Gtk', '3.0'); from gi.reposit
            "qt": "import PyQt5.QtWidgets"}
 # How long keys are given before they are pressed again, and all of them, in seconds.
 AGAIN = 3
-PASSES = 60
+PASSES = COMES_UP
 COPY, PASTE = "-s 300 -M ctrl -k c -m ctrl -s 50", "-s 300 -M ctrl -k v -m ctrl -s 50"
 # A line c copies; any other is what was pasted.
 TERMINAL = r"""stty -echo
@@ -123,10 +123,15 @@ class Program:
         self.does("copied", lambda: len(self.texts("copied")) > before)
         return self.texts("copied")[-1]
 
-    def pastes(self, text):
-        """Pastes until this text comes."""
+    def copied_since(self, text):
+        """This text, which it has copied, and what it has copied since, by keys that were late."""
+        texts = self.texts("copied")
+        return texts[texts.index(text) :]
+
+    def pastes(self, is_wanted):
+        """Pastes until a wanted text comes."""
         before = len(self.texts("pasted"))
-        self.does("pasted", lambda: text in self.texts("pasted")[before:])
+        self.does("pasted", lambda: any(map(is_wanted, self.texts("pasted")[before:])))
 
     def end(self):
         desktops.end_group(self.process)
@@ -170,8 +175,11 @@ class Firefox(Program):
         self.does("copied", lambda: self.texts("copied"))
         return self.texts("copied")[-1]
 
-    def pastes(self, text):
-        self.does("pasted", lambda: text in self.texts("pasted"))
+    def copied_since(self, text):
+        return [text, *self.texts("copied")]
+
+    def pastes(self, is_wanted):
+        self.does("pasted", lambda: any(map(is_wanted, self.texts("pasted"))))
 
 
 class WlClipboard:
@@ -191,13 +199,17 @@ class WlClipboard:
             raise Failed("wl-copy has copied nothing")
         return text
 
-    def pastes(self, text):
-        got = None
-        began = time.monotonic()
-        while got != text and time.monotonic() - began < PASSES:
-            got = self.desktop.output_of(["wl-paste", "--no-newline"], self.library).decode()
-        if got != text:
-            raise Failed(f"wl-paste pastes {got!r}")
+    def copied_since(self, text):
+        return [text]
+
+    def pastes(self, is_wanted):
+        got = []
+
+        def has_pasted():
+            got.append(self.desktop.output_of(["wl-paste", "--no-newline"], self.library).decode())
+            return is_wanted(got[-1])
+        if not has_come(has_pasted, PASSES):
+            raise Failed(f"wl-paste pastes {got[-1]!r}")
 
     def end(self):
         for it in self.started:
@@ -243,7 +255,7 @@ class Clipboard:
         if self.owner is not source:
             self.owner, self.text = None, source.copies()
             self.owner = source
-        target.pastes(self.text)
+        target.pastes(lambda text: text in source.copied_since(self.text))
 
 
 def case(clipboard, source, target, copying, pasting, theirs):

@@ -122,12 +122,12 @@ REQUEST = re.compile(r"-> (?:\w+\.)?(\w+)[@#]\d+\.(\w+)\(")
 DRAWN = re.compile(r"-> wl_surface[@#]\d+\.commit\(")
 # For how long a program makes no new kind of request until it is closed, in seconds, in the first
 # pair of runs and in later ones.
-QUIET = (1.2, 2, 4, 8)
+QUIET = (1.2, 2, 4, 8, 16, 16)
 # How long a program may run that goes on making new kinds.
 MOST = 60
 # How long a program has to end whose window is closed, which may ask whether it should, or that is
-# told to end.
-CLOSES, ENDS = 4, 20
+# told to end. These are multiples of the time above, so later pairs of runs give more time.
+CLOSES, ENDS = 4, 16
 
 Ran = collections.namedtuple("Ran", "shown closed status kinds")
 
@@ -200,15 +200,15 @@ class Running:
             if (kinds and now - since > quiet) or now - began > (MOST if kinds else COMES_UP):
                 break
 
-    def closes(self):
+    def closes(self, quiet):
         """Ends the program as its user would, and says how it was ended."""
         if self.has_ended():
             return "by itself"
         has_windows = self.desktop.close(self.process)
-        if has_windows and has_come(self.has_ended, CLOSES):
+        if has_windows and has_come(self.has_ended, quiet * CLOSES):
             return "by its window"
         desktops.signal_group(self.process, signal.SIGTERM)
-        if has_come(self.has_ended, ENDS):
+        if has_come(self.has_ended, quiet * ENDS):
             return "by SIGTERM"
         return "by force"
 
@@ -221,7 +221,7 @@ def played(desktop, words, library, quiet):
     try:
         running.settles(quiet)
         is_shown = bool(DRAWN.search(running.said()))
-        how = running.closes()
+        how = running.closes(quiet)
         status = running.process.poll()
     finally:
         desktops.end_group(running.process)
@@ -282,7 +282,7 @@ def has_no_error_of_memory(desktop, line, library):
     running = Running(desktop, [*checked, *words], library)
     try:
         running.settles(QUIET[1])
-        running.closes()
+        running.closes(QUIET[1])
     finally:
         desktops.end_group(running.process)
     if not running.kinds():

@@ -38,6 +38,8 @@ CONFIG = """#define _POSIX_C_SOURCE 200809L
 BUILT = f"{OUT}/upstream"
 # How long a suite may run, in seconds: some take one.
 HANGS = 240
+# How often a suite is run, if a test fails that may be late on a slow machine.
+RUNS = 4
 ENDED = re.compile(r'^test "(\w+)":\t(.*), (pass|fail)\.$', re.M)
 
 
@@ -132,17 +134,15 @@ def ended(suite, name, found):
 
 
 def case(suite, name, library):
-    """A test of a suite, as a function. If it fails, it is tried once more. If it also fails with the system's
+    """A test of a suite, as a function. If it fails, it is tried again. If it also fails with the system's
     library, it says nothing about the library under test."""
     def test():
         need("cc")
-        how, is_well = ended(suite, name, first_run(suite, library)[0])
-        if is_well:
-            return
-        found, said = ran(suite, library)
-        how, is_well = ended(suite, name, found)
-        if is_well:
-            return
+        for turn in range(RUNS):
+            found, said = ran(suite, library) if turn else first_run(suite, library)
+            how, is_well = ended(suite, name, found)
+            if is_well:
+                return
         if library is not SYSTEM:
             theirs, is_their_well = ended(suite, name, first_run(suite, SYSTEM)[0])
             if not is_their_well:
