@@ -152,12 +152,17 @@ def is_listening(path):
     return any(int(it[3], 16) & ACCEPTS for it in sockets_at(path))
 
 
+def comes_to_listen(started, path):
+    """Waits until a started server listens at a path, or has ended. Returns whether it listens."""
+    return has_come(lambda: is_listening(path) or started.poll() is not None) and started.poll() is None
+
+
 def wait_until_listening(started, path):
     """Waits until a started server listens at a path."""
-    has_come(lambda: is_listening(path) or started.poll() is not None)
+    listens = comes_to_listen(started, path)
     if started.poll() is not None:
         raise Failed(f"{started.args[0]}: {started.stdout.read().decode()[-800:]}")
-    if not is_listening(path):
+    if not listens:
         started.kill()
         raise Failed(f"{started.args[0]}: it does not listen")
 

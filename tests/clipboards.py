@@ -9,7 +9,7 @@ import tempfile
 import time
 
 import compositors
-from checks import Failed, Skipped, end, ended, has_client, has_come, is_listening, need, run, start_and_wait
+from checks import Failed, Skipped, comes_to_listen, end, ended, has_client, has_come, need, run, start_and_wait
 
 # How long a text may take from one client to another, and a client to end, in seconds: many times what is needed on a
 # busy machine.
@@ -150,8 +150,7 @@ def compositor(words, script=None, status=0):
             process = subprocess.Popen([*words, path, *more], stdout=said, stderr=said)
             board = Clipboard(path, process, env)
             with judged(board, said, "--stay" in words, status):
-                has_come(lambda: is_listening(path) or process.poll() is not None)
-                if not is_listening(path):
+                if not comes_to_listen(process, path):
                     raise Failed("the compositor does not listen")
                 with kept_client(board):
                     yield board
@@ -342,11 +341,11 @@ def client_pastes_at_sway(paste, checked):
     with tempfile.TemporaryDirectory(prefix="sway-") as room:
         words, path, kept = compositors.sway(room, dict(os.environ))
         with open(f"{room}/said", "w+b") as said:
-            process = compositors.started(words, path, said, **kept)
+            process, listens = compositors.started(words, path, said, **kept)
             board = Clipboard(path, process, {**os.environ, "XDG_RUNTIME_DIR": room,
                                               "WAYLAND_DISPLAY": path, "HOME": room})
             try:
-                if not is_listening(path):
+                if not listens:
                     raise Skipped(f"sway has not come up: {end_of(said)}")
                 client_pastes(board, paste, checked)
             finally:

@@ -7,7 +7,7 @@ import shutil
 import subprocess
 import tempfile
 
-from checks import COMES_UP, LONG, Failed, Skipped, has_client, has_come, has_waiting_client, is_listening, need
+from checks import COMES_UP, LONG, Failed, Skipped, comes_to_listen, has_client, has_come, has_waiting_client, need
 
 # What is played at a window of weston-simple-shm, which draws until it is asked to close.
 DRAWN = "motion 20 20\nbutton 272\nkey 30\nclose\n"
@@ -32,10 +32,9 @@ def sway(room, env):
 
 
 def started(words, path, said, **kept):
-    """A compositor that listens at a path."""
+    """A compositor, and whether it listens at a path."""
     process = subprocess.Popen(words, stdout=said, stderr=said, **kept)
-    has_come(lambda: is_listening(path) or process.poll() is not None)
-    return process
+    return process, comes_to_listen(process, path)
 
 
 def connects(client, path, beside=0):
@@ -65,7 +64,7 @@ def played(words, script, *client):
         with open(file, "w", encoding="utf-8") as written:
             written.write(script)
         with open(f"{folder}/said", "w+b") as said:
-            server = started([*words, path, file], path, said)
+            server, _ = started([*words, path, file], path, said)
             env = {**os.environ, "XDG_RUNTIME_DIR": folder, "WAYLAND_DISPLAY": "wayland-test", "HOME": folder,
                    "GDK_BACKEND": "wayland", "NO_AT_BRIDGE": "1"}
             try:

@@ -9,7 +9,7 @@ import subprocess
 import tempfile
 
 import compositors
-from checks import COMES_UP, LONG, Skipped, end, has_come, is_installed, is_listening, need
+from checks import COMES_UP, LONG, Skipped, end, has_come, is_installed, need
 from libwayland.libraries import SYSTEM
 
 COPIED = b"a text that was copied"
@@ -185,9 +185,9 @@ def environment(room):
 def come_up(kind, name, room, words, path, its_env, **kept):
     """Starts a compositor. The test is skipped if it does not come up."""
     with open(f"{room}/{name}.log", "wb") as said:
-        process = compositors.started(words, path, said, **kept)
+        process, listens = compositors.started(words, path, said, **kept)
     found = kind(name, room, process, path, {**its_env, "WAYLAND_DISPLAY": path})
-    if not is_listening(path):
+    if not listens:
         found.end()
         with open(f"{room}/{name}.log", encoding="utf-8", errors="replace") as said:
             raise Skipped(f"{name} has not come up within {COMES_UP} s: {said.read()[-300:]!r}")

@@ -7,7 +7,7 @@ import subprocess
 import tempfile
 
 import compositors
-from checks import COMES_UP, Skipped, end, is_listening, need
+from checks import COMES_UP, Skipped, end, need
 from libwayland import desktops
 
 # foot is not here: it crashes at KWin's virtual output, over the system's library, too.
@@ -106,10 +106,10 @@ def bus(room):
     path = f"{room}/bus"
     with open(f"{room}/bus.conf", "w", encoding="ascii") as file:
         file.write(BUS.format(path))
-    process = compositors.started(["dbus-daemon", "--nofork", f"--config-file={file.name}"], path,
-                                  subprocess.DEVNULL, stdin=subprocess.DEVNULL)
+    words = ["dbus-daemon", "--nofork", f"--config-file={file.name}"]
+    process, listens = compositors.started(words, path, subprocess.DEVNULL, stdin=subprocess.DEVNULL)
     try:
-        if not is_listening(path):
+        if not listens:
             raise Skipped(f"dbus-daemon has not come up within {COMES_UP} s")
         yield f"unix:path={path}"
     finally:

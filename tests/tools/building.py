@@ -111,15 +111,18 @@ class Sockets(unittest.TestCase):
                 tests = (checks.is_listening, checks.has_waiting_client, checks.has_client)
                 return tuple(it(f"{room}/it") for it in tests)
 
+            def comes(*wanted):
+                self.assertTrue(checks.has_come(lambda: found() == wanted), found())
+
             server.bind(f"{room}/it")
-            self.assertEqual(found(), (False, False, False))
+            comes(False, False, False)
             server.listen()
             with socket.socket(socket.AF_UNIX) as client:
                 client.connect(f"{room}/it")
-                self.assertEqual(found(), (True, True, False))
+                comes(True, True, False)
                 with server.accept()[0]:
-                    self.assertEqual(found(), (True, False, True))
-            self.assertTrue(checks.has_come(lambda: found() == (True, False, False)))
+                    comes(True, False, True)
+            comes(True, False, False)
             self.assertFalse(checks.has_come(lambda: False, 0))
 
 
