@@ -3,6 +3,7 @@
 It puts tools/ and tools/dev/ on the path, so that a test imports their modules."""
 
 import contextlib
+import fcntl
 import filecmp
 import functools
 import glob
@@ -139,6 +140,15 @@ def run(words, status=0, with_error=False, **kept):
         how = f"status {found}" if found >= 0 else f"signal {-found}"
         raise Failed(f"{' '.join(words[-3:])}: {how}\n{ends_of(output)}{ends_of(error)}")
     return output + error if with_error else output
+
+
+def make(*words):
+    """Runs `make` at the top of the repository, and returns whether it succeeded. Tests that run side by side wait for
+    each other: two runs at once would write the same files."""
+    os.makedirs(f"{TOP}/out", exist_ok=True)
+    with open(f"{TOP}/out/lock", "wb") as lock:
+        fcntl.flock(lock, fcntl.LOCK_EX)
+        return not subprocess.run(["make", "-s", *words], cwd=TOP, stdout=subprocess.DEVNULL, check=False).returncode
 
 
 def sockets_at(path):

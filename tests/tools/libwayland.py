@@ -270,7 +270,7 @@ class Run(unittest.TestCase):
         """In the tree it is read of the program's source; `make` writes it into its copy."""
         numbered = re.search('VERSION: &str = "(.*)"', read("crates/program_arguments/src/job.rt"))[1]
         need("make")
-        run(["make", "-s", "out/c/waywire-run"])
+        self.assertTrue(checks.make("out/c/waywire-run"))
         for path in (f"{OURS}/waywire-run", f"{TOP}/out/c/waywire-run"):
             self.assertEqual(run([path, "--version"]), f"waywire-run {numbered}\n")
 
