@@ -91,12 +91,14 @@ def can(what, *commands):
 
 
 def has_come(test, seconds=COMES_UP):
-    """Waits until a condition is true, for at most so many seconds. Returns whether it became true."""
-    end = time.monotonic() + seconds
+    """Waits until a condition is true, for at most so many seconds. Returns whether it became true. The last look is
+    after that time: this process may have been stopped all the time."""
+    end, is_last = time.monotonic() + seconds, False
     while not test():
-        if time.monotonic() > end:
+        if is_last:
             return False
         time.sleep(0.05)
+        is_last = time.monotonic() > end
     return True
 
 

@@ -411,6 +411,8 @@ fn servers_take_names() {
 /// One test of all names, since it changes the environment.
 #[test]
 fn sockets_have_names() {
+    // A process with this number that was killed may have left it.
+    let _ = fs::remove_dir_all(folder());
     let path = folder().join("named");
     let listener = Listener::bind(Some(&path)).unwrap();
     assert_eq!(listener.name(), path.as_os_str());

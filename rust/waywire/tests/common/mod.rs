@@ -14,6 +14,8 @@ pub fn numbered(number: u32) -> OwnedFd {
     static MADE: AtomicU32 = AtomicU32::new(0);
     let place = (std::process::id(), MADE.fetch_add(1, Ordering::Relaxed));
     let path = std::env::temp_dir().join(format!("waywire-{}-{}", place.0, place.1));
+    // A process with this number that was killed may have left it.
+    let _ = fs::remove_file(&path);
     let mut file = File::options().read(true).write(true).create_new(true).open(&path).unwrap();
     fs::remove_file(&path).unwrap();
     file.write_all(&number.to_le_bytes()).unwrap();
