@@ -2,6 +2,7 @@
 
 import base64
 import contextlib
+import itertools
 import os
 import socket
 import subprocess
@@ -14,8 +15,10 @@ from checks import Failed, Skipped, comes_to_listen, end, ended, has_client, has
 # How long a text may take from one client to another, and a client to end, in seconds: many times what is needed on a
 # busy machine.
 PASSES = 300
-# How long keys are given before they are pressed again, in seconds.
-AGAIN = 3
+# How long keys are given before others are pressed, in seconds.
+AGAIN = 30
+# How long a text may take into an entry, in seconds; one after the other.
+GIVEN = (0, 1, 3, 10, 30)
 # How many descriptors a compositor may have that runs out of them, and how long it is watched then, in seconds. It may
 # use a processor for this part of that time.
 DESCRIPTORS = 32
@@ -24,9 +27,10 @@ USED = 0.1
 SMALL = "grüße\n".encode()
 # More than a pipe holds.
 LARGE = base64.b64encode(bytes(it * it % 251 for it in range(400_000)))
-# End; X; Ctrl and V; Ctrl and A, Ctrl and C; Return.
-END, X, PASTE, COPY_ALL, RETURN = ("key 107\n", "key 45\n", "modifiers 4\nkey 47\nmodifiers 0\n",
-                                   "modifiers 4\nkey 30\nkey 46\nmodifiers 0\n", "key 28\n")
+# End; Ctrl and V; Ctrl and A, Ctrl and C; Return. Letters, and their keys.
+END, PASTE, COPY_ALL, RETURN = ("key 107\n", "modifiers 4\nkey 47\nmodifiers 0\n",
+                                "modifiers 4\nkey 30\nkey 46\nmodifiers 0\n", "key 28\n")
+LETTERS = {b"q": 16, b"r": 19, b"t": 20, b"y": 21, b"u": 22, b"p": 25, b"s": 31, b"f": 33, b"g": 34, b"h": 35}
 TYPE = ["--type", "text/plain"]
 
 
@@ -240,40 +244,53 @@ def bears_greedy_clients(program, *words):
         board.has(lambda: board.descriptors() == before, "that all descriptors are closed")
 
 
-def press(board, *lines):
-    with open(os.path.join(board.env["HOME"], "script"), "a", encoding="ascii") as file:
-        file.write("".join(lines))
+class Entry:
+    """A GTK entry, whose text is copied by keys."""
+
+    def __init__(self, board):
+        self.board, self.letters = board, itertools.cycle(LETTERS.items())
+
+    def press(self, *lines):
+        with open(os.path.join(self.board.env["HOME"], "script"), "a", encoding="ascii") as file:
+            file.write("".join(lines))
+
+    def text(self):
+        """Its text, with a letter more. Once that was copied, no key is on its way, and nothing is pasted any more. If
+        a text is pasted while all is selected, nothing is copied, and another letter is typed."""
+        def is_copied():
+            letter, key = next(self.letters)
+            self.press(END, f"key {key}\n", COPY_ALL)
+            return has_come(lambda: (self.board.pasted() or b"").endswith(letter), AGAIN)
+        self.board.has(is_copied, "the last key in the entry")
+        return self.board.pasted()
+
+    def pastes(self, text, seconds):
+        """Whether a text that is copied elsewhere is in the entry so many seconds after the keys. After that, pasting
+        stops."""
+        self.board.copy(text)
+        self.board.pastes(text)
+        self.press(END, PASTE)
+        time.sleep(seconds)
+        return self.text()[:-1].endswith(text)
 
 
 def serves_gtk(paste, *words):
     """wl-copy copies a text, which is pasted into a GTK entry. The text of the entry is copied there, and pasted by
-    wl-paste. So a text passes from a data-control source to a wl_data_device, and the other way round. If something is
-    copied in the entry before the text is there, pasting stops, and all is done again. At the end an X is typed: once it
-    is copied, no key is on its way. The client that `paste` starts pastes the text too: its window takes the focus, and
-    gives it back."""
+    wl-paste. So a text passes from a data-control source to a wl_data_device, and the other way round. The client that
+    `paste` starts pastes the text too: its window takes the focus, and gives it back."""
     need("wl-copy", "wl-paste", "zenity")
     with compositor(words, "script") as board:
         window = ["zenity", "--entry", "--text=waywire", "--entry-text=old "]
-        entry = board.start(window, stdout=subprocess.PIPE)
-        compositors.connects(entry, board.path, beside=1)
-
-        def is_in_entry():
-            text = board.pasted() or b""
-            return text != b"new" and text.endswith(b"new")
-
-        def has_copied():
-            board.copy(b"new")
-            board.pastes(b"new")
-            press(board, END, PASTE, COPY_ALL)
-            return has_come(is_in_entry, AGAIN)
-        board.has(has_copied, "the text that was pasted into the entry")
-        press(board, END, X, COPY_ALL)
-        board.has(lambda: (board.pasted() or b"").endswith(b"x"), "the last key in the entry")
+        client = board.start(window, stdout=subprocess.PIPE)
+        compositors.connects(client, board.path, beside=1)
+        entry = Entry(board)
+        if not any(entry.pastes(b"new", it) for it in GIVEN):
+            raise Failed(f"the text is not pasted into the entry within {GIVEN[-1]} s")
         text = board.pasted()
         if run(paste, env=board.env) != text.decode():
             raise Failed("the example client pastes another text")
-        press(board, RETURN)
-        said = entry.communicate(timeout=PASSES)[0]
+        entry.press(RETURN)
+        said = client.communicate(timeout=PASSES)[0]
         if said != text + b"\n":
             raise Failed(f"the entry says {said!r}, and wl-paste {text!r}")
 
