@@ -36,3 +36,10 @@ pub record IsShown (tables : List Interface) (piece : ℕ) (text : List ℕ) : T
   pub begins : Stands (new_pair tables sizes sizes) opening_world
   pub played : Plays (demo_steps tables piece) (new_pair tables sizes sizes) last
   pub told : TellsOfPair tables last text
+
+-- The text is that of the session of both ends, begun with this pair.
+pub record IsShownFrom (tables : List Interface) (piece : ℕ) (pair : PairState) (text : List ℕ)
+    : Type 0 where
+  pub last : PairState
+  pub played : Plays (demo_steps tables piece) pair last
+  pub told : TellsOfPair tables last text

@@ -1,6 +1,6 @@
 //! What is printed for the session.
 ghost use Rattle.std.specs.Prelude.{IfOk};
-ghost use Rattle.program_demo.specs.Demo.{IsShown, TellsOfPair};
+ghost use Rattle.program_demo.specs.Demo.{IsShown, IsShownFrom, TellsOfPair};
 
 use crate::agreement::write_agreement;
 use crate::objects::SIZES;
@@ -21,8 +21,20 @@ pub fn demo<A: Allocator + Clone + Drop>(
     ensures { IfOk result (λ text. IsShown tables.now piece text.items) }
 {
     let mut pair: Pair<'_, SlotTable<A>> = Pair::new(alloc.clone()?, tables, SIZES, SIZES)?;
-    play(&alloc, tables, &mut pair, piece as usize)?;
-    printed(alloc, tables, &pair)
+    shown(alloc, tables, &mut pair, piece)
+}
+
+/// Plays the session over a new pair, and returns what is printed for it.
+fn shown<T: Table>(
+    alloc: T::Alloc,
+    tables: &Tables,
+    pair: &mut Pair<'_, T>,
+    piece: u32,
+) -> Result<Vec<u8, T::Alloc>, AllocError>
+    ensures { IfOk result (λ text. IsShownFrom tables.now piece pair.old text.items) }
+{
+    play(&alloc, tables, pair, piece as usize)?;
+    printed(alloc, tables, pair)
 }
 
 /// The lines of all that this pair has carried, and the last line.

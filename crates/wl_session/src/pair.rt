@@ -166,8 +166,10 @@ fn ends<'t, T: Table + Drop>(
     ensures { IfOk result (λ ends.
         (ends.0 ≡ new_client tables.now client) × (ends.1 ≡ new_server tables.now server)) }
 {
-    let client = Client::new(alloc.clone()?, tables, client)?;
-    let server = Server::new(alloc.clone()?, tables, server)?;
+    let for_client = alloc.clone()?;
+    let for_server = alloc.clone()?;
+    let client = Client::new(for_client, tables, client)?;
+    let server = Server::new(for_server, tables, server)?;
     Ok((client, server))
 }
 

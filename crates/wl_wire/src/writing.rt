@@ -26,6 +26,19 @@ pub fn encode_value<A: Allocator>(
     ensures capacity { vec_capacity out.old ≤ vec_capacity out.new }
 {
     out.reserve(value.spelled_len())?;
+    append_value(value, out);
+    Ok(())
+}
+
+/// Appends the spelling of a value that `fits`; the vector has room for it.
+#[inline(always)]
+fn append_value<A: Allocator>(value: ValueRef<'_>, out: &mut Vec<u8, A>)
+    requires fits { Fits (lent value) }
+    requires room { vec_len out.old + spelled_len (lent value) ≤ vec_capacity out.old }
+    ensures items { out.new.items ≡ out.old.items ++ canonical (lent value.entry) }
+    ensures len { vec_len out.new ≡ vec_len out.old + spelled_len (lent value.entry) }
+    ensures capacity { vec_capacity out.old ≤ vec_capacity out.new }
+{
     match value {
         ValueRef::Int(z) => append_int(out, z),
         ValueRef::Fixed(z) => append_int(out, z.raw()),
@@ -42,7 +55,6 @@ pub fn encode_value<A: Allocator>(
         ValueRef::Array(bytes) => append_padded(out, bytes.len() as u32, bytes),
         ValueRef::Fd => {}
     }
-    Ok(())
 }
 
 /// Appends bytes; the vector has room for them.
