@@ -14,6 +14,7 @@ import unittest.mock
 import checks
 from checks import TOOLS, TOP, module_of, read
 import crates
+import machine
 
 
 class Mutants(unittest.TestCase):
@@ -109,12 +110,12 @@ class TimedGate(unittest.TestCase):
     def test_a_crate_is_proved_in_one_process(self):
         """As many at once as there are processors, or as RT_JOBS says. Where memory may be short, rt
         decides."""
-        most = self.tool.processors()
+        most = machine.processors()
         enough = most * self.tool.MEMORY_EACH
         for free, before, jobs in ((enough, {}, str(most)), (enough - 1, {}, None),
                                    (enough, {"RT_JOBS": "7"}, "7")):
             with (
-                unittest.mock.patch.object(self.tool, "free", return_value=free),
+                unittest.mock.patch.object(machine, "free", return_value=free),
                 unittest.mock.patch.dict(os.environ, before),
             ):
                 if not before:
@@ -127,8 +128,8 @@ class TimedGate(unittest.TestCase):
         group = {"/sys/fs/cgroup/memory.max": b"4000\n", "/sys/fs/cgroup/memory.stat": b"file 7\nanon 1000\n"}
         for files, free in ((told, 5120), ({**told, **group}, 3000),
                             ({**told, **group, "/sys/fs/cgroup/memory.max": b"max\n"}, 5120)):
-            with unittest.mock.patch.object(self.tool, "read", lambda path, files=files: files.get(path, b"")):
-                self.assertEqual(self.tool.free(), free)
+            with unittest.mock.patch.object(machine, "read", lambda path, files=files: files.get(path, b"")):
+                self.assertEqual(machine.free(), free)
 
     def test_no_row_without_a_figure(self):
         """A crate with a part that was not timed is named, and the page has the marks for the figures."""

@@ -32,7 +32,7 @@ class Rooms(unittest.TestCase):
         with tempfile.TemporaryDirectory() as room:
             copy_sources(room)
             os.makedirs(f"{room}/tools/dev")
-            for name in ("Makefile", "tools/dev/timed-gate", "tools/dev/usage.py"):
+            for name in ("Makefile", *(f"tools/dev/{it}" for it in ("timed-gate", "machine.py", "usage.py"))):
                 shutil.copy(f"{TOP}/{name}", f"{room}/{name}")
             for name, text in (("bin/rt", self.RT), ("kit/bin/rattle", RATTLE)):
                 os.makedirs(os.path.dirname(f"{room}/{name}"))
