@@ -1,7 +1,6 @@
-"""The tools that run proofs and tests: mutants, the timed gate, the quick look and all of it."""
+"""The tools that run proofs and tests: the timed gate, the quick look and all of it."""
 
 import contextlib
-import glob
 import io
 import os
 import shutil
@@ -15,49 +14,6 @@ import checks
 from checks import TOOLS, TOP, module_of, read
 import crates
 import machine
-
-
-class Mutants(unittest.TestCase):
-    tool = module_of("tools/dev/mutants")
-    sources = {"src/lib.rt": "fn one() -> u8 {\n    1\n}\n\nfn two() -> u8 {\n    one() + 1\n}\n"}
-
-    def body(self, name, *pairs):
-        body = self.tool.Mutant(name)
-        body.pairs = [("src/lib.rt", old, new) for old, new in pairs]
-        body.function = self.tool.function_at(self.sources, "src/lib.rt", pairs[0][0])
-        return body
-
-    def test_names_of_functions(self):
-        self.assertEqual(self.body("a", ("    1\n", "    2\n")).function, ("lib", "one"))
-        self.assertEqual(self.body("b", ("one() + 1", "one()")).function, ("lib", "two"))
-        self.assertEqual(self.body("c", ("fn two() ->", "fn two() ->")).function, ("lib", "two"))
-
-    def test_a_text_stands_once(self):
-        self.assertIsNone(self.body("a", ("u8", "u16")).applied(self.sources))
-        self.assertIsNone(self.body("a", ("one() + 3", "3")).applied(self.sources))
-
-    def test_each_text_of_a_mutant_stands_once(self):
-        """Of the gate's mutants too: `rt ci` does not fail if one of them cannot be applied."""
-        folders = glob.glob(f"{TOP}/crates/*")
-        self.assertTrue(any(os.path.exists(f"{it}/{self.tool.BATCH}") for it in folders))
-        for folder in folders:
-            sources = self.tool.sources_of(folder)
-            for path in glob.glob(f"{folder}/must-fail/*.edit") + glob.glob(f"{folder}/{self.tool.BATCH}"):
-                for mutant in self.tool.mutants_of(path):
-                    self.assertIsNotNone(mutant.applied(sources), f"{path}: {mutant.name}")
-
-    def test_one_mutant_of_a_function_in_a_round(self):
-        first, second = self.body("a", ("    1\n", "    2\n")), self.body("b", ("    1\n}", "    3\n}"))
-        third = self.body("c", ("one() + 1", "one()"))
-        chosen, texts = self.tool.round_of([first, second, third], self.sources)
-        self.assertEqual([it.name for it in chosen], ["a", "c"])
-        self.assertIn("    2\n", texts["src/lib.rt"])
-        self.assertIn("    one()\n", texts["src/lib.rt"])
-
-    def test_a_function_is_refused_for_its_own_sake(self):
-        chosen = [self.body("a", ("    1\n", "    2\n")), self.body("c", ("one() + 1", "one()"))]
-        said = "fn low::one: not proved\nfn low::two: no proof: it calls `low::one`, which is not proved\n"
-        self.assertEqual([it.name for it in self.tool.refused_in(said, chosen)], ["a"])
 
 
 class TimedGate(unittest.TestCase):
