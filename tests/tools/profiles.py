@@ -55,7 +55,12 @@ class ProfileProof(unittest.TestCase):
             ("proofs.work.hard.Lts.Given", ("work::hard", "Lts")),
             ("proofs.work.Job.hard.Proof.decls", ("work::Job::hard", "Proof")),
             ("proofs.work.fn.hard.all+FnMut.call_mut.Code.Mir", ("work::hard", "Code")),
+            ("proofs.work.hard.Carried-2-0-1-4", ("work::hard", "Carried")),
+            ("proofs.work.Pair.hard.Lts.Given", ("work::Pair::hard", "Lts")),
+            ("proofs.work.hard", ("work::hard", "names")),
             ("proofs.work.TheLinks.low-work-hard", ("", "TheLinks")),
+            ("proofs", ("", "names")),
+            ("proofs.Reads", ("Reads", "lemmas")),
             ("proofs.Lemmas", ("Lemmas", "lemmas")),
             ("specs.contracts.work.hard", ("", "contracts")),
         ):
