@@ -54,16 +54,17 @@ piece_argument = record (new_rule (codes "piece")) {
   parser = Some (parser.Signed (pos 1) (pos 4096));
 }
 
+-- a command that reads a recording
+abbrev pub recording_command : Text → App
+recording_command name =
+    with_rule (with_rule (with_rule (new_app name) tables_argument) limit_argument) file_argument
+
 -- the commands `trace`, `check`, `demo` and `socket`
 abbrev pub trace_command : App
-trace_command =
-    with_rule (with_rule (with_rule (new_app (codes "trace")) tables_argument) limit_argument)
-    file_argument
+trace_command = recording_command (codes "trace")
 
 abbrev pub check_command : App
-check_command =
-    with_rule (with_rule (with_rule (new_app (codes "check")) tables_argument) limit_argument)
-    file_argument
+check_command = recording_command (codes "check")
 
 abbrev pub demo_command : App
 demo_command = with_rule (new_app (codes "demo")) piece_argument

@@ -1,8 +1,9 @@
 //! What the words of a command line ask for.
-ghost use Rattle.std.specs.Prelude.{◌≡◌, ◌≢◌, [], IfOk, IfErr, false, option_map};
+ghost use Rattle.std.specs.Prelude.{◌≡◌, ◌≢◌, [], IfOk, IfErr, false, true, option_map};
 ghost use Rattle.std.specs.Prelude.{map, string_bytes};
-ghost use Rattle.clap.specs.Words.{HasKind, app_of, fault_of, first_of, found_of, kind_of};
+ghost use Rattle.clap.specs.Words.{App, HasKind, app_of, fault_of, first_of, found_of, kind_of};
 ghost use Rattle.clap.specs.Words.{rows_of, rule_of, subcommand_of, subcommand_rows_of};
+ghost use Rattle.clap.specs.Words.{with_subcommand};
 ghost use Rattle.std.specs.Cow.{cow_str_bytes};
 ghost use Rattle.program_arguments.specs.Asking.{Asks, AsksHelp, HasFault, IsAnswer, IsJobFor};
 ghost use Rattle.program_arguments.specs.Asking.{IsLimitOf};
@@ -10,7 +11,7 @@ ghost use Rattle.program_arguments.specs.Asking.{IsNumber, IsOutOfMemory, NamesJ
 ghost use Rattle.program_arguments.specs.Asking.{Says, Stops, StopsFor, StopsWith, check_command};
 ghost use Rattle.program_arguments.specs.Asking.{command_line, demo_command, file_argument};
 ghost use Rattle.program_arguments.specs.Asking.{given_for, limit_argument, path_argument};
-ghost use Rattle.program_arguments.specs.Asking.{piece_argument};
+ghost use Rattle.program_arguments.specs.Asking.{piece_argument, recording_command};
 ghost use Rattle.program_arguments.specs.Asking.{socket_command, tables_argument, texts_of};
 ghost use Rattle.program_arguments.specs.Asking.{trace_command};
 
@@ -79,32 +80,56 @@ pub struct Stop {
 fn command<'a>(alloc: Global) -> Result<Command<'a>, AllocError>
     ensures { IfOk result (λ c. app_of c ≡ command_line) }
 {
-    Command::new(alloc, "waywire")
+    let program = Command::new(alloc, "waywire")
         .bin_name("waywire")?
         .about("Recorded sessions of Wayland clients, as text")
         .version(VERSION)
-        .subcommand_required(true)
-        .subcommand(trace(alloc)?)?
-        .subcommand(check(alloc)?)?
-        .subcommand(demo(alloc)?)?
-        .subcommand(socket(alloc)?)
+        .subcommand_required(true);
+    let program = added(program, trace(alloc))?;
+    let program = added(program, check(alloc))?;
+    let program = added(program, demo(alloc))?;
+    added(program, socket(alloc))
+}
+
+/// The program with one more command, if that could be made.
+fn added<'a>(
+    program: Command<'a>,
+    command: Result<Command<'a>, AllocError>,
+) -> Result<Command<'a>, AllocError>
+    ensures { (others one : App) → app_of program.entry ≡ others
+        → IfOk command.entry (λ c. app_of c ≡ one) → one.top.is_plain ≡ true
+        → IfOk result (λ c. app_of c ≡ with_subcommand others one.top) }
+{
+    let command = command?;
+    program.subcommand(command)
 }
 
 fn trace<'a>(alloc: Global) -> Result<Command<'a>, AllocError>
     ensures { IfOk result (λ c. app_of c ≡ trace_command) }
 {
-    Command::new(alloc, "trace")
-        .about("Prints each message of a recording, one a line")
-        .arg(tables(alloc))?
-        .arg(limit(alloc))?
-        .arg(file(alloc))
+    of_recording(
+        alloc,
+        "trace",
+        "Prints each message of a recording, one a line",
+    )
 }
 
 fn check<'a>(alloc: Global) -> Result<Command<'a>, AllocError>
     ensures { IfOk result (λ c. app_of c ≡ check_command) }
 {
-    Command::new(alloc, "check")
-        .about("Prints whether a recording is a lawful session")
+    of_recording(
+        alloc,
+        "check",
+        "Prints whether a recording is a lawful session",
+    )
+}
+
+/// A command of this name that reads a recording.
+fn of_recording<'a>(alloc: Global, name: &'a str, about: &'a str) -> Result<Command<'a>, AllocError>
+    ensures { IfOk result (λ c. app_of c ≡ recording_command name.entry.now) }
+{
+    Command::new(alloc, name)
+        .about(about)
         .arg(tables(alloc))?
         .arg(limit(alloc))?
         .arg(file(alloc))
