@@ -10,6 +10,7 @@ import glob
 import importlib.machinery
 import importlib.util
 import os
+import re
 import shutil
 import signal
 import subprocess
@@ -243,20 +244,35 @@ def files_below(folder):
     return [f"{at}/{name}" for at, _, names in os.walk(folder) for name in names]
 
 
-def out_of_layout(name):
-    """Returns the files of a crate that `rt fmt`, run on a copy of the crate, would change, or how `rt fmt` failed."""
-    folder = f"{TOP}/crates/{name}"
+def laid_out(crate, room):
+    """Copies the files of a crate into a folder, and lays out the copies. Returns what `rt fmt` said if it failed, and
+    for each file the copy. `rt fmt` lays out only what ends with `.rt`."""
+    copies = {}
+    for part in ("src", "specs", "proofs"):
+        for path in files_below(f"{TOP}/{crate.folder}/{part}"):
+            name = os.path.relpath(path, f"{TOP}/{crate.folder}")
+            copy = f"{room}/{re.sub('[.]rattle$', '.rt', name)}"
+            os.makedirs(os.path.dirname(copy), exist_ok=True)
+            copies[name] = shutil.copy(path, copy)
+    how = {"stdin": subprocess.DEVNULL, "stdout": subprocess.PIPE, "stderr": subprocess.STDOUT, "errors": "replace"}
+    ran = subprocess.run(["rt", "fmt"], cwd=room, check=False, **how)
+    if ran.returncode:
+        return f"{crate.name}: rt fmt ended with status {ran.returncode}: {ran.stdout}", {}
+    return "", copies
+
+
+def out_of_layout(crate, is_mended=False):
+    """Returns the files of a crate that `rt fmt` would change, or how `rt fmt` failed. It changes them if it is told
+    to."""
+    folder, wrong = f"{TOP}/{crate.folder}", []
     with tempfile.TemporaryDirectory() as room:
-        for part in ("src", "specs", "proofs"):
-            if os.path.isdir(f"{folder}/{part}"):
-                shutil.copytree(f"{folder}/{part}", f"{room}/{part}")
-        how = {"stdin": subprocess.DEVNULL, "stdout": subprocess.PIPE, "stderr": subprocess.STDOUT, "errors": "replace"}
-        ran = subprocess.run(["rt", "fmt"], cwd=room, check=False, **how)
-        if ran.returncode:
-            return [f"{name}: rt fmt ended with status {ran.returncode}: {ran.stdout}"]
-        names = [os.path.relpath(it, room) for it in files_below(room)]
-        _, *differ = filecmp.cmpfiles(room, folder, names, shallow=False)
-    return sorted(sum(differ, []))
+        why, copies = laid_out(crate, room)
+        for name, copy in copies.items():
+            if not filecmp.cmp(copy, f"{folder}/{name}", shallow=False):
+                wrong.append(name)
+                if is_mended:
+                    shutil.copyfile(copy, f"{folder}/{name}")
+    return [why] if why else sorted(wrong)
 
 
 def joined_tables():

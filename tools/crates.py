@@ -1,9 +1,10 @@
-"""The crates of crates.txt: their kinds, and which crates each one uses.
+"""The crates of crates.txt and of unproved.txt: their kinds, and which crates each one uses.
 
     python3 tools/crates.py below CRATE     prints all crates that it uses, lowest first, and itself last
     python3 tools/crates.py lines CRATE..   prints the lines of crates.txt for these crates
 
-This file alone reads crates.txt; scripts in shell ask it."""
+crates.txt has the crates that are proved, and unproved.txt those that are only compiled and run. This file alone
+reads both; scripts in shell ask it."""
 
 import os
 import re
@@ -14,30 +15,53 @@ TOP = os.path.dirname(os.path.dirname(os.path.realpath(__file__)))
 
 
 class Crate(NamedTuple):
-    """A crate: its name, the heading above it, the libraries that it names, and its line."""
+    """A crate: its name, the heading above it, the libraries that it names, its line of crates.txt, and its folder
+    in the repository."""
 
     name: str
     kind: str
     uses: list
     line: str = ""
+    folder: str = ""
 
 
-def read(top=TOP):
-    """Returns the crates of a repository by name, in the order of their lines.
+def listed(path):
+    """Returns the lines of a list of crates as (kind, first word, line, the words behind the colon).
 
     A heading is a comment `# KIND: WHAT IT IS` below an empty line."""
-    found, kind, before = {}, "", None
-    with open(f"{top}/crates.txt", encoding="utf-8") as file:
+    kind, before = "", None
+    with open(path, encoding="utf-8") as file:
         for line in file:
             heading = re.match(r"# (\w+): ", line)
             if heading and before == "":
                 kind = heading[1]
             head, colon, uses = line.partition("#")[0].partition(":")
             if colon:
-                name = head.split()[0]
-                found[name] = Crate(name, kind, uses.split(), line.strip())
+                yield kind, head.split()[0], line.strip(), uses.split()
             before = line.strip()
+
+
+def read(top=TOP):
+    """Returns the crates of a repository that are proved, by name, in the order of their lines."""
+    found = listed(f"{top}/crates.txt")
+    return {name: Crate(name, kind, uses, line, f"crates/{name}") for kind, name, line, uses in found}
+
+
+def read_unproved(top=TOP):
+    """Returns the crates of a repository that are not proved, likewise. A line names the folder of each; here it has
+    the form of crates.txt. Older trees have no such crates."""
+    found = {}
+    if not os.path.exists(f"{top}/unproved.txt"):
+        return found
+    for kind, folder, _, uses in listed(f"{top}/unproved.txt"):
+        name = os.path.basename(folder)
+        found[name] = Crate(name, kind, uses, f"{name}: {' '.join(uses)}", folder)
     return found
+
+
+def read_all(top=TOP):
+    """Returns all crates of a repository, the proved ones first."""
+    return {**read(top), **read_unproved(top)}
 
 
 def below(crates):

@@ -7,6 +7,7 @@ import shutil
 import subprocess
 import sys
 import tempfile
+import time
 import unittest
 import unittest.mock
 
@@ -27,38 +28,83 @@ class TimedGate(unittest.TestCase):
         command[-1] = "kill -9 $$"
         self.assertEqual(subprocess.run(command, stdout=subprocess.DEVNULL).returncode, 128 + 9)
 
-    def commands(self, rt, *words):
-        """The commands that are run with these words, if `rt` is this script."""
-        found = []
+    def ran(self, *words, status=0):
+        """The status of the tool, and the commands that it runs, all of them with this status."""
+        commands = []
 
-        def measured(command, _env):
-            found.append(" ".join(command))
-            return 1, {}, (0, 0)
+        def run(measured, command, folder=None, env=None):
+            commands.append(" ".join(command).replace(f"{TOP}/", ""))
+            measured.status = measured.status or status
+            measured.spent.append((1.0, 2.0))
+            if command[:2] == ["rt", "ci"]:
+                self.leave(folder)
 
-        with tempfile.TemporaryDirectory() as room:
-            with open(f"{room}/rt", "w", encoding="utf-8") as file:
-                file.write(f"#!/bin/sh\n{rt}\n")
-            os.chmod(f"{room}/rt", 0o755)
-            path = {"PATH": f"{room}:{os.environ['PATH']}"}
-            with (
-                contextlib.redirect_stdout(io.StringIO()),
-                unittest.mock.patch.dict(os.environ, path),
-                unittest.mock.patch.object(sys, "argv", ["timed-gate", *words]),
-                unittest.mock.patch.object(self.tool, "measured", measured),
-                unittest.mock.patch.object(
-                    self.tool.toolchain.Clone, "clear", lambda _: found.append("clear")
-                ),
-            ):
-                self.tool.main()
-        return found
+        with (
+            contextlib.redirect_stdout(io.StringIO()) as output,
+            unittest.mock.patch.object(sys, "argv", ["timed-gate", *words]),
+            unittest.mock.patch.object(self.tool.Measured, "run", run),
+            unittest.mock.patch.object(self.tool.crates, "TOP", self.top),
+            unittest.mock.patch.object(self.tool, "takes_anew", lambda: True),
+            unittest.mock.patch.object(self.tool.toolchain.Clone.__init__, "__defaults__", (self.top,)),
+        ):
+            ended = self.tool.main()
+        return ended, commands, output.getvalue()
 
-    def test_the_command(self):
-        """A measurement that is written to the page takes nothing from earlier runs, with both kinds of rt."""
-        knows, does_not = "echo 0 passed, 1 failed; exit 2", "echo usage: rt >&2; exit 2"
-        for rt, written in ((knows, "rt ci --anew"), (does_not, "rt ci")):
-            self.assertEqual(self.commands(rt), ["clear", "rt ci"])
-            self.assertEqual(self.commands(rt, "--write"), ["clear", written])
-            self.assertEqual(self.commands(rt, "--write", "make"), ["make"])
+    def leave(self, folder):
+        """What `rt ci` leaves in a copy, in which no mutant is."""
+        files = {os.path.relpath(it, folder) for it in checks.files_below(folder)}
+        self.assertEqual(files, {"crates.txt", "crates/low/src/lib.rt", "crates/low/data/out.txt"})
+        os.makedirs(f"{folder}/crates/low/out/rlib/low.rlib")
+        for path in ("out/low", "out/rlib/low.rlib/format"):
+            with open(f"{folder}/crates/low/{path}", "w", encoding="utf-8") as file:
+                file.write("made")
+
+    def setUp(self):
+        folder = tempfile.TemporaryDirectory()
+        self.addCleanup(folder.cleanup)
+        self.top = folder.name
+        for path in ("crates/low/src/lib.rt", "crates/low/data/out.txt", "crates/low/must-fail/a.edit",
+                     "crates/low/out/old", "out/other", ".git/config"):
+            os.makedirs(f"{self.top}/{os.path.dirname(path)}", exist_ok=True)
+            open(f"{self.top}/{path}", "w", encoding="utf-8").close()
+        with open(f"{self.top}/crates.txt", "w", encoding="utf-8") as file:
+            file.write("low: std\n")
+
+    def test_the_gate(self):
+        """It is run over a copy without mutants. What it builds is put in its place, as old as the beginning."""
+        before = time.time_ns()
+        status, commands, said = self.ran(status=3)
+        self.assertEqual((status, commands), (3, ["rt ci"]))
+        self.assertEqual(said.splitlines()[-1], "rt ci: 1.0 processor minutes in 2.0 minutes")
+        for path in ("out/low", "out/rlib/low.rlib"):
+            made = os.stat(f"{self.top}/crates/low/{path}").st_mtime_ns
+            self.assertTrue(before - 10**9 < made <= time.time_ns(), path)
+        self.assertTrue(os.path.exists(f"{self.top}/crates/low/must-fail/a.edit"))
+        open(f"{self.top}/crates/low/out/rlib/stamp", "w", encoding="utf-8").close()
+        os.utime(f"{self.top}/crates/low/out/rlib/low.rlib", (7, 7))
+        self.ran()
+        self.assertEqual(os.stat(f"{self.top}/crates/low/out/rlib/low.rlib").st_mtime, 7)
+
+    def test_other_commands(self):
+        self.assertEqual(self.ran("make", "all")[:2], (0, ["make all"]))
+
+    def test_figures_for_the_page(self):
+        """Nothing is taken from earlier runs. They are written only if all ended well and no figure is lacking."""
+        status, commands, said = self.ran("--write")
+        wanted = ["rt ci --anew", "tools/dev/mutants --all", "tests/check-rattle"]
+        self.assertEqual((status, [it.rpartition(f"{self.top}/")[2] for it in commands]), (1, wanted))
+        self.assertIn("docs/GATE.md is as it was: no figure of wl_wire (proof), ", said)
+        status, commands, said = self.ran("--write", status=4)
+        self.assertEqual(status, 4)
+        self.assertIn("docs/GATE.md is as it was: status 4", said)
+
+    def test_what_the_page_says(self):
+        run = self.tool.Measured()
+        run.spent, run.table = [(60.0, 20.0), (30.0, 10.0), (10.0, 5.0)], {"wl_wire": {"proof": 1.0, "mutants": 0.5}}
+        said = self.tool.figures(run, {"RT_JOBS": "4"}, "2026-01-02", "abc")
+        self.assertIn("On 2026-01-02 at commit abc, on ", said)
+        self.assertIn("- in all 100.0 processor minutes in 35.0 minutes.", said)
+        self.assertIn("| `wl_wire` | 1.0 | 0.5 | 1.5 |\n", said)
 
     def test_other_processes_are_not_counted(self):
         self.assertIsNone(self.tool.part_of(f"/proc/{os.getpid()}"))
@@ -89,55 +135,24 @@ class TimedGate(unittest.TestCase):
 
     def test_no_row_without_a_figure(self):
         """A crate with a part that was not timed is named, and the page has the marks for the figures."""
-        table = {"wl_text": {"proof": 1.0, "tests": 0.0, "mutants": 0.5}}
+        table = {"wl_text": {"proof": 1.0, "mutants": 0.0}}
         self.assertEqual(self.tool.lacking(table, ["wl_text"]), [])
         self.assertEqual(self.tool.lacking(table, ["wl_text", "waywire"]), ["waywire (proof)"])
-        table["test_layers"] = {"proof": 1.0, "tests": 0.0, "mutants": 0.0}
-        self.assertEqual(self.tool.lacking(table, ["test_layers"]), ["test_layers (tests)"])
+        table["wl_wire"] = {"proof": 1.0, "mutants": 0.0}
+        self.assertEqual(self.tool.has("wl_wire", "mutants"), True)
+        self.assertEqual(self.tool.lacking(table, ["wl_wire"]), ["wl_wire (mutants)"])
         page = read("docs/GATE.md")
         self.assertLess(page.index(self.tool.BEGINS), page.index(self.tool.ENDS))
-        self.assertNotIn("| ? |", page)
 
     def test_rows(self):
-        table = {"b": dict.fromkeys(self.tool.PARTS, 1.0), "a": {"proof": 0.25, "tests": 0.0, "mutants": 0.0}}
+        table = {"b": dict.fromkeys(self.tool.PARTS, 1.0), "a": {"proof": 0.25, "mutants": 0.0}}
         found = self.tool.rows(table, ["a", "b"])[2:]
-        self.assertEqual(found[0], "| `a` | 0.2 | - | - | 0.2 |")
-        self.assertEqual(found[2], "| All | 1.2 | 1.0 | 1.0 | 3.2 |")
+        self.assertEqual(found[0], "| `a` | 0.2 | - | 0.2 |")
+        self.assertEqual(found[2], "| All | 1.2 | 1.0 | 2.2 |")
 
 
 class Quick(unittest.TestCase):
     tool = module_of("tests/quick")
-
-    def test_what_the_prover_says_of_mutants(self):
-        said = (
-            "rt: wl_connection: 2 of its 3 must-fail edits were tried by an earlier run on this machine, and so on\n"
-            "rt: must-fail wl_connection/a.edit: refused, as it must be: src/end.rt:3:1: error\n"
-            "rt: must-fail wl_connection/b.edit: NOT REFUSED: the crate is still proved with this edit\n"
-            "rt: must-fail wl_connection/c.edit: refused, as it must be\n"
-        )
-        with contextlib.redirect_stdout(io.StringIO()) as output:
-            count = self.tool.Count()
-            self.tool.judge(said, 1, count, 0)
-        self.assertEqual((count.passed, count.failed), (2, 1))
-        self.assertIn("wl_connection/b.edit: NOT REFUSED", output.getvalue())
-
-    def test_mutants_that_are_not_in_the_output(self):
-        earlier = "rt: wl_wire: 3 of its 3 must-fail edits were tried by an earlier run on this machine, and so on\n"
-        for said, failed in (("rt: ok\n", 1), (earlier, 0)):
-            with contextlib.redirect_stdout(io.StringIO()):
-                count = self.tool.Count()
-                self.tool.judge(said, 0, count, 0)
-            self.assertEqual((count.passed, count.failed), (0, failed))
-
-    def test_lines_by_file(self):
-        found = self.tool.by_file(read("crates/test_scenes/stdout"))
-        words = read("crates/test_scenes/args").split()
-        self.assertEqual([*found], [it for it in words if it.endswith(".scenes")])
-        self.assertLess({*self.tool.LONG_SCENES}, {*found})
-
-    def test_tables_of_scenes(self):
-        found = self.tool.files_with_tables(["a.scenes", "t.tables", "b.scenes", "c.scenes"])
-        self.assertEqual(found, [["a.scenes"], ["t.tables", "b.scenes"], ["t.tables", "c.scenes"]])
 
     def test_what_a_tool_counts(self):
         for said, status, counted in (
@@ -152,32 +167,6 @@ class Quick(unittest.TestCase):
             self.assertEqual((count.passed, count.failed), counted, said)
             self.assertIn("a tool: ", output.getvalue())
             self.assertEqual("skipped: a: b" in output.getvalue(), "skipped" in said)
-
-    def test_a_test_that_has_no_time_is_named(self):
-        late = "    checked: no-answer: the program did not end within the time limit\n    run=no-answer\n"
-        wrong = "    checked: ended status=101\n"
-        for why, counted, left in ((late, (1, 0), 1), (wrong, (1, 1), 0)):
-            said = f"test a::b ... FAILED\n{why}test a::c ... ok\n"
-            said += "test result: FAILED. 1 passed; 1 failed; 0 ignored; 0 filtered out\n"
-            with (
-                contextlib.redirect_stdout(io.StringIO()),
-                unittest.mock.patch.object(self.tool, "run", lambda *_, said=said: (1, said)),
-            ):
-                count = self.tool.Count()
-                self.tool.tests_of("test_layers", count)
-            self.assertEqual((count.passed, count.failed), counted)
-            self.assertEqual(["a::b" in it for it in count.left], [True] * left)
-
-    def test_a_run_of_tests_that_was_ended(self):
-        late = "test a::b ... FAILED\n    checked: no-answer: the program did not end within the time limit\n"
-        for said in ("", late, late + late.replace("::b", "::c")):
-            with (
-                contextlib.redirect_stdout(io.StringIO()),
-                unittest.mock.patch.object(self.tool, "run", lambda *_, said=said: (-9, said)),
-            ):
-                count = self.tool.Count()
-                self.tool.tests_of("test_layers", count)
-            self.assertEqual((count.passed, count.failed), (0, 1))
 
     def ran(self, part, said):
         """The commands that a part runs, of which each says this, and what it leaves out."""
@@ -200,10 +189,11 @@ class Quick(unittest.TestCase):
         """Over the proved program and the library for C more is run, and what is not run is named."""
         tools = ["tests/check-program", "tests/compare", "tests/refuse-memory"]
         program, pages = "crates/waywire/out/waywire", "tests/check-pages AtOnce"
+        compiled = "out/unproved/waywire"
         found = self.ran(self.tool.at_program, "waywire 1.0.0")
         self.assertEqual(found, ([*(f"{it} {program}" for it in tools), pages], []))
         found, left = self.ran(self.tool.at_program, "this run is not proved")
-        self.assertEqual(found, [*(f"{it} {program}-unproved" for it in tools[:2]), pages])
+        self.assertEqual(found, [*(f"{it} {compiled}" for it in tools[:2]), pages])
         self.assertIn(tools[2], left[0])
         found = self.ran(self.tool.at_library, "built")
         self.assertEqual(found, (["python3 tools/toolchain.py proved waywire", f"tests/check-c {program}",
@@ -213,15 +203,48 @@ class Quick(unittest.TestCase):
         self.assertEqual(found, ["tests/check-stubs Modules"])
         self.assertIn("tests/check-c", left[0])
 
-    def test_no_crate_of_tests_is_forgotten(self):
-        found = crates.read()
-        with_tests, programs = self.tool.of_tests(found)
-        run = {*with_tests, *programs, "test_scenes"}
-        under = crates.below(found)
-        for it in found.values():
-            if it.kind == "tests":
-                self.assertTrue(it.name in run or any(it.name in under[one] for one in run), it.name)
-        self.assertLess({*self.tool.LONG_PROGRAMS}, {*programs})
+    def proved(self, *lost):
+        """What is proved of two crates and those above them, if these are not proved; and what is left out."""
+        found = {it: crates.Crate(it, "", uses) for it, uses in (
+            ("low", []), ("middle", ["low"]), ("high", ["middle"]), ("other", []), ("beside", ["low"]))}
+        tried = []
+
+        def proof(name, _):
+            tried.append(name)
+            return name not in lost
+
+        with (
+            unittest.mock.patch.object(self.tool, "proof", proof),
+            unittest.mock.patch.object(self.tool.crates, "read", lambda: found),
+        ):
+            count = self.tool.Count()
+            proved = self.tool.proofs(["middle", "low"], count)
+        return tried, proved, count.left
+
+    def test_crates_above_are_proved_too(self):
+        """They come after those that they use, and are left out if one of these is not proved."""
+        order = ["low", "middle", "beside", "high"]
+        self.assertEqual(self.proved(), (order, order, []))
+        tried, proved, left = self.proved("middle")
+        self.assertEqual((tried, proved), (["low", "middle", "beside"], ["low", "beside"]))
+        self.assertEqual(left, ["the proof of high, which stands on what is not proved: ./test quick high"])
+
+    def test_what_is_run_for_a_crate(self):
+        """The mutants of the named crates, the tests in Rattle that use one, and the stored runs if the program does."""
+        commands = []
+        with (
+            contextlib.redirect_stdout(io.StringIO()),
+            unittest.mock.patch.object(self.tool, "layout", lambda *_: None),
+            unittest.mock.patch.object(self.tool, "proof", lambda *_: True),
+            unittest.mock.patch.object(self.tool, "tool", lambda _, what, *words: commands.append(" ".join(words))),
+            unittest.mock.patch.object(self.tool, "stored_runs", lambda _: commands.append("runs")),
+        ):
+            for names in (["wl_twins"], ["program_arguments"], ["test_player"], ["wl_wire"]):
+                self.tool.judged(names, self.tool.Count())
+        self.assertEqual(commands[0], "tests/check-rattle test_layers proxy jobs")
+        self.assertEqual(commands[1:3], ["tests/check-rattle test_programs jobs", "runs"])
+        self.assertEqual(commands[3], "tests/check-rattle test_player test_scenes test_sweeps")
+        self.assertEqual((commands[4], commands[-1]), ("tools/dev/mutants wl_wire", "runs"))
 
     def test_names(self):
         command = [f"{TOP}/test", "quick", "wl_wire", "no_crate"]
@@ -264,9 +287,10 @@ class OfTheInspector(unittest.TestCase):
 class All(unittest.TestCase):
     """`./test all`, with a stand-in for each of its parts."""
 
-    PARTS = ["tests/check-layout", "tools/dev/timed-gate", "tests/check-program", "tests/compare",
-             "tests/refuse-memory", "tests/check-tools", "tests/check-c", "tests/check-stubs",
-             "tests/check-rust", "tests/check-libwayland", "tests/check-picture", "tests/check-pages"]
+    PARTS = ["tests/check-layout", "tools/dev/timed-gate", "tools/dev/mutants", "tests/check-rattle",
+             "tests/check-program", "tests/compare", "tests/refuse-memory", "tests/check-tools", "tests/check-c",
+             "tests/check-stubs", "tests/check-rust", "tests/check-libwayland", "tests/check-picture",
+             "tests/check-pages"]
 
     def said(self, **parts):
         """The status and the output of a run, in which these parts, by the last words of their
@@ -286,7 +310,7 @@ class All(unittest.TestCase):
     def test_all_is_well(self):
         status, said = self.said(c="""echo 'skipped: a compositor: weston is not installed'
 echo '3 passed, 0 failed'""")
-        self.assertEqual((status, said.splitlines()[-1]), (0, "14 passed, 0 failed"))
+        self.assertEqual((status, said.splitlines()[-1]), (0, "16 passed, 0 failed"))
         skipped = "tests/check-c: a compositor: weston is not installed\n"
         self.assertIn(f"What was skipped:\n{skipped}", said)
         self.assertNotIn("What failed:", said)
@@ -305,7 +329,7 @@ exit 1""")
         self.assertTrue(said.startswith(wanted), said)
 
     def test_what_failed_and_why(self):
-        said = self.failing("12 passed, 1", c="""echo skipped: one: two
+        said = self.failing("14 passed, 1", c="""echo skipped: one: two
 printf 'failed: values: status 1\nvalues.c:7: no\n'
 echo skipped: three: four
 echo '1 passed, 1 failed'
@@ -315,26 +339,26 @@ exit 1""")
         self.assertNotIn("three", said)
 
     def test_an_exception(self):
-        said = self.failing("11 passed, 1", rust="exec python3 -c 'raise OSError(7, str(9))'")
+        said = self.failing("13 passed, 1", rust="exec python3 -c 'raise OSError(7, str(9))'")
         wanted = "which ended with status 1 and has no count of what passed and failed:\nTraceback "
         self.assertTrue(said.startswith(f"tests/check-rust, {wanted}"), said)
         self.assertIn("OSError: [Errno 7] 9\n", said)
 
     def test_a_signal(self):
         for signal, name, is_memory in ((9, "KILL", True), (15, "TERM", False)):
-            said = self.failing("11 passed, 1", picture=f"kill -{signal} $$")
+            said = self.failing("13 passed, 1", picture=f"kill -{signal} $$")
             self.assertIn(f"tests/check-picture, which ended by signal {signal} ({name}) and", said)
             self.assertEqual("for lack of memory" in said, is_memory, said)
 
     def test_a_status_that_no_count_explains(self):
-        said = self.failing("12 passed, 1", tools="echo '1 passed, 0 failed'; exit 3")
+        said = self.failing("14 passed, 1", tools="echo '1 passed, 0 failed'; exit 3")
         self.assertIn("tests/check-tools, which ended with status 3 though nothing of its", said)
 
     def test_the_gate(self):
-        """A mutant that was not tried counts as failed. If the system killed a proof, that is reported as such."""
+        """If the system killed a proof, that is reported as such."""
         def gate(*lines):
             said = " ".join(f"'{it}'" for it in (*lines, "5 passed, 1 failed", "rt ci: 9"))
-            said = self.failing("16 passed, 1", gate=f"printf '%s\\n' {said}; exit 1")
+            said = self.failing("18 passed, 1", gate=f"printf '%s\\n' {said}; exit 1")
             head = "tools/dev/timed-gate, 5 passed, 1 failed:"
             self.assertEqual(said.splitlines()[: 1 + len(lines)], [head, *lines])
             self.assertIn("\nrt ci: 9\nin all: ", said)

@@ -13,10 +13,6 @@ import mutant_edits
 import mutant_prover
 import mutant_rounds
 
-TOOLS = ("tools/crates.py", "tools/toolchain.py", "tools/dev/mutants", "tools/dev/machine.py",
-         "tools/dev/mutant_edits.py", "tools/dev/mutant_notes.py", "tools/dev/mutant_prover.py",
-         "tools/dev/mutant_rounds.py")
-
 RT = """#!/usr/bin/env bash
 case $1 in
 doc) echo "$ROOM/kit/START-HERE.md" ;;
@@ -122,7 +118,8 @@ class Rounds(unittest.TestCase):
         room = tempfile.TemporaryDirectory()
         self.addCleanup(room.cleanup)
         self.room = room.name
-        for name in TOOLS:
+        modules = glob.glob("tools/*.py", root_dir=TOP) + glob.glob("tools/dev/*.py", root_dir=TOP)
+        for name in ("tools/dev/mutants", *modules):
             os.makedirs(f"{self.room}/{os.path.dirname(name)}", exist_ok=True)
             shutil.copy(f"{TOP}/{name}", f"{self.room}/{name}")
         for name, text in (("bin/rt", RT), ("kit/bin/rattle", RATTLE)):

@@ -8,21 +8,22 @@ import tempfile
 import unittest
 
 from checks import TOP, module_of, need, read, run
+import crates
 
 
 class Pages(unittest.TestCase):
     """What the pages link to and name is there."""
 
-    FOLDERS = ("", "crates", "docs", "tools")
+    FOLDERS = ("", "crates", "docs", "tests/rattle", "tools")
     # Files that a command makes, and words in the place of a name.
     MADE = re.compile(r"(^|/)out/|^include/waywire-version\.h$")
     STANDS_FOR = re.compile(r"[A-Z]{3,}")
     PATH = re.compile(r"(\./)?\.?[a-z][\w.*+-]*(/[\w.*+-]+)+/?", re.ASCII)
-    FILE = re.compile(r"[\w-]+\.(antt|c|edit|h|md|py|rec|rt|run|scenes|svg|tables|txt)", re.ASCII)
+    FILE = re.compile(r"[\w-]+\.(antt|c|edit|h|md|py|rattle|rec|rt|run|scenes|svg|tables|txt)", re.ASCII)
 
     def pages(self):
         found = []
-        for folder in ("", "docs", "crates/*", "examples/*", "rust/*"):
+        for folder in ("", "docs", "examples/*", "rust/*", "tests/rattle/*"):
             found += glob.glob(f"{TOP}/{folder}/*.md")
         return sorted(os.path.relpath(it, TOP) for it in found)
 
@@ -38,7 +39,7 @@ class Pages(unittest.TestCase):
         for at, folders, files in os.walk(TOP):
             folders[:] = [it for it in folders if it not in ("out", ".git")]
             names.update(files)
-        places = [*self.FOLDERS, *(os.path.relpath(it, TOP) for it in glob.glob(f"{TOP}/crates/*"))]
+        places = [*self.FOLDERS, *(it.folder for it in crates.read_all().values())]
         for page in self.pages():
             text = re.sub(r"(?s)```.*?```", "", read(page))
             near = [*places, os.path.dirname(page)]

@@ -22,7 +22,7 @@ class Crates(unittest.TestCase):
 
     def test_each_kind_has_a_heading(self):
         found = crates.read()
-        self.assertEqual({it.kind for it in found.values()}, {"library", "theory", "program", "tests"})
+        self.assertEqual({it.kind for it in found.values()}, {"library", "theory", "program", "example"})
         self.assertEqual(sorted(found), sorted(os.listdir(f"{TOP}/crates")))
 
     def test_lowest_first(self):
@@ -311,8 +311,9 @@ class Columns(unittest.TestCase):
     def test_width(self):
         paths = [
             it
-            for pattern in ("src/**/*.rt", "specs/**/*.antt")
-            for it in glob.glob(f"crates/*/{pattern}", root_dir=TOP, recursive=True)
+            for crate in crates.read_all().values()
+            for pattern in ("src/**/*.rt", "src/**/*.rattle", "specs/**/*.antt")
+            for it in glob.glob(f"{crate.folder}/{pattern}", root_dir=TOP, recursive=True)
         ]
         found = [
             f"{path}:{number}"
@@ -392,7 +393,8 @@ class Functions(unittest.TestCase):
         """None has more than six: what belongs together is a record."""
         found = {
             name: given
-            for path in glob.glob("crates/*/src/*.rt", root_dir=TOP)
+            for crate in crates.read_all().values()
+            for path in glob.glob(f"{crate.folder}/src/*.r*t*", root_dir=TOP)
             for name, given in self.parameters(read(path))
             if len(given) > self.most
         }

@@ -146,7 +146,7 @@
 //! stream. [`trace`] prints a recording message by message, and [`check`] says whether it is lawful
 //! and, if not, where. An [`Inspector`] does both while a session goes on, for each piece as it
 //! passes. [`Twins`] keeps, for a proxy, which objects of its two ends correspond to each other;
-//! the crate `proxy` is an example. [`same_rows`] says whether a client and a server have the same
+//! `examples/proxy` is one. [`same_rows`] says whether a client and a server have the same
 //! objects, and [`object_count`] how many.
 //!
 //! # A client and a server
@@ -158,7 +158,7 @@
 //!
 //! Its line in `crates.txt` names `wl_message` besides `wl`: it slices by what `take` returned, and
 //! its file `proofs/Amounts.antt` proves with a lemma of that crate that this is within the slice.
-//! A program that slices by `taken.bytes.min(4096)`, as the crate `proxy` does, needs no such file.
+//! A program that slices by `taken.bytes.min(4096)`, as `examples/proxy` does, needs no such file.
 //!
 //! `rt try` runs a program without proof, on an interpreter for at most 20,000,000 steps and also
 //! compiled with checks. A longer program gets the line `interpreter: no-answer: the run did not

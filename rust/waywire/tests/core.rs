@@ -207,7 +207,7 @@ fn the_demonstration_is_that_of_the_pair() {
     pair.client.send(surface, request::wl_surface::DESTROY, &[]).unwrap();
     turn(&mut pair, &mut passed);
 
-    let recorded = repository().join("crates/test_sweeps/data/demonstration.rec");
+    let recorded = repository().join("tests/rattle/test_sweeps/data/demonstration.rec");
     assert_eq!(passed, streams(&fs::read_to_string(recorded).unwrap()));
     assert!(pair.client.is_drained() && pair.server.is_drained());
 }
