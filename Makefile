@@ -1,14 +1,20 @@
 # Builds the library for C, and on it the tool `waywire-inspect` and the libwayland-client of `waywire-run`.
 #
 #     make            proves and builds the library if it is not built yet, reusing what was proved in this clone
-#                     (tools/toolchain.py), and then builds the tools
+#                     (tools/toolchain.py), and then builds the tools. If a package has the archive of the exports that
+#                     was proved from these sources, it takes that, and proves nothing
+#     make UNPROVED=1 compiles the library without a proof, unless a proved one is there
 #     make install    installs all of it, with the manual pages; also the program `waywire`, if that is built
 #                     (./waywire --build)
 #     make dist       packs all of that for machines without the toolchain
 #     make deb        makes a Debian package of it
 #     make check      runs the short tests of the library for C; tests/check-c runs all of them
 #
+# A package has an archive that was proved from nothing: `make dist` and `make deb` prove again what `make` has proved
+# over kept work (tools/proved_archive.py). A library that is not proved is installed and packed with UNPROVED=1 alone.
+#
 #     make install PREFIX=/usr/local LIBDIR=/usr/local/lib DESTDIR=
+#     make PROVED=FOLDER      also looks for a proved archive in FOLDER, share/waywire/proved of a package
 PREFIX ?= /usr/local
 LIBDIR ?= $(PREFIX)/lib
 INCLUDEDIR ?= $(PREFIX)/include
@@ -19,15 +25,22 @@ CC ?= cc
 CFLAGS ?= -O2
 LDFLAGS ?=
 OBJCOPY ?= objcopy
-# The folder of the toolchain, whose C part provides the memory of the exports.
-KIT ?= $(shell python3 tools/toolchain.py kit)
+PROVED ?=
+UNPROVED ?=
 # The program has the only copy of the version's number.
 numbered = crates/program_arguments/src/job.rt
 VERSION := $(shell sed -n 's/^const VERSION: &str = "\(.*\)";/\1/p' $(numbered))
 numbers := $(subst ., ,$(VERSION))
 MAJOR := $(word 1,$(numbers))
 
-proved = crates/waywire_c/out/libwaywire_c.a
+# The archive of the exports; beside it lie the toolchain's memory functions, and how it was made, in one word.
+exports = crates/waywire_c/out/libwaywire_c.a
+memory = crates/waywire_c/out/liblibc_c.a
+how = $(firstword $(shell head -n 1 crates/waywire_c/out/libwaywire_c.sums 2>/dev/null))
+# Empty, or what is said after the version of a library that is not proved.
+unproved = $(if $(filter unproved,$(how)), (not proved))
+# Where packages put a proved archive.
+proved_places = $(PROVED) out/proved $(DATADIR)/waywire/proved /usr/share/waywire/proved
 crates := $(shell python3 tools/crates.py below waywire_c)
 sources := $(wildcard $(crates:%=crates/%/src/*.rt))
 archive = out/c/libwaywire.a
@@ -40,12 +53,13 @@ inspect = out/c/waywire-inspect
 wayland = out/c/wayland/libwayland-client.so.0
 run = out/c/waywire-run
 headers = include/waywire.h include/waywire-core.h include/waywire-socket.h include/waywire-version.h
-package = waywire-$(VERSION)-x86_64-linux
+package = waywire-$(VERSION)$(if $(unproved),-unproved)-x86_64-linux
 # Files for build tools name the other folders relative to their own, so that an installed tree can be moved.
 from = $(shell realpath -ms --relative-to=$(1)/ $(2)/)
 fill = sed 's|@UP@|$(call from,$(1),$(PREFIX))|; s|@LIBDIR@|$(call from,$(PREFIX),$(LIBDIR))|; \
 	s|@INCLUDEDIR@|$(call from,$(PREFIX),$(INCLUDEDIR))|; s|@VERSION@|$(VERSION)|; \
-	s|@SONAME@|$(soname)|; s|@ABI@|$(abi)|'
+	s|@SONAME@|$(soname)|; s|@ABI@|$(abi)|; s|@PROVED@|$(if $(unproved),no,yes)|; \
+	s|@HOW@|$(if $(unproved),not )proved|'
 
 # `waywire-run` finds the folder of its libwayland-client and the inspector from its own folder:
 # $(call run_with,LIBRARIES,INSPECTOR,FILE).
@@ -54,8 +68,23 @@ run_with = sed 's|^libraries=.*|libraries=$(1)|; s|^inspector=.*|inspector=$(2)|
 
 all: $(archive) $(shared) $(inspect) $(wayland) $(run)
 
-$(proved): $(sources)
-	python3 tools/toolchain.py build waywire_c
+# What UNPROVED=1 allows: a library that is not proved, and packages with what was not proved from nothing.
+ifeq ($(UNPROVED),)
+packed := $(filter dist deb,$(MAKECMDGOALS))
+ifneq ($(filter install dist deb,$(MAKECMDGOALS)),)
+ifneq ($(unproved),)
+$(error the library is not proved: `make` proves it, and `make $(MAKECMDGOALS) UNPROVED=1` takes it as it is)
+endif
+endif
+again := $(if $(unproved),again)
+ifneq ($(packed),)
+again += $(shell python3 tools/proved_archive.py ready || echo again)
+endif
+endif
+
+$(exports): $(sources) $(again)
+	@python3 tools/proved_archive.py take $(proved_places) || \
+		python3 tools/$(if $(UNPROVED),unproved_archive.py,toolchain.py build waywire_c $(if $(packed),whole))
 
 include/waywire-version.h: $(numbered) Makefile
 	@printf '%s\n' '/* Made by make. */' '#define WAYWIRE_VERSION "$(VERSION)"' \
@@ -65,21 +94,25 @@ include/waywire-version.h: $(numbered) Makefile
 
 # The calls on top of the exports.
 calls = out/c/waywire-calls.o out/c/users-calls.o out/c/tables-calls.o out/c/inspector-calls.o \
-	out/c/line-calls.o
+	out/c/line-calls.o out/c/version-calls.o
+
+out/c/version-calls.o: c/version.c include/waywire.h include/waywire-version.h $(exports)
+	@mkdir -p out/c
+	$(CC) $(CFLAGS) -std=c99 -Wall -Wextra -Wpedantic -fPIC -Iinclude -DHOW='"$(unproved)"' -c $< -o $@
 
 out/c/%-calls.o: c/%.c c/calls.h c/users.h include/waywire.h include/waywire-version.h
 	@mkdir -p out/c
 	$(CC) $(CFLAGS) -std=c99 -Wall -Wextra -Wpedantic -fPIC -Iinclude -c $< -o $@
 
 # The toolchain's memory functions, which call those of c/tables.c instead of `malloc`, `realloc` and `free`.
-out/c/memory.a: Makefile
+out/c/memory.a: $(exports) Makefile
 	@mkdir -p out/c
 	$(OBJCOPY) --redefine-sym malloc=memory_malloc --redefine-sym realloc=memory_realloc \
-		--redefine-sym free=memory_free $(KIT)/c/liblibc_c.a $@
+		--redefine-sym free=memory_free $(memory) $@
 
 # One object of the calls, the exports and the memory, in which only the calls are global.
-out/c/waywire.o: $(proved) $(calls) out/c/memory.a
-	$(LD) -r --whole-archive $(proved) --no-whole-archive $(calls) out/c/memory.a \
+out/c/waywire.o: $(exports) $(calls) out/c/memory.a
+	$(LD) -r --whole-archive $(exports) --no-whole-archive $(calls) out/c/memory.a \
 		-o out/c/whole.o
 	nm -g --defined-only $(calls) | sed -n 's/.* T \(waywire_\)/\1/p' > out/c/calls.txt
 	$(OBJCOPY) --keep-global-symbols=out/c/calls.txt out/c/whole.o $@
@@ -190,6 +223,11 @@ install: all
 	install -m 644 tools/picture_columns.py $(DESTDIR)$(DATADIR)/waywire/tools
 	install -m 755 tools/waywire-picture $(DESTDIR)$(DATADIR)/waywire/tools
 	ln -sf $(call from,$(BINDIR),$(DATADIR)/waywire/tools)/waywire-picture $(DESTDIR)$(BINDIR)
+	if python3 tools/proved_archive.py ready; then \
+		python3 tools/proved_archive.py pack $(DESTDIR)$(DATADIR)/waywire/proved; \
+	else \
+		rm -rf $(DESTDIR)$(DATADIR)/waywire/proved; \
+	fi
 	if [ -x $(program) ]; then \
 		install -m 755 $(program) $(DESTDIR)$(BINDIR)/waywire && \
 		tools/man-page $(program) > $(DESTDIR)$(DATADIR)/man/man1/waywire.1 && \
@@ -217,5 +255,5 @@ check: all
 clean:
 	rm -rf out/c out/dist out/deb out/*.tar.gz out/*.deb include/waywire-version.h
 
-.PHONY: all install dist deb check clean
+.PHONY: all again install dist deb check clean
 .DELETE_ON_ERROR:

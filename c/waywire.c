@@ -583,8 +583,3 @@ const char *waywire_strspelling(uint32_t spelling)
 	};
 	return spelling < sizeof texts / sizeof *texts ? texts[spelling] : "unknown misspelling";
 }
-
-const char *waywire_version(void)
-{
-	return WAYWIRE_VERSION;
-}

@@ -142,7 +142,8 @@ const char *waywire_strerror(waywire_status status);
 /* How an argument is malformed, in English: a static string for the `spelling` of a report, 1 to 4. */
 const char *waywire_strspelling(uint32_t spelling);
 
-/* The version of the library, as WAYWIRE_VERSION is that of the header. */
+/* The version of the library, as WAYWIRE_VERSION is that of the header. After the number it says ` (not proved)` if the
+ * library was compiled without a proof. */
 const char *waywire_version(void);
 
 /* ---- values */

@@ -9,8 +9,12 @@ import tempfile
 
 from checks import (LONG, TOP, Failed, Skipped, can, ended, need, need_protocols, run,
                     start_and_wait)
+import crates
+import proved_archive
 
 TESTS = os.path.join(TOP, "tests", "c")
+# With this word, a package is made of the library as it is: nothing is proved again for it.
+AS_IT_IS = "UNPROVED=1"
 
 
 def installed(program):
@@ -27,6 +31,9 @@ def installed(program):
             run(["cc", f"tests/c/{name}.c", "-Itests/c", *words, "-o", f"{prefix}/{name}"])
             run([f"{prefix}/{name}"], env={**os.environ, "LD_LIBRARY_PATH": libraries})
         version = run(["pkg-config", "--modversion", "waywire"], env=env).strip()
+        is_proved = run(["pkg-config", "--variable=proved", "waywire"], env=env).strip()
+        if is_proved != ("no" if unproved() else "yes"):
+            raise Failed(f"of the library that is made {made_how()}, pkg-config says proved={is_proved}")
         numbers = dict(zip(("MAJOR", "MINOR", "PATCH"), version.split(".")))
         with open(os.path.join(prefix, "include", "waywire-version.h"), encoding="utf-8") as file:
             said = file.read()
@@ -120,6 +127,69 @@ def version_of_the_library():
         return re.search('"(.*)"', file.read())[1]
 
 
+def made_how():
+    """How the archive of the exports was made, in one word."""
+    record = proved_archive.read(proved_archive.place())
+    return record and record.how
+
+
+def unproved():
+    """What the inspector says after the version of a library that is not proved."""
+    return " (not proved)" if made_how() == proved_archive.UNPROVED else ""
+
+
+def tells_its_version(tool):
+    """The inspector has the library's version, and says whether that is proved."""
+    wanted = f"waywire-inspect {version_of_the_library()}{unproved()}\n"
+    if run([tool, "--version"]) != wanted:
+        raise Failed(f"{tool} does not say {wanted!r}")
+
+
+def carries_the_proof(data):
+    """Installed files have the proved archive if it was proved from nothing."""
+    folder = os.path.join(data, "waywire", "proved")
+    is_there = os.path.exists(folder)
+    if is_there != (not proved_archive.why_not(proved_archive.place(), TOP)):
+        raise Failed(f"{folder} is {'' if is_there else 'not '}there, and the archive is made {made_how()}")
+    if is_there and proved_archive.why_not(folder, TOP):
+        raise Failed(f"{folder} is not of these sources: {proved_archive.why_not(folder, TOP)}")
+
+
+def taken_from_a_package(_program):
+    """Without the toolchain, a copy of the repository is built with the archive of an installed library, and then is
+    not if a proof changes. The message names the proof."""
+    need("make")
+    if why := proved_archive.why_not(proved_archive.place(), TOP):
+        raise Skipped(f"the archive cannot go into a package: {why}")
+    with tempfile.TemporaryDirectory() as room:
+        run(["make", "-s", "install", f"PREFIX={room}/installed", "program=none"])
+        copy = copy_of_what_make_reads(room)
+        words = ["make", "-s", f"PREFIX={room}/installed"]
+        run(words, cwd=copy, env=without_toolchain(room))
+        tells_its_version(f"{copy}/out/c/waywire-inspect")
+        shutil.rmtree(f"{copy}/crates/waywire_c/out")
+        changed = "crates/wl_wire/proofs/Lib.antt"
+        with open(f"{copy}/{changed}", "a", encoding="utf-8") as file:
+            file.write("\n")
+        ran = subprocess.run(words, cwd=copy, env=without_toolchain(room), capture_output=True, timeout=LONG)
+        said = ran.stderr.decode()
+        if not ran.returncode or changed not in said or "rt is not on this machine" not in said:
+            raise Failed(f"status {ran.returncode}: {said}")
+
+
+def copy_of_what_make_reads(room):
+    """A copy of the sources of the library for C and of its crates, without what was built."""
+    copy = f"{room}/copy"
+    of_crates = [f"crates/{it}" for it in crates.lowest_first(crates.read(), proved_archive.LIBRARY)]
+    hide = shutil.ignore_patterns("out", "must-fail")
+    for it in ("c", "include", "tools", "rust/waywire", *of_crates):
+        shutil.copytree(f"{TOP}/{it}", f"{copy}/{it}", ignore=hide)
+    for it in ("Makefile", "crates.txt", "crates/program_arguments/src/job.rt"):
+        os.makedirs(os.path.dirname(f"{copy}/{it}"), exist_ok=True)
+        shutil.copy(f"{TOP}/{it}", f"{copy}/{it}")
+    return copy
+
+
 # Run in a Debian with the package: a program is built with it, and the tools run.
 AT_DEBIAN = """set -e
 cc /tests/c/values.c -I/tests/c $(pkg-config --cflags --libs waywire) -o /tmp/values
@@ -136,7 +206,7 @@ def debian_package(program):
     built = [f"program={program}"] if program else []
     made = []
     for _ in range(2):
-        path = os.path.join(TOP, run(["make", "-s", "deb", *built]).split()[-1])
+        path = os.path.join(TOP, run(["make", "-s", "deb", AS_IT_IS, *built]).split()[-1])
         with open(path, "rb") as file:
             made.append(file.read())
     if made[0] != made[1]:
@@ -171,8 +241,8 @@ def serves_unpacked(root):
         raise Failed(f"pkg-config says {words}")
     run(["cc", "tests/c/values.c", "-Itests/c", *words, "-o", f"{root}/values"])
     run([f"{root}/values"], env=env)
-    if run([f"{usr}/bin/waywire-inspect", "--version"]) != f"waywire-inspect {version_of_the_library()}\n":
-        raise Failed("the inspector has another version")
+    tells_its_version(f"{usr}/bin/waywire-inspect")
+    carries_the_proof(f"{usr}/share")
     knows_installed_tables(f"{usr}/bin/waywire-inspect", root)
     for tool in ("tables-from-xml", "stubs-from-xml"):
         run([f"{usr}/bin/waywire-{tool}", f"{usr}/share/waywire/tools/core.xml"])
@@ -189,7 +259,8 @@ def debian_package_at_a_clean_debian(program):
     need("make", "dpkg-deb", "debootstrap")
     if os.geteuid():
         raise Skipped("only root can make a Debian")
-    path = os.path.join(TOP, run(["make", "-s", "deb", *([f"program={program}"] if program else [])]).split()[-1])
+    built = [f"program={program}"] if program else []
+    path = os.path.join(TOP, run(["make", "-s", "deb", AS_IT_IS, *built]).split()[-1])
     with tempfile.TemporaryDirectory() as root:
         try:
             run(["debootstrap", "--variant=minbase", "--include=gcc,libc6-dev,pkg-config,python3",
@@ -200,7 +271,7 @@ def debian_package_at_a_clean_debian(program):
         shutil.copy(path, os.path.join(root, "waywire.deb"))
         run(["chroot", root, "dpkg", "-i", "/waywire.deb"])
         said = run(["chroot", root, "sh", "-c", AT_DEBIAN])
-        if f"waywire-inspect {version_of_the_library()}\n" not in said:
+        if f"waywire-inspect {version_of_the_library()}{unproved()}\n" not in said:
             raise Failed(f"it says {said!r}")
         run(["chroot", root, "dpkg", "--purge", "waywire"])
         if left := glob.glob(f"{root}/usr/**/*waywire*", recursive=True):
@@ -226,7 +297,7 @@ def made_package(program):
     """Makes the package twice, and returns its path."""
     made = []
     for _ in range(2):
-        archive = os.path.join(TOP, run(["make", "-s", "dist", f"program={program}"]).split()[-1])
+        archive = os.path.join(TOP, run(["make", "-s", "dist", AS_IT_IS, f"program={program}"]).split()[-1])
         with open(archive, "rb") as file:
             made.append(file.read())
     if made[0] != made[1]:
@@ -252,6 +323,7 @@ def package(program):
         for tool in ("tables-from-xml", "stubs-from-xml"):
             run([f"{top}/bin/waywire-{tool}", f"{top}/share/waywire/tools/core.xml"], env=env)
         run([f"{top}/bin/waywire-run", "true"], env=env)
+        carries_the_proof(f"{top}/share")
         need_protocols()
         packed_examples(os.path.join(top, "share", "doc", "waywire", "examples"), env)
 
@@ -275,9 +347,7 @@ def inspector_is_installed(_program):
         data = os.path.join(prefix, "data", "here")
         run(["make", "-s", "install", f"PREFIX={prefix}", f"DATADIR={data}", "program=none"])
         tool = os.path.join(prefix, "bin", "waywire-inspect")
-        version = version_of_the_library()
-        if run([tool, "--version"]) != f"waywire-inspect {version}\n":
-            raise Failed(f"it has another version than {version}")
+        tells_its_version(tool)
         env = {**os.environ, "XDG_RUNTIME_DIR": prefix, "WAYLAND_DISPLAY": "none", "XDG_DATA_DIRS": prefix}
         words = [tool, "--verbose", "true"]
         said = subprocess.run(words, env=env, capture_output=True, timeout=LONG)

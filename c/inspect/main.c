@@ -103,6 +103,13 @@ static void print_alone(const char *text)
 	exit(0);
 }
 
+static void print_version(void)
+{
+	char text[64];
+	snprintf(text, sizeof text, "waywire-inspect %s\n", waywire_version());
+	print_alone(text);
+}
+
 /* The value of --limit. */
 static uint32_t limit_of(const char *digits)
 {
@@ -147,7 +154,7 @@ static void take_option(struct later *later, int option, char *word)
 	case TIME: options.time = time_of(word); break;
 	case COLOUR: later->colour = word; break;
 	case HELP: print_alone(help); break;
-	case VERSION: print_alone("waywire-inspect " WAYWIRE_VERSION "\n"); break;
+	case VERSION: print_version(); break;
 	default: fail("--help says which options there are");
 	}
 }

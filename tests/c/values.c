@@ -523,7 +523,9 @@ static void texts(void)
 	}
 	MUST(!strcmp(waywire_strerror((waywire_status)99), "unknown status"));
 	MUST(!strcmp(waywire_strspelling(2), "null is not allowed here"));
-	MUST(!strcmp(waywire_version(), WAYWIRE_VERSION));
+	const char *how = waywire_version() + strlen(WAYWIRE_VERSION);
+	MUST(!strncmp(waywire_version(), WAYWIRE_VERSION, strlen(WAYWIRE_VERSION)));
+	MUST(!*how || !strcmp(how, " (not proved)"));
 }
 
 /* The pieces of a recording's text, and what is wrong with one. */

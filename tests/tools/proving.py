@@ -13,9 +13,14 @@ from tools.building import copy_sources
 
 ARCHIVE = "crates/waywire_c/out/libwaywire_c.a"
 PROGRAM = "crates/waywire/out/waywire"
+# It keeps a file in the folder that follows --incremental, and leaves an archive of one line.
 RATTLE = """#!/usr/bin/env bash
 echo "$3" >>"$ROOM/notes"
-[ "$3" != "$FAILS" ] && : >"${!#}"
+for it; do
+    [ "$before" != --incremental ] || { mkdir -p "$it" && : >"$it/kept"; }
+    before=$it
+done
+[ "$3" != "$FAILS" ] && date +%N >"${!#}"
 """
 
 
@@ -34,7 +39,8 @@ class Rooms(unittest.TestCase):
             os.makedirs(f"{room}/tools/dev")
             for name in ("Makefile", *(f"tools/dev/{it}" for it in ("timed-gate", "machine.py", "usage.py"))):
                 shutil.copy(f"{TOP}/{name}", f"{room}/{name}")
-            for name, text in (("bin/rt", self.RT), ("kit/bin/rattle", RATTLE)):
+            files = ("bin/rt", self.RT), ("kit/bin/rattle", RATTLE), ("kit/c/liblibc_c.a", "memory")
+            for name, text in files:
                 os.makedirs(os.path.dirname(f"{room}/{name}"))
                 with open(f"{room}/{name}", "w", encoding="utf-8") as file:
                     file.write(text)
@@ -58,8 +64,19 @@ class Rooms(unittest.TestCase):
         self.assertEqual(ran.returncode, 0, ran.stderr)
         return proved, ran.stderr
 
-    def made(self, room, **more):
-        return self.proves(room, "make", "-s", ARCHIVE, **more)
+    def made(self, room, places=(), **more):
+        """What `make` proved of the library, with proved archives in these places alone."""
+        return self.proves(room, "make", "-s", ARCHIVE, f"proved_places={' '.join(places)}", **more)
+
+    def how(self, room):
+        """How the archive was made."""
+        with open(f"{room}/crates/waywire_c/out/libwaywire_c.sums", encoding="utf-8") as file:
+            return file.readline().strip()
+
+    def changes(self, room, path):
+        """A file changes."""
+        with open(f"{room}/{path}", "a", encoding="utf-8") as file:
+            file.write("\n")
 
     def is_lowest_first(self, proved, last):
         """Each crate that the last one needs was proved once, after the crates that it uses."""
@@ -92,7 +109,7 @@ class Rooms(unittest.TestCase):
         """Crates above it are not tried, and nothing is built."""
         for words, status, made in (
             (["./waywire", "--build"], 70, PROGRAM),
-            (["make", "-s", ARCHIVE], 2, ARCHIVE),
+            (["make", "-s", ARCHIVE, "proved_places="], 2, ARCHIVE),
         ):
             with self.room() as room:
                 ran, proved = self.built(room, *words, FAILS="wl_objects")
@@ -109,6 +126,7 @@ class BuildByNames(Rooms):
     RT = """#!/usr/bin/env bash
 case $* in
 doc) echo "$ROOM/kit/START-HERE.md" ;;
+version) echo "rattle-kit-1" ;;
 ci)
     while [ "$CI" = true ] && read -r name _; do "$0" of "${name%:}"; done <crates.txt
     [ -d crates/waywire ] || exit 0
@@ -147,6 +165,70 @@ esac
             program = self.proves(room, "./waywire", "--build")[0]
             self.is_lowest_first([*library[:-1], *program], "waywire")
 
+    def test_kept_work(self):
+        """After a change, what was kept of waywire_c is used. For a package, it is not."""
+        whole = ("python3", "tools/toolchain.py", "build", "waywire_c", "whole")
+        with self.room() as room:
+            self.builds_a_library(room)
+            self.assertEqual(self.how(room), "whole rattle-kit-1")
+            self.assertFalse(self.proves_for_a_package(room))
+            self.changes(room, "crates/waywire_c/src/lib.rt")
+            proved, said = self.made(room)
+            self.assertEqual((proved, self.how(room)), (["waywire_c"], "kept rattle-kit-1"))
+            self.assertIn("proves what has changed since earlier runs", said)
+            self.assertTrue(self.proves_for_a_package(room))
+            self.assertEqual(self.proves(room, *whole)[0], ["waywire_c"])
+            self.assertEqual(self.how(room), "whole rattle-kit-1")
+            self.assertFalse(self.proves_for_a_package(room))
+            # Nor is a proof that changed taken for the one that passed.
+            self.changes(room, "crates/wl_wire/proofs/Lib.antt")
+            self.assertTrue(self.proves_for_a_package(room))
+
+    def proves_for_a_package(self, room):
+        """Whether the library would be proved for a package."""
+        words = ("make", "-n", "dist", f"--old-file={room}/none", "--keep-going", "proved_places=")
+        said = self.built(room, *words)[0].stdout
+        return "toolchain.py build waywire_c whole" in said
+
+    def test_not_proved(self):
+        """It is installed with UNPROVED=1 alone, and proved by `make`."""
+        with self.room() as room:
+            self.builds_a_library(room)
+            sums = f"{room}/crates/waywire_c/out/libwaywire_c.sums"
+            with open(sums, "w", encoding="utf-8") as file:
+                file.write("unproved rattle-kit-1\n")
+            for goal in ("install", "dist", "deb"):
+                ran, proved = self.built(room, "make", goal)
+                self.assertEqual((ran.returncode, proved), (2, []))
+                self.assertIn("the library is not proved", ran.stderr)
+                self.assertIn(f"make {goal} UNPROVED=1", ran.stderr)
+            for word, status in (("UNPROVED=1", 0), ("UNPROVED=", 1)):
+                ran = self.built(room, "make", "-q", word, ARCHIVE)[0]
+                self.assertEqual(ran.returncode, status)
+            self.assertEqual(self.made(room)[0], ["waywire_c"])
+            self.assertEqual(self.how(room), "kept rattle-kit-1")
+
+    def test_taken_from_a_package(self):
+        """It needs no toolchain. After a change, the library is proved, and the file is named."""
+        with self.room() as room:
+            self.builds_a_library(room)
+            pack = ("python3", "tools/proved_archive.py", "pack", f"{room}/packed")
+            self.assertEqual(self.proves(room, *pack), ([], ""))
+            shutil.rmtree(f"{room}/crates/waywire_c/out")
+            places, bare = [f"{room}/none", f"{room}/packed"], {"PATH": "/usr/bin:/bin"}
+            proved, said = self.made(room, places, **bare)
+            self.assertEqual((proved, self.how(room)), ([], "taken rattle-kit-1"))
+            self.assertIn(f"{room}/packed has an archive that was proved from these sources", said)
+            self.assertEqual(self.made(room, places, **bare), ([], ""))
+            self.assertFalse(self.proves_for_a_package(room))
+            self.changes(room, "crates/wl_wire/src/lib.rt")
+            ran = self.built(room, "make", "-s", ARCHIVE, f"proved_places={room}/packed", **bare)[0]
+            self.assertEqual(ran.returncode, 2)
+            self.assertIn("with another crates/wl_wire/src/lib.rt\n", ran.stderr)
+            self.assertIn("rt is not on this machine", ran.stderr)
+            self.assertEqual(self.made(room, places)[0], ["waywire_c"])
+            self.assertEqual(self.how(room), "whole rattle-kit-1")
+
     def test_names_are_not_taken(self):
         with self.room() as room:
             library = self.made(room, CI="true")[0]
@@ -168,6 +250,9 @@ import glob, hashlib, os, shutil, sys, time
 words, room = sys.argv[1:], os.environ["ROOM"]
 if words == ["doc"]:
     print(f"{room}/kit/START-HERE.md")
+    sys.exit()
+if words == ["version"]:
+    print("rattle-kit-1")
     sys.exit()
 if words != ["ci"]:
     print("usage: rt", file=sys.stderr)
@@ -204,11 +289,6 @@ sys.exit(status)
 """
     GATE = ("python3", "tools/dev/timed-gate")
 
-    def changes(self, room, crate):
-        """A source of a crate changes."""
-        with open(f"{room}/crates/{crate}/src/lib.rt", "a", encoding="utf-8") as file:
-            file.write("\n")
-
     def formats(self, room):
         """What the libraries of the gate are, by their crates."""
         found = {}
@@ -226,9 +306,9 @@ sys.exit(status)
             proved, said = self.made(room)
             self.assertEqual(proved, ["waywire_c"])
             self.assertIn("(out/libraries.tar)\n", said)
-            self.changes(room, "wl_objects")
+            self.changes(room, "crates/wl_objects/src/lib.rt")
             self.builds_a_library(room)
-            self.changes(room, "waywire_c")
+            self.changes(room, "crates/waywire_c/src/lib.rt")
             self.assertEqual(self.made(room)[0], ["waywire_c"])
 
     def test_gate(self):
@@ -240,7 +320,7 @@ sys.exit(status)
             self.assertEqual(proved, ["waywire_c"])
             self.assertIn("(crates/NAME/out/rlib)\n", said)
             self.assertEqual(self.formats(room), before)
-            self.changes(room, "wl_objects")
+            self.changes(room, "crates/wl_objects/src/lib.rt")
             self.proves(room, *self.GATE)
             self.assertEqual(self.made(room)[0], ["waywire_c"])
             self.assertFalse({*before.values()} & {*self.formats(room).values()})
@@ -280,7 +360,7 @@ sys.exit(status)
             for compiler, proved in (("b", True), ("a", False)):
                 with open(f"{room}/kit/rlibs/std.rlib/format", "w", encoding="utf-8") as file:
                     file.write(f"rattle-build {compiler}\ncrate std\n")
-                self.changes(room, "waywire_c")
+                self.changes(room, "crates/waywire_c/src/lib.rt")
                 self.assertEqual("wl_wire" in self.made(room)[0], proved, compiler)
 
     def test_a_gate_that_runs_now(self):
