@@ -11,6 +11,7 @@ from checks import (LONG, TOP, Failed, Skipped, can, ended, need, need_protocols
                     start_and_wait)
 import crates
 import proved_archive
+import unproved
 
 TESTS = os.path.join(TOP, "tests", "c")
 # With this word, a package is made of the library as it is: nothing is proved again for it.
@@ -32,7 +33,7 @@ def installed(program):
             run([f"{prefix}/{name}"], env={**os.environ, "LD_LIBRARY_PATH": libraries})
         version = run(["pkg-config", "--modversion", "waywire"], env=env).strip()
         is_proved = run(["pkg-config", "--variable=proved", "waywire"], env=env).strip()
-        if is_proved != ("no" if unproved() else "yes"):
+        if is_proved != ("no" if not_proved() else "yes"):
             raise Failed(f"of the library that is made {made_how()}, pkg-config says proved={is_proved}")
         numbers = dict(zip(("MAJOR", "MINOR", "PATCH"), version.split(".")))
         with open(os.path.join(prefix, "include", "waywire-version.h"), encoding="utf-8") as file:
@@ -133,14 +134,14 @@ def made_how():
     return record and record.how
 
 
-def unproved():
+def not_proved():
     """What the inspector says after the version of a library that is not proved."""
     return " (not proved)" if made_how() == proved_archive.UNPROVED else ""
 
 
 def tells_its_version(tool):
     """The inspector has the library's version, and says whether that is proved."""
-    wanted = f"waywire-inspect {version_of_the_library()}{unproved()}\n"
+    wanted = f"waywire-inspect {version_of_the_library()}{not_proved()}\n"
     if run([tool, "--version"]) != wanted:
         raise Failed(f"{tool} does not say {wanted!r}")
 
@@ -177,14 +178,39 @@ def taken_from_a_package(_program):
             raise Failed(f"status {ran.returncode}: {said}")
 
 
+def compiled_without_a_proof(_program):
+    """From nothing, the library is compiled without a proof. It serves, says what it is, and is installed with the
+    same word alone."""
+    need("make", "rt", "pkg-config")
+    if not unproved.is_known():
+        raise Skipped(f"this takes the toolchain {unproved.KNOWN}")
+    with tempfile.TemporaryDirectory() as room:
+        copy = copy_of_what_make_reads(room)
+        run(["make", "-s", "UNPROVED=1", f"PREFIX={room}"], cwd=copy)
+        installing = ["make", "-s", "install", f"PREFIX={room}", "program=none"]
+        bare = {name: it for name, it in os.environ.items() if name != "UNPROVED"}
+        said = run(installing, 2, with_error=True, cwd=copy, env=bare)
+        if "the library is not proved" not in said or os.path.exists(f"{room}/lib"):
+            raise Failed(f"it is installed without UNPROVED=1, and says {said!r}")
+        run([*installing, "UNPROVED=1"], cwd=copy)
+        env = {**os.environ, "PKG_CONFIG_PATH": f"{room}/lib/pkgconfig", "LD_LIBRARY_PATH": f"{room}/lib"}
+        words = run(["pkg-config", "--cflags", "--libs", "waywire"], env=env).split()
+        run(["cc", "tests/c/values.c", "-Itests/c", *words, "-o", f"{room}/values"])
+        run([f"{room}/values"], env=env)
+        said = run([f"{room}/bin/waywire-inspect", "--version"])
+        said += run(["pkg-config", "--variable=proved", "waywire"], env=env)
+        if said != f"waywire-inspect {version_of_the_library()} (not proved)\nno\n":
+            raise Failed(f"it says {said!r}")
+
+
 def copy_of_what_make_reads(room):
-    """A copy of the sources of the library for C and of its crates, without what was built."""
+    """A copy of what the library for C is made of, and of what is installed with it, without what was built."""
     copy = f"{room}/copy"
     of_crates = [f"crates/{it}" for it in crates.lowest_first(crates.read(), proved_archive.LIBRARY)]
     hide = shutil.ignore_patterns("out", "must-fail")
-    for it in ("c", "include", "tools", "rust/waywire", *of_crates):
+    for it in ("c", "include", "tools", "docs", "examples", "rust/waywire", *of_crates):
         shutil.copytree(f"{TOP}/{it}", f"{copy}/{it}", ignore=hide)
-    for it in ("Makefile", "crates.txt", "crates/program_arguments/src/job.rt"):
+    for it in ("Makefile", "LICENSE", "HANDLES", "crates.txt", "crates/program_arguments/src/job.rt"):
         os.makedirs(os.path.dirname(f"{copy}/{it}"), exist_ok=True)
         shutil.copy(f"{TOP}/{it}", f"{copy}/{it}")
     return copy
@@ -271,7 +297,7 @@ def debian_package_at_a_clean_debian(program):
         shutil.copy(path, os.path.join(root, "waywire.deb"))
         run(["chroot", root, "dpkg", "-i", "/waywire.deb"])
         said = run(["chroot", root, "sh", "-c", AT_DEBIAN])
-        if f"waywire-inspect {version_of_the_library()}{unproved()}\n" not in said:
+        if f"waywire-inspect {version_of_the_library()}{not_proved()}\n" not in said:
             raise Failed(f"it says {said!r}")
         run(["chroot", root, "dpkg", "--purge", "waywire"])
         if left := glob.glob(f"{root}/usr/**/*waywire*", recursive=True):

@@ -1,13 +1,18 @@
-"""tools/proved_archive.py in generated clones."""
+"""tools/proved_archive.py in generated clones, and what tools/unproved_archive.py makes of sources."""
 
 import contextlib
 import io
 import os
 import shutil
+import subprocess
+import sys
 
+from checks import LONG, TOOLS
 import proved_archive
 from proved_archive import ARCHIVE, KEPT, MEMORY, SUMS, TAKEN, UNPROVED, WHOLE, Record
 from tools.toolchains import MadeUp, read, write
+import unproved
+import unproved_archive
 
 
 class Archives(MadeUp):
@@ -115,3 +120,90 @@ class Archives(MadeUp):
         status, said = self.said(proved_archive.take, [f"{self.room}/none", f"{self.room}/old", self.packed])
         self.assertEqual((status, len(said.splitlines())), (0, 3))
         self.assertEqual(self.said(proved_archive.take, [f"{self.room}/none"]), (1, ""))
+
+
+class WithoutAProof(MadeUp):
+    """A program that reaches each export, and the exports in what is compiled from it."""
+
+    ONE = """//! Calls.
+use crate::it::Handle;
+
+#[unsafe(no_mangle)]
+pub extern "C" fn waywire_c_put(
+    handle: &mut Handle<u8, u16>,
+    bytes: &[u8],
+    many: [u32; 2],
+) -> u32
+    ensures { result ≡ 7 }
+{
+    7
+}
+
+pub fn put() {}
+"""
+    TWO = """#[unsafe(no_mangle)]
+pub extern "C" fn waywire_c_free(handle: Handle) {
+    drop(handle);
+}
+"""
+    REACHING = """
+pub fn reach_waywire_c_put() {
+    let a0: &mut Handle<u8, u16> = unsafe { any_value() };
+    let a1: &[u8] = unsafe { any_value() };
+    let a2: [u32; 2] = unsafe { any_value() };
+    let _ = waywire_c_put(a0, a1, a2);
+}
+"""
+
+    def test_exports(self):
+        kinds = ["&mut Handle<u8, u16>", "&[u8]", "[u32; 2]"]
+        self.assertEqual(unproved_archive.exports_of(self.ONE), [("waywire_c_put", kinds)])
+        self.assertEqual(unproved_archive.exports_of(self.TWO), [("waywire_c_free", ["Handle"])])
+        self.assertEqual(unproved_archive.reaching("waywire_c_put", kinds), self.REACHING)
+
+    def test_an_export_of_another_form(self):
+        for other in (self.TWO.replace("pub", "pub(crate)"), self.ONE.replace("&[u8]", "fn(u8)")):
+            with self.assertRaises(unproved.NotCompiled):
+                unproved_archive.exports_of(other)
+
+    def test_program(self):
+        """It has a `main`, in which each export is reached once."""
+        folder = f"{self.room}/src"
+        for name, text in (("lib", "mod one;\nmod two;\nmod it;\n"), ("one", self.ONE), ("two", self.TWO), ("it", "")):
+            write(f"{folder}/{name}.rt", text)
+        self.assertEqual(unproved_archive.make_a_program(folder), ["waywire_c_put", "waywire_c_free"])
+        self.assertEqual(sorted(os.listdir(folder)), ["it.rt", "main.rt", "one.rt", "two.rt"])
+        calls = "    one::reach_waywire_c_put();\n    two::reach_waywire_c_free();\n"
+        self.assertEqual(read(f"{folder}/main.rt"), f"mod one;\nmod two;\nmod it;\n\nfn main() {{\n{calls}}}\n")
+        self.assertEqual(read(f"{folder}/one.rt"), self.ONE + unproved_archive.ANY_VALUE + self.REACHING)
+        self.assertEqual(read(f"{folder}/it.rt"), "")
+
+    MODULE = [
+        'define internal i32 @"waywire_c::one::waywire_c_put"(ptr %0) #0 {\n',
+        'define internal void @"waywire_c::one::reach_waywire_c_put"() #0 {\n',
+        'define internal void @"low::one::waywire_c_put"() #0 {\n',
+        "define i32 @main() #0 {\n",
+    ]
+
+    def test_names(self):
+        """An export has its own name, and `main` is hidden."""
+        made = [*unproved_archive.exporting(self.MODULE, ["waywire_c_put"])]
+        alias = '@waywire_c_put = alias i8, ptr @"waywire_c::one::waywire_c_put"\n'
+        self.assertEqual(made, [alias, *self.MODULE[:3], "define internal i32 @not_main() #0 {\n"])
+        with self.assertRaisesRegex(unproved.NotCompiled, "the module lacks waywire_c_free\n"):
+            [*unproved_archive.exporting(self.MODULE, ["waywire_c_put", "waywire_c_free"])]
+
+    def test_where_it_cannot_be_compiled(self):
+        """Without a toolchain, or with one that is not known, it says so."""
+        other = "rattle-kit-0 logic 1"
+        for rt, said in (
+            (None, "make: the toolchain's command rt is not on this machine\n"),
+            (f"echo {other}", f"make: UNPROVED=1 takes the toolchain {unproved.KNOWN}, and here is {other}: "
+                              "without it, make proves the library\n"),
+        ):
+            if rt:
+                write(f"{self.room}/bin/rt", f"#!/bin/sh\n{rt}\n", 0o755)
+            env = {"PATH": f"{self.room}/bin:/usr/bin:/bin"}
+            words = [sys.executable, f"{TOOLS}/unproved_archive.py"]
+            ran = subprocess.run(words, env=env, capture_output=True, text=True, timeout=LONG, check=False)
+            self.assertEqual((ran.returncode, ran.stdout, ran.stderr), (70, "", said))
