@@ -22,7 +22,7 @@ from checks import LONG, TOP, Failed, Skipped
 def copy_sources(room):
     """Copies into a folder what the programs are made of, and nothing that was built."""
     os.mkdir(f"{room}/tools")
-    tools = (f"tools/{it}.py" for it in ("crates", "toolchain", "proved_archive"))
+    tools = (f"tools/{it}.py" for it in ("crates", "toolchain", "proved_archive", "unproved"))
     for name in ("crates", "crates.txt", "HANDLES", "waywire", *tools):
         whole = shutil.copytree if os.path.isdir(f"{TOP}/{name}") else shutil.copy
         hide = {"ignore": shutil.ignore_patterns("out")} if name == "crates" else {}

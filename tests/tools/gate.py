@@ -230,7 +230,8 @@ class Quick(unittest.TestCase):
         self.assertEqual(left, ["the proof of high, which stands on what is not proved: ./test quick high"])
 
     def test_what_is_run_for_a_crate(self):
-        """The mutants of the named crates, the tests in Rattle that use one, and the stored runs if the program does."""
+        """The mutants of the named crates, the tests in Rattle that use one, and the stored runs if the program
+        does."""
         commands = []
         with (
             contextlib.redirect_stdout(io.StringIO()),
@@ -245,6 +246,22 @@ class Quick(unittest.TestCase):
         self.assertEqual(commands[1:3], ["tests/check-rattle test_programs jobs", "runs"])
         self.assertEqual(commands[3], "tests/check-rattle test_player test_scenes test_sweeps")
         self.assertEqual((commands[4], commands[-1]), ("tools/dev/mutants wl_wire", "runs"))
+
+    def test_words(self):
+        """`./test` runs all, and `./test quick` a change to the named crates."""
+        for words, wanted in ((["--whole"], "whole"), (["wl_wire", "wl"], "wl_wire wl")):
+            called = []
+            with (
+                contextlib.redirect_stdout(io.StringIO()) as output,
+                unittest.mock.patch.object(sys, "argv", ["quick", *words]),
+                unittest.mock.patch.object(self.tool, "whole", lambda count: called.append("whole")),
+                unittest.mock.patch.object(self.tool, "judged", lambda names, count: called.append(" ".join(names))),
+            ):
+                self.assertEqual(self.tool.main(), 1, "nothing has passed")
+            self.assertEqual(called, [wanted])
+            self.assertEqual(output.getvalue().splitlines()[-1], "0 passed, 1 failed")
+        ran = subprocess.run([f"{TOP}/test", "quick"], capture_output=True, text=True, check=False)
+        self.assertEqual((ran.returncode, ran.stdout, ran.stderr), (2, "", "quick: a crate must be named\n"))
 
     def test_names(self):
         command = [f"{TOP}/test", "quick", "wl_wire", "no_crate"]

@@ -363,14 +363,5 @@ sys.exit(status)
                 self.changes(room, "crates/waywire_c/src/lib.rt")
                 self.assertEqual("wl_wire" in self.made(room)[0], proved, compiler)
 
-    def test_a_gate_that_runs_now(self):
-        """Its libraries are left alone by another one."""
-        with self.room() as room:
-            self.proves(room, *self.GATE)
-            before = self.formats(room)
-            words = ["flock", f"{room}/.git/rt-ci.lock", *self.GATE]
-            self.proves(room, *words)
-            self.assertEqual(self.formats(room), before)
-
     def test_a_proof_that_fails(self):
         self.stops_where_a_proof_fails()
