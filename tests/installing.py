@@ -14,7 +14,7 @@ import proved_archive
 import unproved
 
 TESTS = os.path.join(TOP, "tests", "c")
-# With this word, a package is made of the library as it is: nothing is proved again for it.
+# The word for make that installs or packs the library as it is, without proving it again.
 AS_IT_IS = "UNPROVED=1"
 
 

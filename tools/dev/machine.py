@@ -3,8 +3,8 @@
 import os
 import re
 
-# Of each kind of control groups, where the limit of memory stands, and what is used apart from
-# caches.
+# For each version of control groups: the file with the memory limit, the file with the memory in
+# use, and the line there that leaves out caches.
 GROUPS = (
     ("/sys/fs/cgroup/memory.max", "/sys/fs/cgroup/memory.stat", rb"^anon (\d+)"),
     ("/sys/fs/cgroup/memory/memory.limit_in_bytes", "/sys/fs/cgroup/memory/memory.stat",
