@@ -160,9 +160,9 @@ out/c/wayland/%.o: c/libwayland/%.c $(wildcard c/libwayland/*.h) include/waywire
 	@mkdir -p out/c/wayland
 	$(CC) $(CFLAGS) $(wayland_flags) -c $< -o $@
 
-out/c/wayland/interfaces.c: tools/core.xml tools/data-device.xml tools/interfaces-from-xml tools/protocol.py
+out/c/wayland/interfaces.c: protocols/core/core.xml protocols/core/data-device.xml tools/interfaces-from-xml tools/protocol.py
 	@mkdir -p out/c/wayland
-	tools/interfaces-from-xml tools/core.xml tools/data-device.xml > $@
+	tools/interfaces-from-xml protocols/core/core.xml protocols/core/data-device.xml > $@
 
 out/c/wayland/interfaces.o: out/c/wayland/interfaces.c c/libwayland/wayland-abi.h
 	$(CC) $(CFLAGS) $(wayland_flags) -c $< -o $@
@@ -182,7 +182,7 @@ pages = c/inspect/waywire-inspect.1 c/libwayland/waywire-run.1 tools/waywire-pic
 
 install: all
 	install -d $(DESTDIR)$(INCLUDEDIR) $(DESTDIR)$(LIBDIR)/pkgconfig $(DESTDIR)$(LIBDIR)/cmake/waywire \
-		$(DESTDIR)$(BINDIR) $(DESTDIR)$(DATADIR)/waywire/tables $(DESTDIR)$(DATADIR)/waywire/tools \
+		$(DESTDIR)$(BINDIR) $(DESTDIR)$(DATADIR)/waywire/protocols/core $(DESTDIR)$(DATADIR)/waywire/tools \
 		$(DESTDIR)$(DATADIR)/doc/waywire $(DESTDIR)$(DATADIR)/man/man1
 	install -m 644 $(headers) $(DESTDIR)$(INCLUDEDIR)
 	install -m 644 $(archive) $(DESTDIR)$(LIBDIR)
@@ -201,7 +201,8 @@ install: all
 		$(call fill,$(LIBDIR)/cmake/waywire) c/$$file.in > $(DESTDIR)$(LIBDIR)/cmake/waywire/$$file || exit; \
 	done
 	chmod 644 $(DESTDIR)$(LIBDIR)/pkgconfig/waywire.pc $(DESTDIR)$(LIBDIR)/cmake/waywire/*.cmake
-	install -m 644 examples/tables/*.tables examples/tables/*.names $(DESTDIR)$(DATADIR)/waywire/tables
+	install -m 644 protocols/*.tables protocols/*.names $(DESTDIR)$(DATADIR)/waywire/protocols
+	install -m 644 protocols/core/* $(DESTDIR)$(DATADIR)/waywire/protocols/core
 	install -m 644 LICENSE docs/FORMATS.md docs/GUIDE.md $(DESTDIR)$(DATADIR)/doc/waywire
 	install -d $(DESTDIR)$(DATADIR)/doc/waywire/examples
 	install -m 644 examples/c/* examples/*.rec $(DESTDIR)$(DATADIR)/doc/waywire/examples
@@ -209,8 +210,7 @@ install: all
 		install -D -m 644 rust/waywire/$$file $(DESTDIR)$(DATADIR)/waywire/rust/$$file || exit; \
 	done
 	install -m 644 tools/protocol.py tools/protocol_names.py tools/rust_stubs.py tools/table_text.py \
-		tools/valid_tables.py tools/core.tables tools/core.names tools/core.xml \
-		$(DESTDIR)$(DATADIR)/waywire/tools
+		tools/valid_tables.py $(DESTDIR)$(DATADIR)/waywire/tools
 	for tool in tables-from-xml stubs-from-xml; do \
 		install -m 755 tools/$$tool $(DESTDIR)$(DATADIR)/waywire/tools && \
 		ln -sf $(call from,$(BINDIR),$(DATADIR)/waywire/tools)/$$tool $(DESTDIR)$(BINDIR)/waywire-$$tool && \

@@ -8,7 +8,7 @@ surfaces        a client makes a surface, attaches nothing, commits it and destr
 callbacks       one request, its event and the delete_id for it, again and again
 objects         callbacks that are never answered, so that all of them stay
 server_objects  the server makes objects, and the client destroys none of them, so that all of them stay. The
-                tables are examples/tables/data-device.tables
+                tables are protocols/data-device.tables
 server_ids      the server makes an object and names it, and makes it again when the client has destroyed it;
                 with the same tables
 bytes           the same as callbacks, with each byte in a piece of its own

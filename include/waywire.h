@@ -381,7 +381,7 @@ waywire_status waywire_tables_core(waywire_tables **tables);
 void waywire_tables_free(waywire_tables *tables);
 
 /* Makes new tables: these, and the interfaces that a text declares. FORMATS.md, installed in share/doc/waywire,
- * has its grammar; waywire-tables-from-xml writes such texts, and some are in share/waywire/tables. The caller
+ * has its grammar; waywire-tables-from-xml writes such texts, and some are in share/waywire/protocols. The caller
  * frees the new ones; the first stay as they are, and may be freed. WAYWIRE_BAD_LINE if a line has none of the
  * forms; else WAYWIRE_BAD_TABLE if a line breaks a rule. Both write the number of the first such line to `line`,
  * counted from 1. WAYWIRE_BAD_TABLE also writes to `rule` the lowest rule that the line breaks, 1 to 9 or 11.

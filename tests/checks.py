@@ -276,9 +276,9 @@ def out_of_layout(crate, is_mended=False):
 
 
 def joined_tables():
-    """The texts of examples/tables/, joined: one valid text."""
+    """The texts of protocols/, joined: one valid text."""
     texts = []
-    for path in sorted(glob.glob(f"{TOP}/examples/tables/*.tables")):
+    for path in sorted(glob.glob(f"{TOP}/protocols/*.tables")):
         with open(path, "rb") as file:
             texts.append(file.read())
     return b"".join(texts)

@@ -47,7 +47,7 @@ def installed(program):
         has_what_the_header_names(prefix)
         has_its_soname(libraries, version)
         for tool in ("tables-from-xml", "stubs-from-xml"):
-            run([f"{prefix}/bin/waywire-{tool}", f"{prefix}/share/waywire/tools/core.xml"])
+            run([f"{prefix}/bin/waywire-{tool}", f"{prefix}/share/waywire/protocols/core/core.xml"])
         if program and os.path.exists(program):
             if run([program, "--version"]) != f"waywire {version}\n":
                 raise Failed(f"the program has another version than {version}")
@@ -221,7 +221,7 @@ AT_DEBIAN = """set -e
 cc /tests/c/values.c -I/tests/c $(pkg-config --cflags --libs waywire) -o /tmp/values
 /tmp/values
 waywire-inspect --version
-waywire-tables-from-xml /usr/share/waywire/tools/core.xml >/dev/null
+waywire-tables-from-xml /usr/share/waywire/protocols/core/core.xml >/dev/null
 waywire-run true
 """
 
@@ -271,7 +271,7 @@ def serves_unpacked(root):
     carries_the_proof(f"{usr}/share")
     knows_installed_tables(f"{usr}/bin/waywire-inspect", root)
     for tool in ("tables-from-xml", "stubs-from-xml"):
-        run([f"{usr}/bin/waywire-{tool}", f"{usr}/share/waywire/tools/core.xml"])
+        run([f"{usr}/bin/waywire-{tool}", f"{usr}/share/waywire/protocols/core/core.xml"])
     run([f"{usr}/bin/waywire-run", "true"])
     for name in ("share/doc/waywire/copyright", "share/doc/waywire/LICENSE", "share/doc/waywire/GUIDE.md",
                  "share/waywire/rust/Cargo.toml", "share/doc/waywire/examples/client.c",
@@ -347,7 +347,7 @@ def package(program):
         run([f"{folder}/values"], env=env)
         run([f"{top}/bin/waywire", "demo"], env=env)
         for tool in ("tables-from-xml", "stubs-from-xml"):
-            run([f"{top}/bin/waywire-{tool}", f"{top}/share/waywire/tools/core.xml"], env=env)
+            run([f"{top}/bin/waywire-{tool}", f"{top}/share/waywire/protocols/core/core.xml"], env=env)
         run([f"{top}/bin/waywire-run", "true"], env=env)
         carries_the_proof(f"{top}/share")
         need_protocols()

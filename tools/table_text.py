@@ -1,6 +1,6 @@
 """Reads table texts in Python, as docs/FORMATS.md describes them. It is for the tools and the tests: slow, and
 without bounds on memory. It was written from that page alone, so that its results can be compared with those of
-the program. `core.tables` beside it has the core interfaces."""
+the program. `../protocols/core/core.tables` has the core interfaces."""
 
 import os
 import re
@@ -260,8 +260,8 @@ def breaks(core, sections):
 
 
 def core_tables():
-    folder = os.path.dirname(os.path.realpath(__file__))
-    with open(f"{folder}/core.tables", "rb") as file:
+    folder = os.path.dirname(os.path.dirname(os.path.realpath(__file__)))
+    with open(f"{folder}/protocols/core/core.tables", "rb") as file:
         return parse_tables(file.read())
 
 

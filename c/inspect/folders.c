@@ -1,4 +1,4 @@
-/* Finds the tool's own folders: the table texts and the tools in Python. */
+/* Finds the tool's own folders: the protocols and the tools in Python. */
 #define _GNU_SOURCE
 #include "inspect.h"
 
@@ -10,7 +10,7 @@
 /* Beside an installed tool is a link to the tool for XML, which `make install` makes. */
 #define LINK "waywire-tables-from-xml"
 /* A file that the folder of the tools has. */
-#define CORE "core.xml"
+#define XML_TOOL "tables-from-xml"
 
 void find_own(char *path, size_t size)
 {
@@ -41,13 +41,13 @@ static bool has_tools(const char *folder)
 {
 	char path[PATH_MAX];
 	snprintf(path, sizeof path, "%s", folder);
-	put_behind(path, sizeof path, CORE);
+	put_behind(path, sizeof path, XML_TOOL);
 	return !access(path, R_OK);
 }
 
 /* The folder of the tools: where the link beside the tool leads, or that of the repository that the tool was built
- * in, or that of the same tree. Whether it is the repository's. */
-static bool find_tools(char *folder, size_t size)
+ * in, or that of the same tree. The folder of the protocols lies beside it. */
+static void find_tools(char *folder, size_t size)
 {
 	char link[PATH_MAX], target[PATH_MAX];
 	find_beside(link, sizeof link, LINK);
@@ -55,14 +55,12 @@ static bool find_tools(char *folder, size_t size)
 		*strrchr(target, '/') = 0;
 		if (has_tools(target)) {
 			snprintf(folder, size, "%s", target);
-			return false;
+			return;
 		}
 	}
 	find_beside(folder, size, "../../tools");
-	if (has_tools(folder))
-		return true;
-	find_beside(folder, size, "../share/waywire/tools");
-	return false;
+	if (!has_tools(folder))
+		find_beside(folder, size, "../share/waywire/tools");
 }
 
 void find_tool(char *path, size_t size, const char *name)
@@ -73,6 +71,10 @@ void find_tool(char *path, size_t size, const char *name)
 
 void find_tables(char *folder, size_t size)
 {
-	bool is_repository = find_tools(folder, size);
-	put_behind(folder, size, is_repository ? "../examples/tables" : "../tables");
+	find_tool(folder, size, "../protocols");
+}
+
+void find_core_names(char *path, size_t size)
+{
+	find_tool(path, size, "../protocols/core/core.names");
 }

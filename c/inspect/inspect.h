@@ -83,6 +83,9 @@ void find_tool(char *path, size_t size, const char *name);
 /* The folder with the installed table texts. */
 void find_tables(char *folder, size_t size);
 
+/* The path of the names of the core's arguments and values. */
+void find_core_names(char *path, size_t size);
+
 /* ---- the tables (tables.c, texts.c, protocols.c) */
 
 /* The tables of the core and of all texts that were read. */

@@ -95,7 +95,7 @@ static void read_installed(void)
 	char path[PATH_MAX];
 	size_t count;
 	is_installed_read = true;
-	find_tool(path, sizeof path, "core.names");
+	find_core_names(path, sizeof path);
 	add_file(&installed, path);
 	char **paths = installed_files(".names", &count);
 	for (size_t each = 0; each < count; each++) {

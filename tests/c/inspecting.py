@@ -644,13 +644,13 @@ class Judging(Inspected):
         bind = message(2, 0, 1, 12, *struct.unpack("<3I", b"xdg_wm_base\0"), 1, 3)
         for words, verdict, status in (
             ([], "lawful: 2 requests, 1 events, 0 and 0 bytes left", 0),
-            (["--no-tables", "--tables", f"{ROOT}/examples/tables/viewporter.tables"],
+            (["--no-tables", "--tables", f"{ROOT}/protocols/viewporter.tables"],
              "not judged from request 2 on: xdg_wm_base is not in the tables; lawful until then; "
              "2 requests, 1 events", 0),
-            (["--no-tables", "--tables", f"{ROOT}/examples/tables/layer-shell.tables", "--tables",
-              f"{ROOT}/examples/tables/xdg-shell.tables"],
+            (["--no-tables", "--tables", f"{ROOT}/protocols/layer-shell.tables", "--tables",
+              f"{ROOT}/protocols/xdg-shell.tables"],
              "lawful: 2 requests, 1 events, 0 and 0 bytes left", 0),
-            (["--tables", f"{ROOT}/examples/tables/xdg-shell.tables"],
+            (["--tables", f"{ROOT}/protocols/xdg-shell.tables"],
              "lawful: 2 requests, 1 events, 0 and 0 bytes left", 0),
         ):
             with self.subTest(words):

@@ -78,7 +78,7 @@ class Script(unittest.TestCase):
     """The script `waywire` if nothing is built: the words are run unproved."""
 
     def ran(self, room, file, **kept):
-        tables = f"--tables={TOP}/examples/tables/viewporter.tables"
+        tables = f"--tables={TOP}/protocols/viewporter.tables"
         words = [f"{room}/waywire", "check", tables, file]
         return subprocess.run(words, capture_output=True, text=True, cwd=room, check=False, **kept)
 

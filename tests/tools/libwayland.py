@@ -91,9 +91,9 @@ class Interfaces(unittest.TestCase):
 
     def test_data_device(self):
         """Its messages are those of the table text, and of libwayland's own file."""
-        path = f"{TOP}/tools/data-device.xml"
+        path = f"{TOP}/protocols/core/data-device.xml"
         made = run([f"{TOP}/tools/tables-from-xml", path])
-        stored = read("examples/tables/data-device.tables")
+        stored = read("protocols/data-device.tables")
         self.assertEqual(*([line for line in it.splitlines() if line[0] != "#"] for it in (made, stored)))
         system = "/usr/share/wayland/wayland.xml"
         if not os.path.exists(system):

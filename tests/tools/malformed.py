@@ -165,6 +165,6 @@ class Malformed(unittest.TestCase):
             self.assertEqual(self.refusal(text), said)
         self.assertIn("not well-formed", self.refusal("# Waywire\n"))
         for tool in ("tables-from-xml", "stubs-from-xml"):
-            words = [f"{TOP}/tools/{tool}", f"{TOP}/examples/tables/viewporter.tables"]
+            words = [f"{TOP}/tools/{tool}", f"{TOP}/protocols/viewporter.tables"]
             wanted = f"{tool}: {words[1]} is a table text, not the XML of a protocol\n"
             self.assertEqual(run(words, status=1, with_error=True), wanted)

@@ -327,7 +327,7 @@ class Buffers(unittest.TestCase):
     """A buffer of linux-dmabuf comes by a request or by an event."""
 
     def test_both_ways(self):
-        text = read("examples/tables/linux-dmabuf.tables")
+        text = read("protocols/linux-dmabuf.tables")
         tables = table_text.read_more(table_text.core_tables(), text.encode())
         lines = message(">", 1, 1, 2) + message("<", 2, 0, 1, b"zwp_linux_dmabuf_v1", 3)
         lines += message(">", 2, 0, 1, b"zwp_linux_dmabuf_v1", 3, 3)

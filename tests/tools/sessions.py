@@ -19,7 +19,7 @@ class Sessions(unittest.TestCase):
     def judged(self, name, tables=()):
         core, texts = table_text.core_tables(), b""
         for it in tables:
-            with open(f"{TOP}/examples/tables/{it}.tables", "rb") as file:
+            with open(f"{TOP}/protocols/{it}.tables", "rb") as file:
                 texts += file.read()
         with open(f"{TOP}/examples/{name}.rec", "rb") as file:
             return reference.judged(table_text.read_more(core, texts), file.read())

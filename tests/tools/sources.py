@@ -79,20 +79,21 @@ class Made(unittest.TestCase):
     def test_of_a_bad_core(self):
         """What the tool says that refuses it is shown, and no file is written."""
         with tempfile.TemporaryDirectory() as room:
-            shutil.copytree(TOOLS, f"{room}/tools", ignore=shutil.ignore_patterns("__pycache__"))
-            with open(f"{room}/tools/core.xml", "w", encoding="utf-8") as file:
+            for folder in ("tools", "protocols/core"):
+                shutil.copytree(f"{TOP}/{folder}", f"{room}/{folder}", ignore=shutil.ignore_patterns("__pycache__"))
+            with open(f"{room}/protocols/core/core.xml", "w", encoding="utf-8") as file:
                 file.write("<protocol name='core'>")
             ran = subprocess.run([f"{room}/tools/dev/core-files"], capture_output=True, text=True)
-            with open(f"{room}/tools/core.tables", encoding="utf-8") as file:
-                self.assertEqual(file.read(), read("tools/core.tables"))
+            with open(f"{room}/protocols/core/core.tables", encoding="utf-8") as file:
+                self.assertEqual(file.read(), read("protocols/core/core.tables"))
         self.assertEqual((ran.stdout, ran.returncode), ("", 1))
         self.assertRegex(ran.stderr, r"\Atables-from-xml: .*core\.xml.*\n\Z")
 
     def test_first_lines(self):
         made = dict.fromkeys((*self.CORE, *core_lists.WHOLE), "core-files|stubs-from-xml")
         made.update(self.OTHERS)
-        texts = glob.glob("examples/tables/*.tables", root_dir=TOP)
-        by_hand = {f"examples/tables/{it}.tables" for it in protocol_files.BY_HAND}
+        texts = glob.glob("protocols/*.tables", root_dir=TOP)
+        by_hand = {f"protocols/{it}.tables" for it in protocol_files.BY_HAND}
         made.update(dict.fromkeys({*texts} - by_hand, "tools/tables-from-xml"))
         for name in by_hand:
             self.assertTrue(read(name).startswith("# Written by hand, "), name)
@@ -104,9 +105,9 @@ class CoreLists(unittest.TestCase):
     """The lists of interfaces that tools/dev/core-files makes in the crates wl_rules and wl_sigs."""
 
     def changed(self, old, new):
-        """The lists that differ from those of the repository if a line of tools/core.xml is
+        """The lists that differ from those of the repository if a line of protocols/core/core.xml is
         another, with the lines that each of them has more."""
-        xml = read("tools/core.xml")
+        xml = read("protocols/core/core.xml")
         self.assertEqual(xml.count(old), 1, old)
         with tempfile.TemporaryDirectory() as room:
             with open(f"{room}/core.xml", "w", encoding="utf-8") as file:

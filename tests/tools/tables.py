@@ -400,7 +400,7 @@ class TablesFromXml(unittest.TestCase):
         """A table text has interfaces to name, too."""
         naming = """<interface name="b" version="1"><request name="r">
             <arg name="x" type="object" interface="xdg_popup"/></request></interface>"""
-        text = f"{TOP}/examples/tables/xdg-shell.tables"
+        text = f"{TOP}/protocols/xdg-shell.tables"
         printed, said = self.made(naming, words=("{0}", "--with", text))
         self.assertEqual(printed[1:], ["interface b 1", "request r o(xdg_popup)"])
         self.assertEqual(said, [])

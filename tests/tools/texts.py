@@ -1,4 +1,4 @@
-"""The table texts in examples/tables, compared with their page and with the files that they are made from."""
+"""The table texts in protocols/, compared with their page and with the files that they are made from."""
 
 import contextlib
 import glob
@@ -15,13 +15,13 @@ import table_text
 
 
 class Texts(unittest.TestCase):
-    """The texts in examples/tables."""
+    """The texts in protocols/."""
 
     missing = "the package is not installed (tools/dev/install-packages)"
 
     def texts(self):
         """Each text by its name."""
-        paths = sorted(glob.glob("examples/tables/*.tables", root_dir=TOP))
+        paths = sorted(glob.glob("protocols/*.tables", root_dir=TOP))
         return {os.path.basename(it).removesuffix(".tables"): read(it) for it in paths}
 
     def test_valid(self):
@@ -38,7 +38,7 @@ class Texts(unittest.TestCase):
 
     def test_page(self):
         """The page has a row for each text, with the versions that the text has, and those to join it with."""
-        rows = dict(re.findall(r"(?m)^\| `([a-z0-9-]+)\.tables` \| (.*) \|$", read("examples/tables/README.md")))
+        rows = dict(re.findall(r"(?m)^\| `([a-z0-9-]+)\.tables` \| (.*) \|$", read("protocols/README.md")))
         texts = self.texts()
         self.assertEqual(sorted(rows), sorted(texts))
         self.assertEqual(sorted(texts), sorted([*protocol_files.PROTOCOLS, *protocol_files.BY_HAND]))
@@ -86,8 +86,8 @@ class Texts(unittest.TestCase):
                 made = tool.text_of(name, files)
             self.assertEqual(made, stored, f"run tools/dev/make-tables {name}")
             # Names are no part of a text: one can stand without.
-            if os.path.exists(f"{TOP}/examples/tables/{name}.names"):
-                self.assertEqual(tool.names_of(name, files), read(f"examples/tables/{name}.names"),
+            if os.path.exists(f"{TOP}/protocols/{name}.names"):
+                self.assertEqual(tool.names_of(name, files), read(f"protocols/{name}.names"),
                                  f"run tools/dev/make-tables {name}")
         if others:
             self.skipTest(f"{', '.join(others)}: {self.missing} in that version")
@@ -96,7 +96,7 @@ class Texts(unittest.TestCase):
         """Each file of a package has a text, or the page says why it has none."""
         if not protocol_files.found():
             self.skipTest(self.missing)
-        page = read("examples/tables/README.md")
+        page = read("protocols/README.md")
         for package, path in protocol_files.without_text():
             self.assertIn(path, protocol_files.WITHOUT_TEXT.get(package, []))
             self.assertIn(f"`{os.path.basename(path)}`", page)

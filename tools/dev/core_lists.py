@@ -1,5 +1,5 @@
 """The lists of the core interfaces in the crates wl_rules and wl_sigs, which tools/dev/core-files makes from
-tools/core.xml: the interfaces as definitions and as code, and the opcodes with the names of their messages."""
+protocols/core/core.xml: the interfaces as definitions and as code, and the opcodes with the names of their messages."""
 
 import itertools
 

@@ -1,4 +1,4 @@
-"""The protocol files from which the texts in examples/tables are made, if they are on this machine."""
+"""The protocol files from which the texts in protocols/ are made, if they are on this machine."""
 
 import glob
 import os
@@ -112,7 +112,7 @@ BY_HAND = {"cursor-shape": ("tablet",), "gtk-shell": (), "virtual-keyboard": ()}
 # The texts whose interfaces have a newer version in today's wayland-protocols than in the file. The newer
 # versions add values of enums and rules, and no message.
 RAISED = {"linux-dmabuf": 5, "xdg-shell": 7}
-# The files of which no text is made: examples/tables/README.md says why.
+# The files of which no text is made: protocols/README.md says why.
 WITHOUT_TEXT = {
     "wayland-protocols": ["unstable/xdg-shell/xdg-shell-unstable-v5.xml"],
     "plasma-wayland-protocols": ["keystate.xml", "screencast.xml"],

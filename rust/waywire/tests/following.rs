@@ -13,7 +13,7 @@ const FIRST_SERVER_ID: u32 = 0xff00_0000;
 
 fn tables_of(names: &[&str]) -> Tables {
     names.iter().fold(Tables::core().unwrap(), |tables, name| {
-        let path = repository().join(format!("examples/tables/{name}.tables"));
+        let path = repository().join(format!("protocols/{name}.tables"));
         tables.read(&fs::read(path).unwrap()).unwrap()
     })
 }

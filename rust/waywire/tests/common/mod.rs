@@ -43,9 +43,9 @@ pub struct Core {
     pub kinds: Vec<String>,
 }
 
-/// The messages of tools/core.tables.
+/// The messages of protocols/core/core.tables.
 pub fn core_messages() -> Vec<Core> {
-    let text = fs::read_to_string(repository().join("tools/core.tables")).unwrap();
+    let text = fs::read_to_string(repository().join("protocols/core/core.tables")).unwrap();
     let mut found: Vec<Core> = Vec::new();
     let mut interface = "";
     let mut counts = [0, 0];
