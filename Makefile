@@ -93,18 +93,17 @@ include/waywire-version.h: $(numbered) Makefile
 		'#define WAYWIRE_VERSION_PATCH $(word 3,$(numbers))' > $@
 
 # The calls on top of the exports.
-calls = out/c/waywire-calls.o out/c/users-calls.o out/c/tables-calls.o out/c/inspector-calls.o \
-	out/c/line-calls.o out/c/version-calls.o
+calls = $(patsubst c/lib/%.c,out/c/lib/%.o,$(wildcard c/lib/*.c))
 
-out/c/version-calls.o: c/version.c include/waywire.h include/waywire-version.h $(exports)
-	@mkdir -p out/c
+out/c/lib/version.o: c/lib/version.c include/waywire.h include/waywire-version.h $(exports)
+	@mkdir -p out/c/lib
 	$(CC) $(CFLAGS) -std=c99 -Wall -Wextra -Wpedantic -fPIC -Iinclude -DHOW='"$(unproved)"' -c $< -o $@
 
-out/c/%-calls.o: c/%.c c/calls.h c/users.h include/waywire.h include/waywire-version.h
-	@mkdir -p out/c
+out/c/lib/%.o: c/lib/%.c $(wildcard c/lib/*.h) include/waywire.h include/waywire-version.h
+	@mkdir -p out/c/lib
 	$(CC) $(CFLAGS) -std=c99 -Wall -Wextra -Wpedantic -fPIC -Iinclude -c $< -o $@
 
-# The toolchain's memory functions, which call those of c/tables.c instead of `malloc`, `realloc` and `free`.
+# The toolchain's memory functions, which call those of c/lib/tables.c instead of `malloc`, `realloc` and `free`.
 out/c/memory.a: $(exports) Makefile
 	@mkdir -p out/c
 	$(OBJCOPY) --redefine-sym malloc=memory_malloc --redefine-sym realloc=memory_realloc \
@@ -196,9 +195,9 @@ install: all
 	done
 	ln -sf $(notdir $(shared)) $(DESTDIR)$(LIBDIR)/$(soname)
 	ln -sf $(soname) $(DESTDIR)$(LIBDIR)/libwaywire.so
-	$(call fill,$(LIBDIR)/pkgconfig) c/waywire.pc.in > $(DESTDIR)$(LIBDIR)/pkgconfig/waywire.pc
+	$(call fill,$(LIBDIR)/pkgconfig) c/lib/waywire.pc.in > $(DESTDIR)$(LIBDIR)/pkgconfig/waywire.pc
 	for file in waywire-config.cmake waywire-config-version.cmake; do \
-		$(call fill,$(LIBDIR)/cmake/waywire) c/$$file.in > $(DESTDIR)$(LIBDIR)/cmake/waywire/$$file || exit; \
+		$(call fill,$(LIBDIR)/cmake/waywire) c/lib/$$file.in > $(DESTDIR)$(LIBDIR)/cmake/waywire/$$file || exit; \
 	done
 	chmod 644 $(DESTDIR)$(LIBDIR)/pkgconfig/waywire.pc $(DESTDIR)$(LIBDIR)/cmake/waywire/*.cmake
 	install -m 644 protocols/*.tables protocols/*.names $(DESTDIR)$(DATADIR)/waywire/protocols

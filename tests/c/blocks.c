@@ -1,6 +1,6 @@
-/* The memory of the exports, which c/tables.c has: a block that was allocated while no tables were made can grow and
- * be freed while some are, and the other way round. The exports here are stand-ins that allocate. */
-#include "../../c/tables.c"
+/* The memory of the exports, which c/lib/tables.c has: a block that was allocated while no tables were made can grow
+ * and be freed while some are, and the other way round. The exports here are stand-ins that allocate. */
+#include "../../c/lib/tables.c"
 #include "must.h"
 
 enum { SMALL = 24, LARGE = 100000 };

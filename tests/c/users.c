@@ -1,7 +1,7 @@
 /* Pointers of the caller's at objects of both ranges of ids, and what they ask for. An end over the core's
- * tables has no object of a server's id, so beside the calls of ends those of c/users.c are tested (made.c
+ * tables has no object of a server's id, so beside the calls of ends those of c/lib/users.c are tested (made.c
  * has ends with such objects). The program is linked with that file, and with `--wrap` for what allocates. */
-#include "../../c/users.h"
+#include "../../c/lib/users.h"
 #include "must.h"
 
 #define LAST_SERVER_ID 0xff0ffffeu

@@ -403,7 +403,7 @@ class Functions(unittest.TestCase):
         self.assertEqual(others, {})
         self.assertEqual({*found}, self.of_c, "an exception that is none any more")
         for name in self.of_c:
-            self.assertIn(f" = {name}(", read("c/tables.c"))
+            self.assertIn(f" = {name}(", read("c/lib/tables.c"))
             self.assertIn(f" {name.replace('_c_', '_')}(", read("include/waywire.h"))
 
     def test_listed(self):
