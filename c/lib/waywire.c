@@ -18,7 +18,7 @@ uint32_t waywire_c_end_look(const struct handle *, uint32_t id, uint64_t *birth)
 bool waywire_c_end_has_failed(const struct handle *);
 void waywire_c_end_in_room(const struct handle *, waywire_amounts *room);
 bool waywire_c_end_is_drained(const struct handle *);
-void waywire_c_end_feed(struct handle *, const void *bytes, size_t length,
+bool waywire_c_end_feed(struct handle *, const void *bytes, size_t length,
 	const uint32_t *tokens, size_t token_count, waywire_amounts *fed);
 void waywire_c_end_goes(const struct handle *, size_t bytes, size_t tokens,
 	waywire_amounts *amounts);
@@ -28,7 +28,7 @@ void waywire_c_end_peek(const struct handle *, waywire_part *parts, size_t *toke
 uint32_t waywire_c_end_token_to_go(const struct handle *, size_t place, uint32_t *token);
 void waywire_c_end_sent(struct handle *, size_t bytes, waywire_amounts *taken);
 void waywire_c_end_space(const struct handle *, waywire_part *parts);
-void waywire_c_end_received(struct handle *, size_t bytes, const uint32_t *tokens,
+bool waywire_c_end_received(struct handle *, size_t bytes, const uint32_t *tokens,
 	size_t token_count, waywire_amounts *fed);
 void waywire_c_end_take_waiting_tokens(struct handle *, uint32_t *tokens,
 	size_t token_count, size_t *taken);
@@ -274,11 +274,11 @@ bool waywire_end_is_drained(const waywire_end *end)
 	return !end || waywire_c_end_is_drained(&end->handle);
 }
 
-/* Counts the tokens that an end has taken in. WAYWIRE_FAILED if it takes nothing in at all. */
-static waywire_status after_feed(waywire_end *end, const waywire_amounts *fed)
+/* Counts the tokens that an end has taken in. A failed end takes nothing in. */
+static waywire_status after_feed(waywire_end *end, bool has_failed, const waywire_amounts *fed)
 {
 	end->untold += fed->tokens;
-	return waywire_c_end_has_failed(&end->handle) ? WAYWIRE_FAILED : WAYWIRE_OK;
+	return has_failed ? WAYWIRE_FAILED : WAYWIRE_OK;
 }
 
 waywire_status waywire_end_feed(waywire_end *end, const void *bytes, size_t length,
@@ -292,8 +292,8 @@ waywire_status waywire_end_feed(waywire_end *end, const void *bytes, size_t leng
 		status = slice(&from, token_count, sizeof *tokens);
 	if (status)
 		return status;
-	waywire_c_end_feed(&end->handle, bytes, length, from, token_count, fed);
-	return after_feed(end, fed);
+	bool has_failed = waywire_c_end_feed(&end->handle, bytes, length, from, token_count, fed);
+	return after_feed(end, has_failed, fed);
 }
 
 waywire_amounts waywire_end_goes(const waywire_end *end, size_t bytes, size_t tokens)
@@ -361,8 +361,8 @@ waywire_status waywire_end_received(waywire_end *end, size_t bytes, const uint32
 	waywire_status status = slice(&from, token_count, sizeof *tokens);
 	if (status)
 		return status;
-	waywire_c_end_received(&end->handle, bytes, from, token_count, fed);
-	return after_feed(end, fed);
+	bool has_failed = waywire_c_end_received(&end->handle, bytes, from, token_count, fed);
+	return after_feed(end, has_failed, fed);
 }
 
 waywire_status waywire_end_take_waiting_tokens(waywire_end *end, uint32_t *tokens,

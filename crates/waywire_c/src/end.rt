@@ -132,21 +132,26 @@ pub extern "C" fn waywire_c_end_is_drained(end: &mut EndHandle) -> bool
     end.get_mut().is_drained()
 }
 
-/// Takes in what arrived, and writes how much that was to `fed`.
+/// Takes in what arrived, and writes how much that was to `fed`. Returns whether the end has
+/// failed: a failed end takes nothing.
 #[unsafe(no_mangle)]
 pub extern "C" fn waywire_c_end_feed(
     end: &mut EndHandle,
     bytes: &[u8],
     tokens: &[u32],
     fed: &mut CAmounts,
-)
+) -> bool
+    ensures failed { result ≡ (core_of end.old.held).failed }
     ensures count { amounts_of fed.new ≡ feeds (core_of end.old.held) bytes.now tokens.now }
     ensures state { end.new.held
         ≡ end_with_core end.old.held
         (with_arrived (core_of end.old.held) (take fed.new.bytes bytes.now)
         (take fed.new.tokens tokens.now)) }
 {
-    *fed = CAmounts::of(end.get_mut().feed(bytes, tokens));
+    let held = end.get_mut();
+    let failed = held.has_failed();
+    *fed = CAmounts::of(held.feed(bytes, tokens));
+    failed
 }
 
 /// Writes to `amounts` how much `take` would move into memory of these lengths.
@@ -246,21 +251,26 @@ pub extern "C" fn waywire_c_end_space(end: &mut EndHandle, parts: &mut CParts)
     *parts = CParts::of_space(end.get_mut().space());
 }
 
-/// Takes in what was written there, and writes how much of it to `fed`.
+/// Takes in what was written there, and writes how much of it to `fed`. Returns whether the end has
+/// failed: a failed end takes nothing.
 #[unsafe(no_mangle)]
 pub extern "C" fn waywire_c_end_received(
     end: &mut EndHandle,
     bytes: usize,
     tokens: &[u32],
     fed: &mut CAmounts,
-)
+) -> bool
+    ensures failed { result ≡ (core_of end.old.held).failed }
     ensures count { amounts_of fed.new ≡ feeds_len (core_of end.old.held) bytes tokens.now }
     ensures state { EndReceives (core_of end.old.held) fed.new.bytes
         (take fed.new.tokens tokens.now) (core_of end.new.held) }
     ensures others { end.new.held
         ≡ end_with_core end.old.held (core_of end.new.held) }
 {
-    *fed = CAmounts::of(end.get_mut().received(bytes, tokens));
+    let held = end.get_mut();
+    let failed = held.has_failed();
+    *fed = CAmounts::of(held.received(bytes, tokens));
+    failed
 }
 
 /// Gives an end up: moves the tokens that wait in its queues into the caller's memory, and writes
