@@ -27,9 +27,9 @@
  * inspector, which writes a line for each message and says whether the session breaks a rule.
  *
  * Objects.  The client makes objects with ids from 1 on. If the tables have events by which the server makes
- * objects, these have ids from 0xff000000 on. Births are numbered from 0 in the client's range and from 1 in the
- * server's. Only id and birth together identify an object. An object of one connection may equal one of
- * another, and no call can distinguish them: keep an object with its end.
+ * objects, these have ids from WAYWIRE_FIRST_SERVER_ID on. Births are numbered from 0 in the client's range and
+ * from 1 in the server's. Only id and birth together identify an object. An object of one connection may equal
+ * one of another, and no call can distinguish them: keep an object with its end.
  *
  * Memory.  Tables, an end and an inspector belong to the caller, who frees each once. Tables may be freed before
  * the ends and inspectors made with them, which keep them as long as they need them. The calls of this header
@@ -154,6 +154,10 @@ typedef struct waywire_object {
 	uint64_t birth;
 	uint32_t id;
 } waywire_object;
+
+/* The first id of the range from which the server makes objects; the client makes objects with ids from 1 on
+ * (Wayland's documentation, "Creating Objects"). */
+#define WAYWIRE_FIRST_SERVER_ID 0xff000000u
 
 static inline bool waywire_object_equal(waywire_object one, waywire_object other)
 {
@@ -549,8 +553,8 @@ waywire_status waywire_end_live(const waywire_end *end, waywire_object object, u
  * There is no WAYWIRE_DELETED for an object that the server made: free its data before you destroy the object, or
  * when an event says that it is finished, and set null. If a new object replaces it while it is live, the report
  * has the pointer as `replaced_user`: free that. The call may allocate at most 32 bytes for each id from the
- * first of its maker's range (1 or 0xff000000) up to the object's. WAYWIRE_STALE if the object is not live,
- * WAYWIRE_NO_MEMORY. */
+ * first of its maker's range (1 or WAYWIRE_FIRST_SERVER_ID) up to the object's. WAYWIRE_STALE if the object is
+ * not live, WAYWIRE_NO_MEMORY. */
 waywire_status waywire_end_set_user(waywire_end *end, waywire_object object, void *user);
 
 /* The pointer that was set for an object, even after it has ended, unless one was set for a later object with its
@@ -882,7 +886,7 @@ waywire_status waywire_inspector_object(const waywire_inspector *inspector, uint
 	waywire_known *known);
 
 /* How many ids can be known. For the client, these are the ids below the returned number; for the server, this many
- * ids from 0xff000000 on. Nothing is known of any other id. 0 for a null inspector. */
+ * ids from WAYWIRE_FIRST_SERVER_ID on. Nothing is known of any other id. 0 for a null inspector. */
 size_t waywire_inspector_id_count(const waywire_inspector *inspector, waywire_sender maker);
 
 /* The newest version in which a global of this name was announced with this interface, or 0 if none was.

@@ -120,7 +120,7 @@ static void read_changes(const struct follower *follower, struct message *messag
 			message->made = message->args[place].object;
 	if (followed->destroyed)
 		message->destroyed = object_of(follower, followed->destroyed);
-	if (followed->deleted > DISPLAY_ID && followed->deleted < FIRST_SERVER_ID
+	if (followed->deleted > DISPLAY_ID && followed->deleted < WAYWIRE_FIRST_SERVER_ID
 		&& is_message(message, "wl_display", COMPOSITOR, delete_id_opcode))
 		message->freed = object_of(follower, followed->deleted);
 	if (message->freed.state == UNKNOWN)

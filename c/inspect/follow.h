@@ -11,7 +11,6 @@
 enum { CLIENT = WAYWIRE_FROM_CLIENT, COMPOSITOR = WAYWIRE_FROM_SERVER };
 
 #define DISPLAY_ID 1
-#define FIRST_SERVER_ID 0xff000000u
 
 /* ---- objects */
 

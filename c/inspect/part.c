@@ -41,7 +41,7 @@ void part_put(struct text *text, const struct follower *follower, const struct t
 	size_t server_ids = waywire_inspector_id_count(follower->inspector, WAYWIRE_FROM_SERVER);
 	text_format(text, "# from %.6f\n# ids %zu %zu\n", seconds, client_ids, server_ids);
 	put_known_objects(text, follower, 0, client_ids);
-	put_known_objects(text, follower, FIRST_SERVER_ID, server_ids);
+	put_known_objects(text, follower, WAYWIRE_FIRST_SERVER_ID, server_ids);
 	put_pending(text, &fronts[CLIENT], '>');
 	put_pending(text, &fronts[COMPOSITOR], '<');
 }
@@ -68,8 +68,8 @@ static bool read_object(const char *comment, struct reopened *object, char *name
 /* The id of an object is one of the used ids. */
 static void note_id(struct part *part, uint32_t id)
 {
-	size_t place = id < FIRST_SERVER_ID ? id : id - FIRST_SERVER_ID;
-	size_t *ids = id < FIRST_SERVER_ID ? &part->client_ids : &part->server_ids;
+	size_t place = id < WAYWIRE_FIRST_SERVER_ID ? id : id - WAYWIRE_FIRST_SERVER_ID;
+	size_t *ids = id < WAYWIRE_FIRST_SERVER_ID ? &part->client_ids : &part->server_ids;
 	if (place < MOST_IDS && place >= *ids)
 		*ids = place + 1;
 }

@@ -206,7 +206,7 @@ static void give_found(struct reopening *reopening, uint32_t target, const struc
 void reopen_object(struct reopening *reopening, const struct reopened *object)
 {
 	const waywire_tables *tables = reopening->follower->tables;
-	bool is_servers = object->id >= FIRST_SERVER_ID;
+	bool is_servers = object->id >= WAYWIRE_FIRST_SERVER_ID;
 	struct found making, ending;
 	uint16_t interface;
 	if (waywire_tables_interface(tables, object->name, &interface))

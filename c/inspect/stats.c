@@ -70,7 +70,7 @@ static void put_counted(struct text *text, const struct counted *it)
 /* Counts the live objects that one side made by their interfaces. */
 static void count_open(struct stats *open, const struct follower *follower, waywire_sender maker)
 {
-	uint32_t first = maker == WAYWIRE_FROM_SERVER ? FIRST_SERVER_ID : 0;
+	uint32_t first = maker == WAYWIRE_FROM_SERVER ? WAYWIRE_FIRST_SERVER_ID : 0;
 	size_t count = waywire_inspector_id_count(follower->inspector, maker);
 	for (size_t each = 0; each < count; each++) {
 		struct message as_if = { .target = object_of(follower, first + (uint32_t)each) };

@@ -29,9 +29,9 @@ static waywire_status set_in(struct user_range *range, size_t place, uint64_t bi
 
 waywire_status set_user(struct users *users, waywire_object object, void *pointer)
 {
-	if (object.id < FIRST_SERVER_ID)
+	if (object.id < WAYWIRE_FIRST_SERVER_ID)
 		return set_in(&users->of_client, object.id, object.birth, pointer);
-	return set_in(&users->of_server, object.id - FIRST_SERVER_ID, object.birth, pointer);
+	return set_in(&users->of_server, object.id - WAYWIRE_FIRST_SERVER_ID, object.birth, pointer);
 }
 
 void free_users(struct users *users)

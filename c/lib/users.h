@@ -6,8 +6,6 @@
 
 #include "calls.h"
 
-#define FIRST_SERVER_ID 0xff000000u
-
 struct user {
 	uint64_t birth;
 	void *pointer;
@@ -35,9 +33,9 @@ static inline void *user_in(const struct user_range *range, uint32_t place, uint
 /* The pointer of an object; null if it has none. Every report asks for it. */
 static inline void *user_of(const struct users *users, waywire_object object)
 {
-	if (object.id < FIRST_SERVER_ID)
+	if (object.id < WAYWIRE_FIRST_SERVER_ID)
 		return user_in(&users->of_client, object.id, object.birth);
-	return user_in(&users->of_server, object.id - FIRST_SERVER_ID, object.birth);
+	return user_in(&users->of_server, object.id - WAYWIRE_FIRST_SERVER_ID, object.birth);
 }
 
 /* Sets the pointer of an object that is live. */

@@ -138,7 +138,7 @@ static void list_tokens(waywire_report *report, uint32_t tokens[WAYWIRE_MAX_ARGS
 		}
 }
 
-#define BEFORE_SERVER_IDS (FIRST_SERVER_ID - 1)
+#define BEFORE_SERVER_IDS (WAYWIRE_FIRST_SERVER_ID - 1)
 
 /* The id after this one, given how many ids of each range were used; 0 after the last. */
 static uint32_t id_after(uint32_t id, uint32_t of_client, uint32_t of_server)

@@ -13,9 +13,6 @@
 #include <pthread.h>
 #include <waywire-socket.h>
 
-/* The ids from here on are those of objects that the server made. */
-#define FIRST_SERVER_ID 0xff000000u
-
 /* ---- signatures (signature.c) */
 
 /* The arguments of a message, by its signature. */

@@ -129,7 +129,7 @@ static void let_go_of_all(struct wl_display *display)
 	while (!waywire_end_object_after(end, it.id, &it)) {
 		struct wl_proxy *proxy = NULL;
 		/* The pointer of a dead object of the server may be invalid. */
-		if (it.id < FIRST_SERVER_ID || !waywire_end_live(end, it, NULL, NULL))
+		if (it.id < WAYWIRE_FIRST_SERVER_ID || !waywire_end_live(end, it, NULL, NULL))
 			proxy = waywire_end_user(end, it);
 		if (proxy)
 			let_go(proxy);

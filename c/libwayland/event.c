@@ -319,7 +319,7 @@ static struct event *copy_message(struct wl_proxy *proxy, const waywire_report *
 static bool is_zombie(const waywire_report *report)
 {
 	const struct wl_proxy *proxy = report->user;
-	return proxy && report->target.id < FIRST_SERVER_ID && proxy->gets_descriptors;
+	return proxy && report->target.id < WAYWIRE_FIRST_SERVER_ID && proxy->gets_descriptors;
 }
 
 /* Drops a message for an object whose proxy the program has destroyed. */

@@ -24,7 +24,7 @@ void let_go(struct wl_proxy *proxy)
 
 static bool is_of_server(waywire_object object)
 {
-	return object.id >= FIRST_SERVER_ID;
+	return object.id >= WAYWIRE_FIRST_SERVER_ID;
 }
 
 void give_object(struct wl_proxy *proxy, waywire_object object)

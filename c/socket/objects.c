@@ -6,8 +6,6 @@
 
 #include <stdlib.h>
 
-#define FIRST_SERVER_ID 0xff000000u
-
 static bool is_live(const waywire_connection *connection, waywire_object object)
 {
 	return !waywire_end_live(connection->end, object, NULL, NULL);
@@ -84,7 +82,7 @@ void end_entries(waywire_connection *connection)
  * client each object that it made has one. */
 static bool is_left(const waywire_connection *connection, const struct entry *entry)
 {
-	return (connection->server.end || entry->object.id >= FIRST_SERVER_ID)
+	return (connection->server.end || entry->object.id >= WAYWIRE_FIRST_SERVER_ID)
 		&& !is_live(connection, entry->object);
 }
 

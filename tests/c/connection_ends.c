@@ -599,7 +599,7 @@ static void replaces_itself(void)
 	MUST(!waywire_connection_listen(client, maker, on_plugged, NULL, &five));
 	MUST(!waywire_end_send(requests.end, maker, ASK, NULL, 0, NULL, NULL));
 	turn();
-	MUST(head.id >= 0xff000000u);
+	MUST(head.id >= WAYWIRE_FIRST_SERVER_ID);
 	uint32_t split[] = { head.id, 12 << 16 | SPLIT, head.id };
 	MUST(write(waywire_connection_fd(server), split, sizeof split) == sizeof split);
 	MUST(waywire_connection_dispatch(client, WAIT) == 1 && heads == 1 && gone == 1);

@@ -52,7 +52,8 @@ static void unusual(void)
 	MUST(!decode("wp_thing", 1, WAYWIRE_FROM_CLIENT, set, sizeof set));
 	MUST(decoded.args[0].kind == WAYWIRE_NULL_OBJECT && decoded.interfaces[0] == surface);
 	MUST(!decode("wp_thing", 1, WAYWIRE_FROM_SERVER, made, sizeof made));
-	MUST(decoded.args[0].kind == WAYWIRE_NEW_BY_SERVER && decoded.args[0].object.id == 0xff000000);
+	MUST(decoded.args[0].kind == WAYWIRE_NEW_BY_SERVER);
+	MUST(decoded.args[0].object.id == WAYWIRE_FIRST_SERVER_ID);
 	MUST(decoded.interfaces[0] == surface);
 	waywire_tables_free(more);
 	tables = core;

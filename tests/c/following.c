@@ -7,7 +7,6 @@
 #include <stdarg.h>
 #include <string.h>
 
-#define FIRST_SERVER_ID 0xff000000u
 #define FIRST "4278190080"
 #define SECOND "4278190081"
 #define THIRD "4278190082"
@@ -286,7 +285,7 @@ static struct line objects(void)
 {
 	struct line line = { "", 0 };
 	put_objects(&line, WAYWIRE_FROM_CLIENT, 0);
-	put_objects(&line, WAYWIRE_FROM_SERVER, FIRST_SERVER_ID);
+	put_objects(&line, WAYWIRE_FROM_SERVER, WAYWIRE_FIRST_SERVER_ID);
 	return line;
 }
 

@@ -4,7 +4,6 @@
 
 #include <string.h>
 
-#define FIRST_SERVER_ID 0xff000000u
 #define MOST_BY_SERVER 1048575u
 #define IN_TURN 100000u
 
@@ -187,7 +186,7 @@ static void same_id_again(void)
 	begin(&pair);
 	MUST(made_last(&pair).id == 0);
 	waywire_object first = makes(&pair);
-	MUST(is(first, FIRST_SERVER_ID, 1));
+	MUST(is(first, WAYWIRE_FIRST_SERVER_ID, 1));
 	MUST(to_client(&pair, bytes, sizeof bytes) == sizeof made && !memcmp(bytes, made, sizeof made));
 	MUST(read_event(&pair) == WAYWIRE_MESSAGE && pair.at_client.args[0].kind == WAYWIRE_NEW);
 	MUST(waywire_object_equal(pair.at_client.args[0].object, first));
@@ -204,7 +203,7 @@ static void same_id_again(void)
 	MUST(!memcmp(bytes, destroyed, sizeof destroyed) && read_request(&pair) == WAYWIRE_MESSAGE);
 	MUST(to_client(&pair, bytes, sizeof bytes) == 0); /* no delete_id */
 	waywire_object second = makes(&pair);
-	MUST(is(second, FIRST_SERVER_ID, 2));
+	MUST(is(second, WAYWIRE_FIRST_SERVER_ID, 2));
 	MUST(to_client(&pair, bytes, sizeof bytes) == sizeof made && !memcmp(bytes, made, sizeof made));
 	MUST(read_event(&pair) == WAYWIRE_MESSAGE);
 	MUST(waywire_object_equal(pair.at_client.args[0].object, second));
@@ -221,7 +220,7 @@ static void both_ranges_are_gone_through(void)
 	struct pair pair;
 	begin(&pair);
 	waywire_object first = makes(&pair), second = makes(&pair);
-	MUST(is(second, FIRST_SERVER_ID + 1, 2) && counted_by_server(&pair) == 5);
+	MUST(is(second, WAYWIRE_FIRST_SERVER_ID + 1, 2) && counted_by_server(&pair) == 5);
 	to_client(&pair, bytes, sizeof bytes);
 	MUST(read_event(&pair) == WAYWIRE_MESSAGE && read_event(&pair) == WAYWIRE_MESSAGE);
 	MUST(counted_by_client(&pair) == 5);
@@ -231,7 +230,8 @@ static void both_ranges_are_gone_through(void)
 	MUST(!waywire_end_set_user(pair.client.end, first, &users[1]));
 	MUST(!waywire_end_set_user(pair.client.end, second, &users[2]));
 
-	static const uint32_t ids[] = { 1, 2, 3, FIRST_SERVER_ID, FIRST_SERVER_ID + 1 };
+	static const uint32_t ids[] = { 1, 2, 3, WAYWIRE_FIRST_SERVER_ID,
+		WAYWIRE_FIRST_SERVER_ID + 1 };
 	void *wanted[] = { NULL, NULL, &users[0], &users[1], &users[2] };
 	size_t at = 0;
 	for (waywire_object it = { 0, 0 }; !waywire_end_object_after(pair.client.end, it.id, &it); at++)
@@ -242,7 +242,8 @@ static void both_ranges_are_gone_through(void)
 		MUST(at < 5 && it.id == ids[at]);
 	MUST(at == 5);
 	waywire_object none;
-	static const uint32_t behind[] = { FIRST_SERVER_ID + 1, FIRST_SERVER_ID + 2, UINT32_MAX };
+	static const uint32_t behind[] = { WAYWIRE_FIRST_SERVER_ID + 1,
+		WAYWIRE_FIRST_SERVER_ID + 2, UINT32_MAX };
 	for (at = 0; at < 3; at++)
 		MUST(waywire_end_object_after(pair.client.end, behind[at], &none) == WAYWIRE_NOT_FOUND);
 	end(&pair);
@@ -286,7 +287,8 @@ static void refused(void)
 	makes(&pair);
 	to_client(&pair, bytes, sizeof bytes);
 	refuses = true;
-	MUST(read_event(&pair) == WAYWIRE_MESSAGE && is(made_last(&pair), FIRST_SERVER_ID, 2));
+	MUST(read_event(&pair) == WAYWIRE_MESSAGE);
+	MUST(is(made_last(&pair), WAYWIRE_FIRST_SERVER_ID, 2));
 	refuses = false;
 	end(&pair);
 }
@@ -300,7 +302,7 @@ static void in_turn(void)
 	begin(&pair);
 	for (uint32_t round = 1; round <= IN_TURN; round++) {
 		waywire_object made = makes(&pair);
-		MUST(is(made, FIRST_SERVER_ID, round));
+		MUST(is(made, WAYWIRE_FIRST_SERVER_ID, round));
 		to_client(&pair, bytes, sizeof bytes);
 		MUST(read_event(&pair) == WAYWIRE_MESSAGE);
 		MUST(waywire_object_equal(pair.at_client.args[0].object, made));
@@ -323,7 +325,7 @@ static void hostile_server(void)
 	begin(&pair);
 	size_t before = live;
 	for (uint32_t place = 0; place < MOST_BY_SERVER; place++) {
-		uint32_t id = FIRST_SERVER_ID + place;
+		uint32_t id = WAYWIRE_FIRST_SERVER_ID + place;
 		memcpy(event + 8, &id, sizeof id);
 		MUST(!waywire_end_feed(pair.client.end, event, sizeof event, NULL, 0, &fed));
 		MUST(read_event(&pair) == WAYWIRE_MESSAGE && is(made_last(&pair), id, place + 1));
@@ -331,7 +333,7 @@ static void hostile_server(void)
 	}
 	MUST(live - before <= 40 * (size_t)MOST_BY_SERVER);
 	MUST(counted_by_client(&pair) == MOST_BY_SERVER + 3);
-	uint32_t past = FIRST_SERVER_ID + MOST_BY_SERVER;
+	uint32_t past = WAYWIRE_FIRST_SERVER_ID + MOST_BY_SERVER;
 	memcpy(event + 8, &past, sizeof past);
 	MUST(!waywire_end_feed(pair.client.end, event, sizeof event, NULL, 0, &fed));
 	MUST(waywire_end_next(pair.client.end, &pair.at_client) == WAYWIRE_FAULT_TOO_MANY_OBJECTS);

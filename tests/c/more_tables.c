@@ -239,7 +239,7 @@ static void on_the_way(void)
 	MUST(!waywire_end_send(pair.server.end, later, 0, &new, 1, &made, NULL));
 	report = reads(pair.server.end, client.end);
 	MUST(report.args[0].kind == WAYWIRE_NEW && waywire_object_equal(report.args[0].object, made));
-	MUST(made.id == 0xff000000 && is_live(client.end, made, "later", 7));
+	MUST(made.id == WAYWIRE_FIRST_SERVER_ID && is_live(client.end, made, "later", 7));
 	MUST(!grow(client, third) && is_live(client.end, made, "later", 7));
 	close_pair(pair);
 }

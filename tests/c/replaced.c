@@ -8,8 +8,6 @@
 #include <stdlib.h>
 #include <string.h>
 
-#define FIRST_SERVER_ID 0xff000000u
-
 /* From version 3 on a request can end a head. */
 static const char text[] = "interface manager 3\nrequest release D\nevent head N(head)\n"
 	"interface head 3\nrequest release D @3\nevent again N(head)\n";
@@ -124,14 +122,14 @@ static void report_has_the_old_object(void)
 	char one, two, three;
 	struct session it;
 	begin(&it, text, "manager", 2);
-	waywire_object first = head(&it, FIRST_SERVER_ID);
+	waywire_object first = head(&it, WAYWIRE_FIRST_SERVER_ID);
 	MUST(has_replaced_none(&it));
-	waywire_object other = head(&it, FIRST_SERVER_ID + 1);
+	waywire_object other = head(&it, WAYWIRE_FIRST_SERVER_ID + 1);
 	MUST(has_replaced_none(&it) && counted(&it) == 5);
 	MUST(!waywire_end_set_user(it.client.end, first, &one));
 	MUST(!waywire_end_set_user(it.client.end, other, &two));
 
-	waywire_object second = head(&it, FIRST_SERVER_ID);
+	waywire_object second = head(&it, WAYWIRE_FIRST_SERVER_ID);
 	MUST(has_replaced(&it, first, &one) && !waywire_object_equal(second, first) && counted(&it) == 5);
 	MUST(!waywire_end_user(it.client.end, second) && waywire_end_user(it.client.end, other) == &two);
 	MUST(!is_listed(&it, first) && is_listed(&it, second) && is_listed(&it, other));
@@ -141,15 +139,16 @@ static void report_has_the_old_object(void)
 	MUST(has_replaced(&it, first, &one));
 
 	/* One that has no pointer, at the last id; then no message, and one that replaces none. */
-	head(&it, FIRST_SERVER_ID + 2);
+	head(&it, WAYWIRE_FIRST_SERVER_ID + 2);
 	MUST(has_replaced_none(&it));
 	waywire_object last = made_last(&it);
-	head(&it, FIRST_SERVER_ID + 2);
+	head(&it, WAYWIRE_FIRST_SERVER_ID + 2);
 	MUST(has_replaced(&it, last, NULL));
 	MUST(reads(&it) == WAYWIRE_NOTHING && has_replaced_none(&it));
-	comes(&it, 1, WAYWIRE_WL_DISPLAY_EVENT_DELETE_ID, (uint32_t[]){ FIRST_SERVER_ID }, 1);
+	comes(&it, 1, WAYWIRE_WL_DISPLAY_EVENT_DELETE_ID, (uint32_t[]){ WAYWIRE_FIRST_SERVER_ID },
+		1);
 	MUST(reads(&it) == WAYWIRE_STRAY && has_replaced_none(&it));
-	head(&it, FIRST_SERVER_ID + 3);
+	head(&it, WAYWIRE_FIRST_SERVER_ID + 3);
 	MUST(has_replaced_none(&it));
 	end(&it);
 }
@@ -157,7 +156,7 @@ static void report_has_the_old_object(void)
 /* An event for a head makes one with the id of that head itself. */
 static void target_is_replaced(void)
 {
-	static const uint32_t id = FIRST_SERVER_ID;
+	static const uint32_t id = WAYWIRE_FIRST_SERVER_ID;
 	char one;
 	struct session it;
 	begin(&it, text, "manager", 2);
@@ -173,7 +172,7 @@ static void target_is_replaced(void)
 /* An event for a manager that the client has destroyed. */
 static void discarded_event_replaces(void)
 {
-	static const uint32_t id = FIRST_SERVER_ID;
+	static const uint32_t id = WAYWIRE_FIRST_SERVER_ID;
 	char one;
 	struct session it;
 	begin(&it, text, "manager", 2);
@@ -190,7 +189,7 @@ static void discarded_event_replaces(void)
 /* What a request can end is not replaced while it is live. What the client has destroyed is no live object. */
 static void ended_by_request(void)
 {
-	static const uint32_t id = FIRST_SERVER_ID;
+	static const uint32_t id = WAYWIRE_FIRST_SERVER_ID;
 	char one;
 	struct session it;
 	begin(&it, text, "manager", 3);
@@ -270,7 +269,7 @@ static void nothing_is_lost(const char *path)
 	begin(&it, tables, "zwlr_output_manager_v1", 2);
 	free(tables);
 	for (uint32_t round = 0; round < ROUNDS; round++) {
-		for (uint32_t id = FIRST_SERVER_ID; id < FIRST_SERVER_ID + OUTPUTS; id++) {
+		for (uint32_t id = WAYWIRE_FIRST_SERVER_ID; id < WAYWIRE_FIRST_SERVER_ID + OUTPUTS; id++) {
 			comes(&it, it.manager.id, HEAD, &id, 1);
 			comes(&it, id, NAME, name, count);
 			comes(&it, id, FINISHED, name, 0);

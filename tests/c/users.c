@@ -30,15 +30,15 @@ void *__wrap_realloc(void *at, size_t size)
 
 static const waywire_object display = { 0, 1 };
 /* The first objects of a server's range, and a later one that has the first id again. */
-static const waywire_object first = { 1, 0xff000000 }, second = { 2, 0xff000001 },
-	again = { 3, 0xff000000 };
+static const waywire_object first = { 1, WAYWIRE_FIRST_SERVER_ID },
+	second = { 2, WAYWIRE_FIRST_SERVER_ID + 1 }, again = { 3, WAYWIRE_FIRST_SERVER_ID };
 static char one, other, third;
 
 /* Calls know no object of a server's id, and ask for no memory. */
 static void end_has_none(waywire_end *end)
 {
-	static const uint32_t ids[] = { FIRST_SERVER_ID - 1, FIRST_SERVER_ID, FIRST_SERVER_ID + 1,
-		FIRST_SERVER_ID + 2, LAST_SERVER_ID, UINT32_MAX };
+	static const uint32_t ids[] = { WAYWIRE_FIRST_SERVER_ID - 1, WAYWIRE_FIRST_SERVER_ID,
+		WAYWIRE_FIRST_SERVER_ID + 1, WAYWIRE_FIRST_SERVER_ID + 2, LAST_SERVER_ID, UINT32_MAX };
 	long before = asks;
 	for (size_t at = 0; at < sizeof ids / sizeof *ids; at++)
 		for (uint64_t birth = 0; birth < 3; birth++) {
@@ -107,8 +107,10 @@ static void ranges_lie_apart(void)
 /* Where memory is refused, what was set stays. */
 static void refused(void)
 {
-	static const waywire_object far = { 4, FIRST_SERVER_ID + 1000 }, client_far = { 4, 1000 };
-	static const waywire_object between = { 0, FIRST_SERVER_ID + 500 }, client_between = { 0, 500 };
+	static const waywire_object far = { 4, WAYWIRE_FIRST_SERVER_ID + 1000 };
+	static const waywire_object client_far = { 4, 1000 };
+	static const waywire_object between = { 0, WAYWIRE_FIRST_SERVER_ID + 500 };
+	static const waywire_object client_between = { 0, 500 };
 	struct users users = { { NULL, 0 }, { NULL, 0 } };
 	refuses = true;
 	MUST(set_user(&users, first, &one) == WAYWIRE_NO_MEMORY && !user_of(&users, first));
@@ -147,7 +149,7 @@ int main(void)
 	ends_have_none();
 	ranges_lie_apart();
 	refused();
-	asks_by_count(FIRST_SERVER_ID, LAST_SERVER_ID);
+	asks_by_count(WAYWIRE_FIRST_SERVER_ID, LAST_SERVER_ID);
 	asks_by_count(1, LAST_CLIENT_ID);
 	return 0;
 }
