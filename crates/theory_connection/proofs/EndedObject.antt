@@ -61,11 +61,6 @@ ended_map f Nothing x args = refl
 ended_map f Target x args = refl
 ended_map f (ends_arg place) x args = at_map f args place
 
-pub if_map : {A B : Type 0} (P : B → Type 0) (f : A → B) (o : Option A) → IfThere (λ x. P (f x)) o
-    → IfThere P (option_map f o)
-if_map P f None h = tt
-if_map P f (Some x) h = h
-
 -- a property of the element, if there is one, implies another
 pub if_by : {X : Type 0} {P Q : X → Type 0} (f : (x : X) → P x → Q x) (o : Option X) → IfThere P o → IfThere Q o
 if_by f None h = tt

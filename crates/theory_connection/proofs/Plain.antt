@@ -11,7 +11,7 @@ use Rattle.theory_connection.specs.Flight.{IsHeldInRows, NextTold, ReadsInFlight
 use Rattle.theory_connection.specs.Flight.{Tied, drained, use_, make, destroy, give_back, MeetInMiddle}
 use Rattle.theory_connection.specs.Plain.{tell_id, ask_id, In}
 use Rattle.theory_connection.proofs.Flight.{put_row_tells, put_row_same, held_at_client, held_other, held_some}
-use Rattle.theory_connection.proofs.Flight.{free_after, live_after, put_row_other, range_apart, fresh_range}
+use Rattle.theory_connection.proofs.Flight.{free_after, put_row_other, range_apart, fresh_range}
 use Rattle.theory_connection.proofs.Flight.{told_apart, open_at_server}
 
 -- an object that is held after another ends was held before
@@ -168,12 +168,6 @@ module _ {test : Born → Bool} where
   open_given n (give_back {s = s} {m = m} {x = x} k a b c t) l h =
       let ne : x.id ≢ n.id = λ q. (let d = sym c ∙ ap m.rows q ∙ h in cc d) in
       sym (put_row_other s.rows x.id None n.id ne) ∙ open_given n t l h
-
-  -- the server has an object of the server's range that is open at the client
-  pub open_where : {es : List Tell} {qs : List Ask} {v : Rows Row} {s : Rows Born} (n : Known)
-      → MeetInMiddle test es qs v s → is_of_server n.id ≡ true → test n.born ≡ false
-      → v.rows n.id ≡ Some (Open n.born) → s.rows n.id ≡ Some n.born
-  open_where n m l f h = open_given n m.tied l (live_after n.id n.born m.reads h f)
 
   -- nothing after a delete in flight is about its object's id
   pub deleted_last : (before after : List Tell) (x : Known) {v w : Rows Row}

@@ -59,17 +59,6 @@ row_word v id e s row = elim (cases_Bool (is_of_server id)) [
   | inr h ↦ (let low = row_low v id e s h row in (low.0, let b = low.1 in omega (arith, b)))
 ]
 
--- no birth has two rows in one range
-pub one_birth : (v : Objects) (a b : ℕ) (e d : Entry) → ObjectsAreSound v → is_of_server a ≡ false
-    → is_of_server b ≡ false → look v a ≡ Some e → look v b ≡ Some d → e.birth ≡ d.birth → a ≡ b
-one_birth v a b e d s h k row other =
-    s.client.one_birth a b e d (row_of_client v a e h row) (row_of_client v b d k other)
-
--- the birth of a row is counted
-pub born : (v : Objects) (id : ℕ) (e : Entry) → ObjectsAreSound v → is_of_server id ≡ false → look v id ≡ Some e
-    → e.birth < v.client.births
-born v id e s range row = s.client.born id e (row_of_client v id e range row)
-
 -- ---- the counts of the server's range
 
 server_changed : (change : View → ℕ → View) → ((view : View) (id : ℕ) → (change view id).used ≡ view.used)

@@ -1,6 +1,6 @@
 -- Bytes that leave an outbox in parts, without tokens.
 use Rattle.std.proofs.Common.{◌≡◌, ℕ, zero, suc, ◌+◌, ◌-◌, ◌<◌, ◌≤◌, ◌⊎◌, inl, inr, List, [], ◌∷◌, ◌++◌, length, take}
-use Rattle.std.proofs.Common.{drop, Option, Some, None, Ok, Err, refl, sym, ap, subst, ◌∙◌, arith, length-append}
+use Rattle.std.proofs.Common.{drop, Option, Some, None, Err, refl, sym, ap, subst, ◌∙◌, arith, length-append}
 use Rattle.std.proofs.Common.{length-drop, append_assoc}
 use Rattle.std.specs.Io.KnownBytes.{Appends}
 use Rattle.std.specs.List.{AllByRecursion}
@@ -292,22 +292,6 @@ failed o held total w o' holds may h written =
             (not_before o total w may h (subst (λ (p : Outgoing). NextHasTokens p) e next)),
       );
     }
-
--- everything that may go is gone
-pub ended : (o : Outgoing) (held : Option (List ℕ)) (w : ℕ) (o' : Outgoing) (holds : Option (List ℕ)) → MayGo o w 0 w
-    → Written o held w o' holds → (o'.left ≡ []) × (o'.messages ≡ []) → Flushes o held (Ok w) o' holds
-ended o held w o' holds may written none = record {
-  there = may.there;
-  written = written.1;
-  gone = written.0;
-  without_tokens = no_tokens _ may.tokens_within;
-  all = ((λ t. λ d. none.0 d ++ all_bytes (none.1 d)), λ z. refl);
-  needs_tokens = (
-    (λ (f : ⊥). absurd f),
-    λ next. absurd
-        (subst (λ (ms : List QueuedMessage). FirstHasTokens ms) none.1 next.1),
-  );
-}
 
 pub needs : (o : Outgoing) (held : Option (List ℕ)) (w : ℕ) (o' : Outgoing) (holds : Option (List ℕ)) → MayGo o w 0 w
     → Written o held w o' holds → (waiting_bytes o' ≡ [] → ⊥) → (waiting_bytes o' ≡ []) ⊎ NextHasTokens o'

@@ -48,10 +48,6 @@ pub room_held : (bytes tokens : ℕ) (core : Core) (room : Amounts) → room ≡
 room_held bytes tokens core room r h = subst (λ (x : Amounts). Room bytes tokens x) (sym r)
     (room_at bytes tokens core core.failed refl h)
 
--- taking n of at least n places gives n
-pub all_taken : (n : ℕ) (places : List ℕ) → n ≤ length places → length (take n places) ≡ n
-all_taken n places h = omega (arith, length-take n places)
-
 pub few_tokens : (from to : Core) (most bytes tokens : ℕ) (going : Amounts) → going ≡ carries from to most
     → HoldsInbox bytes tokens to.inbox → tokens ≤ 65536 → going.tokens ≤ 65536
 few_tokens from to most bytes tokens going g h few =

@@ -1,5 +1,5 @@
 -- The same objects at both ends.
-use Rattle.std.proofs.Common.{◌≡◌, ℕ, ◌<◌, ◌≤◌, ◌+◌, ◌-◌, Bool, true, false, refl, sym, ap, subst, ◌∙◌, inl, inr, arith}
+use Rattle.std.proofs.Common.{◌≡◌, ℕ, ◌<◌, ◌≤◌, ◌+◌, ◌-◌, Bool, true, refl, sym, ap, subst, ◌∙◌, inl, inr, arith}
 use Rattle.std.proofs.lemmas.Bool.{cases_lt}
 use Rattle.std.specs.FinMap.{len}
 use Rattle.std.specs.Prelude.{◌↔◌, IsTrue, ltb, not, ◌&&◌, is_some}
@@ -8,7 +8,7 @@ use Rattle.std.specs.declared.option.Option.TheVariants.{None, Some}
 use Rattle.wl_object_map.specs.declared.object.Entry.{Entry}
 use Rattle.wl_object_map.specs.declared.object.State.{State}
 use Rattle.wl_object_map.specs.declared.object.State.TheVariants as states
-use Rattle.wl_object_map.specs.declared.object.Maker.TheVariants.{Client, Server}
+use Rattle.wl_object_map.specs.declared.object.Maker.TheVariants.{Server}
 use Rattle.wl_object_map.specs.Ranges.{first_server_id, is_of_server, table_id}
 use Rattle.wl_object_map.specs.View as table
 use Rattle.wl_object_map.specs.View.{View, Sound, lives_in, lives, times}
@@ -16,9 +16,9 @@ use Rattle.wl_object_map.specs.Views.{place_of_id, in_row, in_list, at_null, unu
 use Rattle.wl_object_map.specs.Sounds.{Sound-opening}
 use Rattle.wl_object_map.specs.Objects.{Objects, ObjectsAreSound, IsServerRangeNew, look, ids_used, next_birth}
 use Rattle.wl_object_map.specs.Objects.{no_interface, row_count}
-use Rattle.wl_object_map.specs.ObjectsLaws.{in_range-client, in_range-server, is_from, of_server}
-use Rattle.theory_connection.specs.Runs.{AgreeByClient, AgreeByServer, is_freed, is_zombie}
-use Rattle.wl_session.specs.Room.{AreSame, AreSameByServer, SameByServer, both_live, was_freed}
+use Rattle.wl_object_map.specs.ObjectsLaws.{in_range-server, is_from, of_server}
+use Rattle.theory_connection.specs.Runs.{AgreeByServer, is_freed, is_zombie}
+use Rattle.wl_session.specs.Room.{AreSameByServer, SameByServer, both_live, was_freed}
 use Rattle.wl_session.specs.Room.{client_count, object_count}
 
 -- ---- the client's range
@@ -31,44 +31,6 @@ no_row view id s h = elim (place_of_id view s id) [
   | at_null l t e ↦ l
   | unused l t a ↦ l
 ]
-
-null_row : (view : View) (id : ℕ) → Sound view → id < 1 → table.look view id ≡ None
-null_row view id s h = elim (place_of_id view s id) [
-  | in_row e l t a b ↦ absurd (omega (arith, h, a))
-  | in_list l t a b ↦ l
-  | at_null l t e ↦ l
-  | unused l t a ↦ l
-]
-
-neither : (c s : Option Entry) → c ≡ None → s ≡ None → AreSame c s
-neither c s e f = record { same = e ∙ sym f; live = λ x h. absurd (cc (e, h)) }
-
--- if the ids that were used have the same objects, all ids of the client's range have
-pub same_of_client : (client server : Objects) (most : ℕ) → ObjectsAreSound client → ObjectsAreSound server
-    → ids_used Client client ≤ most → ids_used Client server ≤ most
-    → ((q : ℕ) → 1 ≤ q → q < 1 + most → AreSame (look client q) (look server q))
-    → AgreeByClient client server
-same_of_client client server most c s l n h = record {
-  same = λ id range. (all id range).same;
-  live = λ id e range row. (all id range).live e row;
-}
-  where
-    without : (objects : Objects) (id : ℕ) → is_of_server id ≡ false → table.look objects.client id ≡ None
-        → look objects id ≡ None
-    without objects id range none = in_range-client table.look objects id range ∙ none
-
-    all : (id : ℕ) → is_of_server id ≡ false → AreSame (look client id) (look server id)
-    all id range = elim (cases_lt id 1) [
-      | inl below ↦ neither (look client id) (look server id)
-          (without client id range (null_row client.client id c.client below))
-          (without server id range (null_row server.client id s.client below))
-      | inr from ↦ (elim (cases_lt id (1 + most)) [
-        | inl within ↦ h id from within
-        | inr past ↦ neither (look client id) (look server id)
-            (without client id range (no_row client.client id c.client (omega (arith, l, past))))
-            (without server id range (no_row server.client id s.client (omega (arith, n, past))))
-      ])
-    ]
 
 -- ---- the server's range
 
