@@ -18,8 +18,10 @@ use Rattle.wl_objects.specs.Reading.{Reader, Reported, forgiving_kind, value_fau
 use Rattle.wl_objects.specs.Reading.{arguments_at, is_descriptor, head_or, reported_argument, reports_of}
 use Rattle.wl_objects.specs.declared.argument.Got.{Got}
 use Rattle.wl_objects.specs.Seen.{got, got_values}
-use Rattle.wl_objects.specs.Parsed.{AreParsed, Both, all_of, all_parsed, parsed_argument, behind_those}
-use Rattle.wl_objects.specs.Parsed.{both, both_of, made_of, made_unless, place_after, reported_in}
+use Rattle.wl_objects.specs.Parsed.{AreParsed, ArgumentView, argument_views, views_of_parsed, parsed_argument}
+use Rattle.wl_objects.specs.Parsed.{views_prepended}
+use Rattle.wl_objects.specs.Parsed.{argument_view, view_of_parsed, views_outcome, view_outcome, place_after}
+use Rattle.wl_objects.specs.Parsed.{reported_in}
 use Rattle.wl_objects.specs.Parsed.{is_number, reported_of, spelled_in, token_at, with_token}
 use Rattle.wl_objects.specs.declared.parsed.ParsedArg.TheVariants as parsed_as
 
@@ -59,7 +61,8 @@ after-least v place i h = by (is_descriptor v)
 -- ---- a number, for which nothing is looked up
 
 pub number-kept : (r q : Reader) (place i birth : ℕ) (body : List ℕ) (k : Kind) (p : ParsedArg) → is_number p ≡ true
-    → Ok (both_of body birth p) ≡ made_unless r place (parsed_argument [] p) (value_fault q i k (parsed_argument [] p))
+    → Ok (view_of_parsed body birth p)
+    ≡ view_outcome r place (parsed_argument [] p) (value_fault q i k (parsed_argument [] p))
 number-kept r q place i birth body k parsed_as.Null h = absurd (cc)
 number-kept r q place i birth body k (parsed_as.Int z) h = refl
 number-kept r q place i birth body k (parsed_as.Uint n) h = refl
@@ -88,23 +91,24 @@ number-place (parsed_as.Fd token) place h = absurd (cc)
 -- ---- one step
 
 -- a value that is not at fault is reported as it is
-judged : (r : Reader) (place : ℕ) (v : Argument) (f : Option Fault) (x : Both) → Ok x ≡ made_unless r place v f
-    → (f ≡ None) × (x ≡ both r place v)
-judged r place v None x e = let same : x ≡ both r place v = cc in (refl, same)
+judged : (r : Reader) (place : ℕ) (v : Argument) (f : Option Fault) (x : ArgumentView) → Ok x ≡ view_outcome r place v f
+    → (f ≡ None) × (x ≡ argument_view r place v)
+judged r place v None x e = let same : x ≡ argument_view r place v = cc in (refl, same)
 judged r place v (Some fault) x e = absurd (cc)
 
 refused : (r : Reader) (place : ℕ) (v : Argument) (f : Option Fault) (fault : Fault)
-    → Err fault ≡ made_unless r place v f → f ≡ Some fault
+    → Err fault ≡ view_outcome r place v f → f ≡ Some fault
 refused r place v None fault e = absurd (cc)
 refused r place v (Some other) fault e = let same : other ≡ fault = cc in ap (λ (x : Fault). Some x) same
 
 made-before : (r : Reader) (place : ℕ) (v : Argument) (y : Result (List Argument × List ℕ) Fault)
-    → made_of r place (before v y) ≡ behind_those (both r place v ∷ []) (made_of r (place_after v place) y)
+    → views_outcome r place (before v y)
+    ≡ views_prepended (argument_view r place v ∷ []) (views_outcome r (place_after v place) y)
 made-before r place v (Err fault) = refl
 made-before r place v (Ok found) = refl
 
-behind-both : (xs ys : List Both) (y : Result (List Both × List ℕ) Fault)
-    → behind_those xs (behind_those ys y) ≡ behind_those (xs ++ ys) y
+behind-both : (xs ys : List ArgumentView) (y : Result (List ArgumentView × List ℕ) Fault)
+    → views_prepended xs (views_prepended ys y) ≡ views_prepended (xs ++ ys) y
 behind-both xs ys (Err fault) = refl
 behind-both xs ys (Ok found) = rw append_assoc refl
 
@@ -113,15 +117,15 @@ pub parsed-next : (r q : Reader) (i end n place birth : ℕ) (ks : List Kind) (k
     (items : List ParsedArg) (p : ParsedArg) (v : Argument)
     → i < length ks → i < length items
     → reading (forgiving_kind q.forgives (get_or ks i k)) (drop end body) ≡ Ok (v, n)
-    → Ok (both_of body birth p) ≡ made_unless r place v (value_fault q i (get_or ks i k) v)
-    → behind_those (all_parsed body birth (take (i + 1) (set items i p)))
-    (made_of r (place_after v place) (arguments_at q (i + 1) (drop (i + 1) ks) (drop (end + n) body)))
-    ≡ behind_those (all_parsed body birth (take i items))
-    (made_of r place (arguments_at q i (drop i ks) (drop end body)))
+    → Ok (view_of_parsed body birth p) ≡ view_outcome r place v (value_fault q i (get_or ks i k) v)
+    → views_prepended (views_of_parsed body birth (take (i + 1) (set items i p)))
+    (views_outcome r (place_after v place) (arguments_at q (i + 1) (drop (i + 1) ks) (drop (end + n) body)))
+    ≡ views_prepended (views_of_parsed body birth (take i items))
+    (views_outcome r place (arguments_at q i (drop i ks) (drop end body)))
 parsed-next r q i end n place birth ks k body items p v b s e f =
-    let j = judged r place v (value_fault q i (get_or ks i k) v) (both_of body birth p) f in
+    let j = judged r place v (value_fault q i (get_or ks i k) v) (view_of_parsed body birth p) f in
     let right : value_fault q i (get_or ks i k) v ≡ None = j.0 in
-    let same : both_of body birth p ≡ both r place v = j.1 in
+    let same : view_of_parsed body birth p ≡ argument_view r place v = j.1 in
     let read : arguments_at q i (drop i ks) (drop end body)
     ≡ before v (arguments_at q (suc i) (drop (suc i) ks) (drop (end + n) body)) =
     rw (drop-cons ks i k b, e, right, drop-drop) refl in
@@ -133,47 +137,48 @@ pub parsed-fault : (r q : Reader) (i end n place birth : ℕ) (ks : List Kind) (
     (items : List ParsedArg) (v : Argument) (fault : Fault)
     → i < length ks
     → reading (forgiving_kind q.forgives (get_or ks i k)) (drop end body) ≡ Ok (v, n)
-    → Err fault ≡ made_unless r place v (value_fault q i (get_or ks i k) v)
-    → Err fault ≡ behind_those (all_parsed body birth (take i items))
-    (made_of r place (arguments_at q i (drop i ks) (drop end body)))
+    → Err fault ≡ view_outcome r place v (value_fault q i (get_or ks i k) v)
+    → Err fault ≡ views_prepended (views_of_parsed body birth (take i items))
+    (views_outcome r place (arguments_at q i (drop i ks) (drop end body)))
 parsed-fault r q i end n place birth ks k body items v fault b e f =
     let wrong = refused r place v (value_fault q i (get_or ks i k) v) fault f in
     rw (drop-cons ks i k b, e, wrong) refl
 
 -- no argument is left
 pub parsed-end : (r q : Reader) (i end place birth : ℕ) (ks : List Kind) (body : List ℕ) (items : List ParsedArg)
-    (x : Result (List Both × List ℕ) Fault)
+    (x : Result (List ArgumentView × List ℕ) Fault)
     → i ≡ length ks
-    → behind_those (all_parsed body birth (take i items)) (made_of r place (arguments_at q i (drop i ks) (drop end body)))
+    → views_prepended (views_of_parsed body birth (take i items))
+    (views_outcome r place (arguments_at q i (drop i ks) (drop end body)))
     ≡ x
-    → Ok (all_parsed body birth (take (length ks) items), take (length body - end) (drop end body)) ≡ x
+    → Ok (views_of_parsed body birth (take (length ks) items), take (length body - end) (drop end body)) ≡ x
 parsed-end r q i end place birth ks body items x at e =
     let none : drop i ks ≡ [] = drop_all i ks (omega (arith, at)) in
-    let front = all_parsed body birth (take i items) in
+    let front = views_of_parsed body birth (take i items) in
     let whole : Ok (front ++ [], drop end body) ≡ x = rw none at e in
-    rw (← at, rest-is end body) (ap (λ (l : List Both). Ok (l, drop end body)) (sym (append-nil front)) ∙ whole)
+    rw (← at, rest-is end body) (ap (λ (l : List ArgumentView). Ok (l, drop end body)) (sym (append-nil front)) ∙ whole)
 
 -- ---- all of them
 
-abbrev values_in : List Both → List Argument
+abbrev values_in : List ArgumentView → List Argument
 values_in list = map (λ x. x.0) list
 
-abbrev reports_in : List ℕ → List Both → List Reported
+abbrev reports_in : List ℕ → List ArgumentView → List Reported
 reports_in tokens list = map (λ x. with_token tokens x.1) list
 
 values-parsed : (body : List ℕ) (birth : ℕ) (parsed : List ParsedArg)
-    → values_in (all_parsed body birth parsed) ≡ spelled_in body parsed
+    → values_in (views_of_parsed body birth parsed) ≡ spelled_in body parsed
 values-parsed body birth [] = refl
 values-parsed body birth (p ∷ parsed) = ap (λ (l : List Argument). parsed_argument body p ∷ l)
     (values-parsed body birth parsed)
 
 reports-parsed : (body : List ℕ) (birth : ℕ) (tokens : List ℕ) (parsed : List ParsedArg)
-    → reports_in tokens (all_parsed body birth parsed) ≡ reported_in body birth tokens parsed
+    → reports_in tokens (views_of_parsed body birth parsed) ≡ reported_in body birth tokens parsed
 reports-parsed body birth tokens [] = refl
 reports-parsed body birth tokens (p ∷ parsed) = ap (λ (l : List Reported). reported_of body birth tokens p ∷ l)
     (reports-parsed body birth tokens parsed)
 
-values-of : (r : Reader) (place : ℕ) (values : List Argument) → values_in (all_of r place values) ≡ values
+values-of : (r : Reader) (place : ℕ) (values : List Argument) → values_in (argument_views r place values) ≡ values
 values-of r place [] = refl
 values-of r place (v ∷ values) = ap (λ (l : List Argument). v ∷ l) (values-of r (place_after v place) values)
 
@@ -184,7 +189,7 @@ first-at (t ∷ tokens) zero = refl
 first-at (t ∷ tokens) (suc place) = first-at tokens place
 
 reports-of : (r : Reader) (place : ℕ) (tokens : List ℕ) (values : List Argument)
-    → reports_in tokens (all_of r place values) ≡ reports_of r (drop place tokens) values
+    → reports_in tokens (argument_views r place values) ≡ reports_of r (drop place tokens) values
 reports-of r place tokens [] = refl
 reports-of r place tokens (Int x ∷ values) = ap (λ (l : List Reported). reported_argument r 0 (Int x) ∷ l)
     (reports-of r place tokens values)
@@ -208,7 +213,7 @@ reports-of r place tokens (Fd x ∷ values) =
     (reports-of r (place + 1) tokens values))
 
 are_parsed : (r : Reader) (body : List ℕ) (parsed : List ParsedArg) (values : List Argument)
-    → all_parsed body r.birth parsed ≡ all_of r 0 values → AreParsed r body parsed values
+    → views_of_parsed body r.birth parsed ≡ argument_views r 0 values → AreParsed r body parsed values
 are_parsed r body parsed values e = record {
   spelled = sym (values-parsed body r.birth parsed) ∙ (ap values_in e ∙ values-of r 0 values);
   reported = λ tokens. sym (reports-parsed body r.birth tokens parsed)
@@ -216,22 +221,22 @@ are_parsed r body parsed values e = record {
 }
 
 -- all arguments were parsed
-record AreMade (r : Reader) (list : List Both) (rest : List ℕ)
+record AreMade (r : Reader) (list : List ArgumentView) (rest : List ℕ)
     (x : Result (List Argument × List ℕ) Fault) : Type 0 where
   values : List Argument
   found : x ≡ Ok (values, rest)
-  made : list ≡ all_of r 0 values
+  made : list ≡ argument_views r 0 values
 
-abbrev list_in : List Both → Result (List Both × List ℕ) Fault → List Both
+abbrev list_in : List ArgumentView → Result (List ArgumentView × List ℕ) Fault → List ArgumentView
 list_in list (Err fault) = list
 list_in list (Ok found) = found.0
 
-abbrev rest_in : List ℕ → Result (List Both × List ℕ) Fault → List ℕ
+abbrev rest_in : List ℕ → Result (List ArgumentView × List ℕ) Fault → List ℕ
 rest_in rest (Err fault) = rest
 rest_in rest (Ok found) = found.1
 
-are-made : (r : Reader) (list : List Both) (rest : List ℕ) (x : Result (List Argument × List ℕ) Fault)
-    → Ok (list, rest) ≡ made_of r 0 x → AreMade r list rest x
+are-made : (r : Reader) (list : List ArgumentView) (rest : List ℕ) (x : Result (List Argument × List ℕ) Fault)
+    → Ok (list, rest) ≡ views_outcome r 0 x → AreMade r list rest x
 are-made r list rest (Err fault) e = absurd (cc)
 are-made r list rest (Ok found) e =
     let behind : rest ≡ found.1 = ap (rest_in rest) e in
@@ -239,16 +244,17 @@ are-made r list rest (Ok found) e =
     record { values = found.0; found = λ i. Ok (found.0, back i); made = ap (list_in list) e }
 
 pub parsed_whole : (r q : Reader) (ks : List Kind) (body rest : List ℕ) (parsed : List ParsedArg)
-    → Ok (all_parsed body r.birth parsed, rest) ≡ made_of r 0 (arguments_at q 0 ks body)
+    → Ok (views_of_parsed body r.birth parsed, rest) ≡ views_outcome r 0 (arguments_at q 0 ks body)
     → (Ok (spelled_in body parsed, rest) ≡ arguments_at q 0 ks body) × AreParsed r body parsed (spelled_in body parsed)
 parsed_whole r q ks body rest parsed e =
-    let m = are-made r (all_parsed body r.birth parsed) rest (arguments_at q 0 ks body) e in
+    let m = are-made r (views_of_parsed body r.birth parsed) rest (arguments_at q 0 ks body) e in
     let p = are_parsed r body parsed m.values m.made in (
       (λ i. Ok (p.spelled i, rest)) ∙ sym m.found,
       record { spelled = refl; reported = λ tokens. p.reported tokens ∙ ap (reports_of r tokens) (sym p.spelled) },
     )
 
-pub parsed_err : (r : Reader) (fault : Fault) (x : Result (List Argument × List ℕ) Fault) → Err fault ≡ made_of r 0 x
+pub parsed_err : (r : Reader) (fault : Fault) (x : Result (List Argument × List ℕ) Fault)
+    → Err fault ≡ views_outcome r 0 x
     → Err fault ≡ x
 parsed_err r fault (Err other) e = let same : fault ≡ other = cc in λ i. Err (same i)
 parsed_err r fault (Ok found) e = absurd (cc)

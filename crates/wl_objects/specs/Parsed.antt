@@ -98,63 +98,64 @@ pub record AreParsed (r : Reader) (body : List ℕ) (parsed : List ParsedArg) (v
 -- ---- the result of parsing
 
 -- an argument as spelled, and as reported
-abbrev pub Both : Type 0
-Both = Argument × Reported
+abbrev pub ArgumentView : Type 0
+ArgumentView = Argument × Reported
 
-abbrev pub both_of : List ℕ → ℕ → ParsedArg → Both
-both_of body birth parsed = (parsed_argument body parsed, placed_of body birth parsed)
+abbrev pub view_of_parsed : List ℕ → ℕ → ParsedArg → ArgumentView
+view_of_parsed body birth parsed = (parsed_argument body parsed, placed_of body birth parsed)
 
-abbrev pub all_parsed : List ℕ → ℕ → List ParsedArg → List Both
-all_parsed body birth parsed = map (both_of body birth) parsed
+abbrev pub views_of_parsed : List ℕ → ℕ → List ParsedArg → List ArgumentView
+views_of_parsed body birth parsed = map (view_of_parsed body birth) parsed
 
 -- the reader's view of an argument with `place` descriptors before it
-abbrev pub both : Reader → ℕ → Argument → Both
-both r place value = (value, reported_argument r place value)
+abbrev pub argument_view : Reader → ℕ → Argument → ArgumentView
+argument_view r place value = (value, reported_argument r place value)
 
 -- how many descriptors come before what follows an argument
 abbrev pub place_after : Argument → ℕ → ℕ
 place_after value place = if is_descriptor value then place + 1 else place
 
-abbrev pub all_of : Reader → ℕ → List Argument → List Both
-all_of r place [] = []
-all_of r place (value ∷ values) = both r place value ∷ all_of r (place_after value place) values
+abbrev pub argument_views : Reader → ℕ → List Argument → List ArgumentView
+argument_views r place [] = []
+argument_views r place (value ∷ values) =
+    argument_view r place value ∷ argument_views r (place_after value place) values
 
 -- the reader's view of arguments that were read, and the bytes after them
-abbrev pub made_of : Reader → ℕ → Result (List Argument × List ℕ) Fault
-    → Result (List Both × List ℕ) Fault
-made_of r place (Err fault) = Err fault
-made_of r place (Ok found) = Ok (all_of r place found.0, found.1)
+abbrev pub views_outcome : Reader → ℕ → Result (List Argument × List ℕ) Fault
+    → Result (List ArgumentView × List ℕ) Fault
+views_outcome r place (Err fault) = Err fault
+views_outcome r place (Ok found) = Ok (argument_views r place found.0, found.1)
 
-abbrev pub made_unless : Reader → ℕ → Argument → Option Fault → Result Both Fault
-made_unless r place value None = Ok (both r place value)
-made_unless r place value (Some fault) = Err fault
+abbrev pub view_outcome : Reader → ℕ → Argument → Option Fault → Result ArgumentView Fault
+view_outcome r place value None = Ok (argument_view r place value)
+view_outcome r place value (Some fault) = Err fault
 
 -- the parsed records as spelled, and the bytes found after them
-abbrev pub whole_in : List ℕ → List ParsedArg → Result (Bor (List ℕ)) Fault
+abbrev pub parsed_body_outcome : List ℕ → List ParsedArg → Result (Bor (List ℕ)) Fault
     → Result (List Argument × List ℕ) Fault
-whole_in body parsed (Err fault) = Err fault
-whole_in body parsed (Ok rest) = Ok (spelled_in body parsed, rest.now)
+parsed_body_outcome body parsed (Err fault) = Err fault
+parsed_body_outcome body parsed (Ok rest) = Ok (spelled_in body parsed, rest.now)
 
-abbrev pub parsed_one : List ℕ → ℕ → Result ParsedArg Fault → Result Both Fault
-parsed_one body birth (Err fault) = Err fault
-parsed_one body birth (Ok parsed) = Ok (both_of body birth parsed)
+abbrev pub parsed_view_outcome : List ℕ → ℕ → Result ParsedArg Fault → Result ArgumentView Fault
+parsed_view_outcome body birth (Err fault) = Err fault
+parsed_view_outcome body birth (Ok parsed) = Ok (view_of_parsed body birth parsed)
 
 -- more arguments, after others
-abbrev pub behind_those : List Both → Result (List Both × List ℕ) Fault
-    → Result (List Both × List ℕ) Fault
-behind_those front (Err fault) = Err fault
-behind_those front (Ok found) = Ok (front ++ found.0, found.1)
+abbrev pub views_prepended : List ArgumentView → Result (List ArgumentView × List ℕ) Fault
+    → Result (List ArgumentView × List ℕ) Fault
+views_prepended front (Err fault) = Err fault
+views_prepended front (Ok found) = Ok (front ++ found.0, found.1)
 
 -- the bytes of a text follow the first word
-pub record LiesBehind (bytes text : List ℕ) : Type 0 where
+pub record BytesFollowLength (bytes text : List ℕ) : Type 0 where
   pub same : text ≡ take (length text) (drop 4 bytes)
   pub fits : length text < 2 ^ 32
 
-abbrev pub Lies : List ℕ → Argument → Type 0
-Lies bytes (Str (Some text)) = LiesBehind bytes text
-Lies bytes (NewNamed iface version id) = LiesBehind bytes iface
-Lies bytes (Array array) = LiesBehind bytes array
-Lies bytes _ = Unit {0}
+abbrev pub TextLiesBehind : List ℕ → Argument → Type 0
+TextLiesBehind bytes (Str (Some text)) = BytesFollowLength bytes text
+TextLiesBehind bytes (NewNamed iface version id) = BytesFollowLength bytes iface
+TextLiesBehind bytes (Array array) = BytesFollowLength bytes array
+TextLiesBehind bytes _ = Unit {0}
 
 -- ---- what is borrowed
 

@@ -5,9 +5,10 @@ ghost use Rattle.wl_wire.specs.Argument.{Obj, lent};
 ghost use Rattle.wl_sigs.specs.Tables.{max_args};
 ghost use Rattle.wl_objects.specs.Reading.{arguments_at, forgiving, named, value_fault};
 ghost use Rattle.wl_wire.specs.Reading.{reading};
-ghost use Rattle.wl_objects.specs.Parsed.{AreParsed, Lies, is_number, parsed_argument, made_unless};
-ghost use Rattle.wl_objects.specs.Parsed.{parsed_object, parsed_one, body_part, placed_of};
-ghost use Rattle.wl_objects.specs.Parsed.{spelled_in, whole_in};
+ghost use Rattle.wl_objects.specs.Parsed.{AreParsed, TextLiesBehind, is_number};
+ghost use Rattle.wl_objects.specs.Parsed.{parsed_argument, view_outcome};
+ghost use Rattle.wl_objects.specs.Parsed.{parsed_object, parsed_view_outcome, body_part, placed_of};
+ghost use Rattle.wl_objects.specs.Parsed.{spelled_in, parsed_body_outcome};
 
 use crate::args::in_state;
 use crate::argument::Named;
@@ -193,7 +194,7 @@ impl<'a, L: Lookup> Parser<'a, L> {
     #[inline(always)]
     pub fn parse_body(&self, kinds: &[Kind], args: &mut ParsedArgs) -> Result<&'a [u8], Fault>
         requires few { length kinds.now ≤ max_args }
-        ensures answer { whole_in self.now.body.now args.new result
+        ensures answer { parsed_body_outcome self.now.body.now args.new result
             ≡ arguments_at (forgiving self.now.forgives (L.reader self.now.lookup.now)) 0 kinds.now
             self.now.body.now }
         ensures args { IfOk result
@@ -241,9 +242,9 @@ impl<'a, L: Lookup> Parser<'a, L> {
         value: ValueRef<'_>,
     ) -> Result<ParsedArg, Fault>
         requires start { start ≤ length self.now.body.now }
-        requires lies { Lies (drop start self.now.body.now) (lent value) }
-        ensures { parsed_one self.now.body.now (L.reader self.now.lookup.now).birth result
-            ≡ made_unless (L.reader self.now.lookup.now) descriptors (lent value.entry)
+        requires lies { TextLiesBehind (drop start self.now.body.now) (lent value) }
+        ensures { parsed_view_outcome self.now.body.now (L.reader self.now.lookup.now).birth result
+            ≡ view_outcome (L.reader self.now.lookup.now) descriptors (lent value.entry)
             (value_fault (forgiving self.now.forgives (L.reader self.now.lookup.now)) place kind
             (lent value.entry)) }
     {
@@ -283,8 +284,8 @@ impl<'a, L: Lookup> Parser<'a, L> {
     /// Judges an object argument, and keeps the object's entry.
     fn resolve_object(&self, place: usize, kind: Kind, id: u32) -> Result<ParsedArg, Fault>
         ensures { (descriptors : ℕ)
-            → parsed_one self.now.body.now (L.reader self.now.lookup.now).birth result
-            ≡ made_unless (L.reader self.now.lookup.now) descriptors (Obj id)
+            → parsed_view_outcome self.now.body.now (L.reader self.now.lookup.now).birth result
+            ≡ view_outcome (L.reader self.now.lookup.now) descriptors (Obj id)
             (value_fault (forgiving self.now.forgives (L.reader self.now.lookup.now)) place kind
             (Obj id)) }
     {

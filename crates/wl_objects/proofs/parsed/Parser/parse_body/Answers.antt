@@ -6,7 +6,8 @@ use Rattle.std.proofs.lemmas.List.{length-set, length-drop}
 use Rattle.wl_wire.specs.declared.kind.Kind.TheVariants.{Int}
 use Rattle.wl_wire.specs.Argument.{lent}
 use Rattle.wl_objects.specs.Reading.{arguments_at, forgiving, forgiving_kind}
-use Rattle.wl_objects.specs.Parsed.{Lies, all_parsed, behind_those, made_of, parsed_argument, place_after}
+use Rattle.wl_objects.specs.Parsed.{TextLiesBehind, views_of_parsed, views_prepended, views_outcome}
+use Rattle.wl_objects.specs.Parsed.{parsed_argument, place_after}
 use Rattle.wl_objects.proofs.ValueBytes.{read-lies}
 use Rattle.wl_objects.proofs.ParsedLemmas.{rest-is, read-at, number-kept, number-place}
 use Rattle.wl_objects.proofs.ParsedLemmas.{after-fd, after-other, after-least, parsed-next, parsed-fault}
@@ -22,7 +23,7 @@ invariant_of-args-in_err-args-inside g c = c.kinds.invariant.held
 
 pub resolve-requires-clause-lies : goal.resolve-requires-clause-lies
 resolve-requires-clause-lies g c =
-    subst (λ (b : List ℕ). Lies b (lent c.in-Ok.found.0)) (rest-is c.kinds.end c.args.self.now.body.now)
+    subst (λ (b : List ℕ). TextLiesBehind b (lent c.in-Ok.found.0)) (rest-is c.kinds.end c.args.self.now.body.now)
     (read-lies c.match-kind.read_as (lent c.in-Ok.found.0) c.in-Ok.found.1 _ c.in-Ok.ensures.found.1)
 
 pub returns-in_err-args-inside-clause-answer : goal.returns-in_err-args-inside-clause-answer
@@ -55,8 +56,8 @@ kinds-preserved-in-Some g c =
     let same : c.match-kind.read_as ≡ forgiving_kind c.args.self.now.forgives kind = search rules in
     let room : i < length items = omega (arith, c.kinds.invariant.room, c.kinds-test.true, c.requires.few) in
     record {
-      made = ap (λ (d : ℕ). behind_those (all_parsed body r.birth (take (i + 1) (set items i number)))
-          (made_of r d (arguments_at q (i + 1) (drop (i + 1) list) (drop end body))))
+      made = ap (λ (d : ℕ). views_prepended (views_of_parsed body r.birth (take (i + 1) (set items i number)))
+          (views_outcome r d (arguments_at q (i + 1) (drop (i + 1) list) (drop end body))))
           (sym (number-place number c.kinds.descriptors c.in-Some.ensures.number))
           ∙ parsed-next r q i c.kinds.end c.in-Some.len c.kinds.descriptors r.birth list Int body items number
           (parsed_argument [] number) c.kinds-test.true room
