@@ -32,7 +32,7 @@ use Rattle.wl_client.specs.Reports.{is_delete_event, deleted_id, error_report, d
 use Rattle.wl_client.specs.Reports.{plain_report, event_opens, opens_row}
 use Rattle.wl_client.specs.Steps.{CanOpen, end_with, made_by_found, report_by}
 use Rattle.wl_connection.proofs.ReceivedMessage.{is_received}
-use Rattle.wl_client.specs.Reading.{CanTake, IsPending, IsPendingOf, IsAhead, IsNextEvent, front_report}
+use Rattle.wl_client.specs.Reading.{CanApply, IsPending, IsPendingOf, IsAhead, IsNextEvent, front_report}
 use Rattle.wl_client.specs.Outlines.{outlined}
 use Rattle.wl_client.proofs.Makings.{can_open, event_makes_none}
 use Rattle.wl_connection.proofs.FoundStays.{IsFound, is_found, reported_own}
@@ -80,7 +80,7 @@ ahead core args f event h s =
     let opens : OpensHolding (IsMadeByEvent core.tables) new = opens_made core.tables v m.entry.iface.0 header.opcode
     m.entry.version m.signature m.values new p.signature refl in
     record {
-      can_take = record {
+      can_apply = record {
         message = z.0 ∙ ap Whole (sym s.bytes);
         few = omega (arith, few, descriptors-le m.signature.kinds, s.tokens_taken);
         waiting = omega (arith, p.tokens, s.tokens_taken);
@@ -130,7 +130,7 @@ next_if_some core args (Some event) lives s =
 
 -- the body and the tokens of the first event, as the code read them
 pub front_told : (core inner : Core) (args held : List ParsedArg) (event : PendingEvent) (body tokens : List ℕ)
-    → inner ≡ core → held ≡ args → CanTake core event
+    → inner ≡ core → held ≡ args → CanApply core event
     → body ≡ drop 8 (take (message_size (in_front inner.inbox)) inner.inbox.bytes) → length tokens ≡ 20
     → ((place : ℕ) → place < event.tokens → place < 20 → get_or tokens place 0 ≡ get_or inner.inbox.tokens place 0)
     → outlined body held (take event.tokens tokens) event.outline ≡ front_report core args event

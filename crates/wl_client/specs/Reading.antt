@@ -44,10 +44,10 @@ abbrev pub IsPendingOf : List Interface → Objects → List ℕ → List Parsed
 IsPendingOf tables view body args f (Err fault) = ⊥
 IsPendingOf tables view body args f (Ok event) = IsPending tables view body args f event
 
--- The first event can be taken: its message is whole, its tokens wait, what it makes can be opened
--- and is destroyed by no event, what it then changes exists, and what it is about exists. It makes
--- something only if the tables have such messages.
-pub record CanTake (core : Core) (event : PendingEvent) : Type 0 where
+-- The first event can be applied: its message is whole, its tokens wait, what it makes can be
+-- opened and is destroyed by no event, what it then changes exists, and what it is about exists. It
+-- makes something only if the tables have such messages.
+pub record CanApply (core : Core) (event : PendingEvent) : Type 0 where
   pub message : in_front core.inbox ≡ Whole event.size
   pub few : event.tokens ≤ max_args
   pub waiting : event.tokens ≤ length core.inbox.tokens
@@ -67,7 +67,7 @@ front_report core args event =
 -- the first message, its event, and its report with the tokens that it takes
 pub record IsAhead (core : Core) (args : List ParsedArg) (f : Found) (event : PendingEvent)
     : Type 0 where
-  pub can_take : CanTake core event
+  pub can_apply : CanApply core event
   pub is_pending : IsPending core.tables core.view (body_of core f.size) args f event
   pub is_reported : front_report core args event ≡ report core f
 
@@ -78,7 +78,7 @@ pub record IsNextEvent (core : Core) (args : List ParsedArg) (event : PendingEve
   pub is_found : found core event_side ≡ Ok (Some message)
   pub ahead : IsAhead core args message event
 
--- the report of an event whose message the end took last
-abbrev pub taken_report : Core → List ParsedArg → PendingEvent → Report
-taken_report core args event =
+-- the report of an event whose message the end applied last
+abbrev pub applied_report : Core → List ParsedArg → PendingEvent → Report
+applied_report core args event =
     outlined core.inbox.last args core.inbox.last_tokens event.outline

@@ -45,7 +45,7 @@ pub(crate) enum Outline {
 }
 
 impl Outline {
-    /// The report of the message that was taken last, borrowing from the end that took it.
+    /// The report of the message that was applied last, borrowing from the end.
     pub(crate) fn lend<'a, T: Table>(&self, end: &'a Endpoint<'_, T>) -> Incoming<'a>
         ensures report { lent_report result ≡ outlined end.now.core.inbox.last end.now.args
             end.now.core.inbox.last_tokens self.now }

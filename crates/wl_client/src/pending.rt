@@ -1,10 +1,10 @@
-//! The message at the front of a client's inbox: an event that was read and not yet taken.
+//! The message at the front of a client's inbox: an event that was read and not yet applied.
 
 use crate::changes::Change;
 use crate::outline::Outline;
 use wl_objects::Entry;
 
-/// An event that was read and not yet taken: its report and its changes. It borrows nothing; its
+/// An event that was read and not yet applied: its report and its changes. It borrows nothing; its
 /// arguments are at the end that read it.
 #[derive(Clone, Copy, Debug)]
 pub(crate) struct PendingEvent {

@@ -81,7 +81,7 @@ impl<T: Table> Role<T> for ClientRole<T::Alloc> {
     ghost use Rattle.wl_client.specs.Seen.{report_of};
     ghost use Rattle.wl_client.specs.Steps.{client_state};
     ghost use Rattle.wl_client.specs.Reading.{IsNextEvent, front_report};
-    ghost use Rattle.wl_client.specs.Reading.{taken_report};
+    ghost use Rattle.wl_client.specs.Reading.{applied_report};
 
     type Owned = OwnedIncoming<T::Alloc>;
 
@@ -97,7 +97,7 @@ impl<T: Table> Role<T> for ClientRole<T::Alloc> {
 
     ghost fronts = { front_report };
 
-    ghost tells = { taken_report };
+    ghost tells = { applied_report };
 
     ghost IsSound = { λ core kept. IsSoundClient core };
 
@@ -132,7 +132,7 @@ impl<T: Table> Role<T> for ClientRole<T::Alloc> {
         event.outline.to_owned(alloc, &end.args, body, tokens)
     }
 
-    fn take(&mut self, end: &mut Endpoint<'_, T>, event: &PendingEvent) -> Result<(), AllocError> {
+    fn apply(&mut self, end: &mut Endpoint<'_, T>, event: &PendingEvent) -> Result<(), AllocError> {
         match event.change.made {
             None => {
                 self.made = None;

@@ -64,7 +64,7 @@ takes message = descriptors message.signature.kinds
 abbrev pub own_tokens : Core → Received → List ℕ
 own_tokens core message = take (takes message) core.inbox.tokens
 
--- the end after the first message was taken
+-- the end after the first message was removed
 abbrev pub past_found : Core → Found → Core
 past_found core f = past core f.size (takes f.message)
 

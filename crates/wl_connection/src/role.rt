@@ -21,8 +21,8 @@ use wl_wire::Header;
 
 /// What messages mean to an end.
 pub trait Meaning<T: Table>: Drop {
-    /// A message that was found and not yet taken. It borrows nothing: its arguments are at the end
-    /// that read it.
+    /// A message that was found and not yet applied. It borrows nothing: its arguments are at the
+    /// end that read it.
     type Pending: Copy;
 
     /// The side whose messages arrive.
@@ -48,7 +48,7 @@ pub trait Meaning<T: Table>: Drop {
             (headed header (received_of message.now)) result };
 }
 
-/// The role of an end: what it keeps besides its endpoint, and how it finds, copies and takes a
+/// The role of an end: what it keeps besides its endpoint, and how it finds, copies and applies a
 /// message.
 pub trait Role<T: Table>: Meaning<T> {
     /// The report of a message, owned.
@@ -66,7 +66,7 @@ pub trait Role<T: Table>: Meaning<T> {
 
     ghost owned: { Self.Owned → Report };
 
-    // What is reported about a message at the front, and about the message that was taken last.
+    // What is reported about a message at the front, and about the message that was applied last.
     ghost fronts: { CoreState → List ParsedArg → Self.Pending → Report };
 
     ghost tells: { CoreState → List ParsedArg → Self.Pending → Report };
@@ -74,10 +74,10 @@ pub trait Role<T: Table>: Meaning<T> {
     // What holds between calls.
     ghost IsSound: { CoreState → Self → Type 0 };
 
-    // This message is at the front and can be taken.
+    // This message is at the front and can be applied.
     ghost IsAhead: { CoreState → Self → List ParsedArg → Self.Pending → Type 0 };
 
-    /// The first message, if it is whole and can be taken. The end fails with a fault; otherwise
+    /// The first message, if it is whole and can be applied. The end fails with a fault; otherwise
     /// only the parsed arguments change.
     fn find(&self, end: &mut Endpoint<'_, T>) -> Result<Option<Self::Pending>, NextError>
         requires sound { IsSound end.old.core self.now }
@@ -105,9 +105,13 @@ pub trait Role<T: Table>: Meaning<T> {
         ensures wants { OnErr result
             (role.wants (fronts end.old.core end.old.args pending.now) ≡ true) };
 
-    /// Takes a message that was found, and makes its changes. If there is no memory for an object
-    /// that it makes, nothing changes.
-    fn take(&mut self, end: &mut Endpoint<'_, T>, pending: &Self::Pending) -> Result<(), AllocError>
+    /// Applies a message that was found: removes it from the inbox, and makes its changes. If there
+    /// is no memory for an object that it makes, nothing changes.
+    fn apply(
+        &mut self,
+        end: &mut Endpoint<'_, T>,
+        pending: &Self::Pending,
+    ) -> Result<(), AllocError>
         requires sound { IsSound end.old.core self.old }
         requires ahead { IsAhead end.old.core self.old end.old.args pending.now }
         ensures args { end.new.args ≡ end.old.args }
@@ -121,8 +125,8 @@ pub trait Role<T: Table>: Meaning<T> {
         ensures sound { IsSound end.new.core self.new };
 }
 
-/// Reads the next message at an end, and takes it. Its report is borrowed from the message that was
-/// taken last.
+/// Reads the next message at an end, and applies it. Its report is borrowed from the message that
+/// was applied last.
 pub fn read<T: Table, R: Role<T>>(
     end: &mut Endpoint<'_, T>,
     role: &mut R,
@@ -135,7 +139,7 @@ pub fn read<T: Table, R: Role<T>>(
         (role_after R.role (R.state end.old.core role.old))
         (read_as (R.tells end.new.core end.new.args) result) }
     ensures sound { R.IsSound end.new.core role.new }
-    // A message that was taken was at the front; one for which there was no memory still is.
+    // A message that was applied was at the front; one for which there was no memory still is.
     ensures ahead { IfOk result (λ read. IfSome read
         (λ pending. R.IsAhead end.old.core role.old end.new.args pending)) }
     ensures refused { result ≡ Err NextError.Memory
@@ -145,13 +149,13 @@ pub fn read<T: Table, R: Role<T>>(
         Some(pending) => pending,
         None => return Ok(None),
     };
-    match role.take(end, &pending) {
+    match role.apply(end, &pending) {
         Ok(()) => Ok(Some(pending)),
         Err(_) => Err(NextError::Memory),
     }
 }
 
-/// Reads the next message at an end, copies its report, and takes it.
+/// Reads the next message at an end, copies its report, and applies it.
 pub fn read_owned<T: Table, R: Role<T>>(
     end: &mut Endpoint<'_, T>,
     role: &mut R,
@@ -180,7 +184,7 @@ pub fn read_owned<T: Table, R: Role<T>>(
         Ok(report) => report,
         Err(_) => return Err(NextError::Memory),
     };
-    match role.take(end, &pending) {
+    match role.apply(end, &pending) {
         Ok(()) => Ok(Some((report, pending))),
         Err(_) => Err(NextError::Memory),
     }

@@ -34,7 +34,7 @@ use Rattle.wl_server.specs.Requests.{Report, report, request, made_by_request, i
 use Rattle.wl_server.specs.Requests.{after_next, server_role, state_past}
 use Rattle.wl_server.specs.Requests.{registries_after, needs_memory, request_opens, IsServerNext}
 use Rattle.wl_server.specs.declared.pending.PendingRequest.{PendingRequest}
-use Rattle.wl_server.specs.Steps.{CanTake, Step, ended_by_request, pending_in, outlined, taken_report}
+use Rattle.wl_server.specs.Steps.{CanApply, Step, ended_by_request, pending_in, outlined, applied_report}
 use Rattle.wl_server.specs.Steps.{step_of, step_found, front_step, checked_front, after_front}
 use Rattle.wl_server.specs.Steps.{after_step, report_of_step, core_by, core_without, front_report}
 use Rattle.wl_server.specs.Steps.{registries_by, server_state, whole_state}
@@ -206,16 +206,16 @@ inbox-taken core step = inbox-without step.ended (past
 
 -- ---- the borrowed report
 
-pub taken-is : (core now : Core) (args : List ParsedArg) (p : PendingRequest)
-    → now ≡ core_by core (pending_in core args p) → taken_report now args p ≡ (pending_in core args p).report
-taken-is core now args p e = ap (λ (k : Core). taken_report k args p) e
+pub applied-is : (core now : Core) (args : List ParsedArg) (p : PendingRequest)
+    → now ≡ core_by core (pending_in core args p) → applied_report now args p ≡ (pending_in core args p).report
+applied-is core now args p e = ap (λ (k : Core). applied_report k args p) e
     ∙ ap (λ (b : Arrived). outlined b.last args b.last_tokens p.outline) (inbox-taken core (pending_in core args p))
 
 -- ---- the owned report
 
 -- the body and the tokens of the first request, as the code read them
 pub front-told : (core inner : Core) (args held : List ParsedArg) (p : PendingRequest) (body tokens : List ℕ)
-    → inner ≡ core → held ≡ args → CanTake core (pending_in core args p)
+    → inner ≡ core → held ≡ args → CanApply core (pending_in core args p)
     → body ≡ drop 8 (take (message_size (in_front inner.inbox)) inner.inbox.bytes) → length tokens ≡ 20
     → ((place : ℕ) → place < p.tokens → place < 20 → get_or tokens place 0 ≡ get_or inner.inbox.tokens place 0)
     → outlined body held (take p.tokens tokens) p.outline ≡ (pending_in core args p).report
@@ -226,8 +226,8 @@ front-told core inner args held p body tokens same kept can b all first =
 
 -- ---- a message that was taken
 
-pub taken-left : (core now : Core) (globals : List Global) (rs ms : List Registry) (step : Step)
+pub applied-left : (core now : Core) (globals : List Global) (rs ms : List Registry) (step : Step)
     → Ok (Some step) ≡ checked_front (whole_state core globals rs) → now ≡ core_by core step
     → ms ≡ registries_by core rs step → whole_state now globals ms ≡ after_next (whole_state core globals rs)
-taken-left core now globals rs ms step e n m = (λ i. whole_state (n i) globals (m i))
+applied-left core now globals rs ms step e n m = (λ i. whole_state (n i) globals (m i))
     ∙ after-is (whole_state core globals rs) (Ok (Some step)) e

@@ -48,7 +48,7 @@ use Rattle.wl_server.specs.State.{Global}
 use Rattle.wl_server.specs.Requests.{Report, made_by_request, report, request, unless_bad_bind, reported_object}
 use Rattle.wl_server.specs.Requests.{ended_object, is_out_full, owes_delete_id}
 use Rattle.wl_server.specs.Steps.{Step, step_of, step_found, front_step, server_state, pending_in}
-use Rattle.wl_server.specs.Steps.{pending_of, ended_by_request, report_with, HasFreeId, HasRow, CanTake, IsEndedBy}
+use Rattle.wl_server.specs.Steps.{pending_of, ended_by_request, report_with, HasFreeId, HasRow, CanApply, IsEndedBy}
 use Rattle.wl_server.specs.Steps.{IsPendingOf, is_bad_bind, needs_delete_id}
 
 -- ---- the result of reading
@@ -238,10 +238,10 @@ has_free : (view : Objects) (o : Option NewObject)
 has_free view None h = tt
 has_free view (Some new) h = h new refl
 
-can_take_found : (core : Core) (f : Found) → Valid core.tables → HasDisplay core.view
+can_apply_found : (core : Core) (f : Found) → Valid core.tables → HasDisplay core.view
     → found core request_side ≡ Ok (Some f) → is_out_full core f ≡ false
-    → CanTake core (step_of core f)
-can_take_found core f v d e fits =
+    → CanApply core (step_of core f)
+can_apply_found core f v d e fits =
     let z = read_at_front core request_side f e in
     let r = received_first core f e in
     let m = f.message in
@@ -342,13 +342,13 @@ request_told core globals args p s fits =
     ∙ sym (front_ok core globals s.0 s.1.is_found s.2.0
     (full_by core args s.0 p.change.ended false s.1 s.2.1.ended fits))
 
-pub can_take_told : (core : Core) (globals : List Global) (args : List ParsedArg) (p : PendingRequest)
+pub can_apply_told : (core : Core) (globals : List Global) (args : List ParsedArg) (p : PendingRequest)
     → HasDisplay core.view
     → IsFrontMeaning request_side (IsPendingOf globals) core args (Ok (Some p)) → is_full_for core p ≡ false
-    → CanTake core (pending_in core args p)
-can_take_told core globals args p d s fits =
-    subst (CanTake core) (sym (step_told core globals args p s))
-    (can_take_found core s.0 s.1.valid d s.1.is_found
+    → CanApply core (pending_in core args p)
+can_apply_told core globals args p d s fits =
+    subst (CanApply core) (sym (step_told core globals args p s))
+    (can_apply_found core s.0 s.1.valid d s.1.is_found
     (full_by core args s.0 p.change.ended false s.1 s.2.1.ended fits))
 
 pub entry_told : (core : Core) (globals : List Global) (args : List ParsedArg) (p : PendingRequest)

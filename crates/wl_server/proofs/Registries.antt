@@ -28,7 +28,8 @@ use Rattle.wl_object_map.specs.View as table
 use Rattle.wl_object_map.specs.Ranges.{is_of_server}
 use Rattle.wl_object_map.specs.ObjectsLaws.{look-opening, look-opened_at, look-closed, look-opened_by_client}
 use Rattle.wl_object_map.specs.ObjectsLaws.{row-opened_by_client, row-opened_at, row-closed, births-closed}
-use Rattle.wl_object_map.specs.ObjectsLaws.{births-rise, changed_server, in_range-server, next_of_server, table_id-wire_id}
+use Rattle.wl_object_map.specs.ObjectsLaws.{births-rise, changed_server, in_range-server, next_of_server}
+use Rattle.wl_object_map.specs.ObjectsLaws.{table_id-wire_id}
 use Rattle.wl_object_map.specs.Views.{eqb_is, cases_row, some_is, free_is, free_or_next-next_id}
 use Rattle.wl_objects.specs.declared.error.SendError.{SendError}
 use Rattle.wl_objects.specs.declared.error.SendError.TheVariants as refusals
@@ -46,7 +47,7 @@ use Rattle.wl_sigs.specs.Rules.{is_ended_by_event}
 use Rattle.wl_server.specs.Calls.{drop_at, drop_refusal, after_drop}
 use Rattle.wl_server.specs.Announcing.{Due, marked_in, all_marked}
 use Rattle.wl_connection.proofs.Ends.{no_event}
-use Rattle.wl_server.specs.Steps.{Step, CanEnd, core_without, core_by, registries_by, registries_without, CanTake}
+use Rattle.wl_server.specs.Steps.{Step, CanEnd, core_without, core_by, registries_by, registries_without, CanApply}
 use Rattle.wl_server.specs.Tellings.{IsAnnounced}
 use Rattle.wl_server.specs.declared.announce.Announced.{Announced}
 use Rattle.wl_server.proofs.OneObject.{one-same, not-one}
@@ -257,7 +258,7 @@ pub births_left : (core : Core) (object : Object)
 births_left core object =
     ap (λ (v : Objects). v.client.births) (view_without core object) ∙ births-closed core.view object.id
 
-has_step : (core : Core) (rs : List Registry) (step : Step) → CanTake core step → IsFreshId core.view step.made
+has_step : (core : Core) (rs : List Registry) (step : Step) → CanApply core step → IsFreshId core.view step.made
     → HasRegistries core.view rs → HasRegistries (core_by core step).view (registries_by core rs step)
 has_step core rs step can f h = by_ended step.ended can.ended
   where
@@ -274,7 +275,7 @@ has_step core rs step can f h = by_ended step.ended can.ended
         (row_kept core.view step.made object.id is.entry f is.row) is.birth (has_opened core rs step.made f h))
 
 -- the same, with equations for the end and the list
-pub has_now : (core now : Core) (rs ms : List Registry) (step : Step) → CanTake core step → now ≡ core_by core step
+pub has_now : (core now : Core) (rs ms : List Registry) (step : Step) → CanApply core step → now ≡ core_by core step
     → ms ≡ registries_by core rs step
     → IsFreshId core.view step.made → HasRegistries core.view rs → HasRegistries now.view ms
 has_now core now rs ms step can c m f h =

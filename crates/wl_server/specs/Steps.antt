@@ -67,7 +67,7 @@ step_of core f = record {
   ended = ended_by_request f.message.signature.destroys (report core f);
 }
 
--- ---- a request that was read and not yet taken
+-- ---- a request that was read and not yet applied
 
 -- the report that an outline gives with a message's body, its parsed arguments, and its tokens
 abbrev pub outlined : List ℕ → List ParsedArg → List ℕ → Outline → Report
@@ -139,9 +139,9 @@ pendings_in core args (Err why) = Err why
 pendings_in core args (Ok None) = Ok None
 pendings_in core args (Ok (Some p)) = Ok (Some (pending_in core args p))
 
--- the report of a request whose message the end took last
-abbrev pub taken_report : Core → List ParsedArg → PendingRequest → Report
-taken_report core args p = outlined core.inbox.last args core.inbox.last_tokens p.outline
+-- the report of a request whose message the end applied last
+abbrev pub applied_report : Core → List ParsedArg → PendingRequest → Report
+applied_report core args p = outlined core.inbox.last args core.inbox.last_tokens p.outline
 
 -- ---- what is at the front
 
@@ -183,9 +183,9 @@ HasFreeId view None = Unit {0}
 HasFreeId view (Some m) = IsTrue (free_or_next view.client m.id)
     × IsTrue (has_room view.client m.id)
 
--- A step can be taken: its message is at the front and its tokens wait, the next object gets its
+-- A step can be applied: its message is at the front and its tokens wait, the next object gets its
 -- birth, what it makes can be opened, and an object that it destroys can be closed.
-pub record CanTake (core : Core) (step : Step) : Type 0 where
+pub record CanApply (core : Core) (step : Step) : Type 0 where
   pub whole : in_front core.inbox ≡ Whole step.size
   pub tokens : step.tokens ≤ length core.inbox.tokens
   pub few : step.tokens ≤ max_args
@@ -201,7 +201,7 @@ checked_front state = if state.core.failed then Err errors.Failed else front_ste
 pub record IsNextRequest (state : State) (args : List ParsedArg) (p : PendingRequest)
     : Type 0 where
   pub step : Ok (Some (pending_in state.core args p)) ≡ checked_front state
-  pub can_take : CanTake state.core (pending_in state.core args p)
+  pub can_apply : CanApply state.core (pending_in state.core args p)
   pub entry : look state.core.view p.outline.target.id ≡ Some p.entry
 
 -- ---- the state after the reading

@@ -19,7 +19,7 @@ pub(crate) struct Outline {
 }
 
 impl Outline {
-    /// The report of the request that was taken last, borrowing from the end that took it.
+    /// The report of the request that was applied last, borrowing from the end.
     pub(crate) fn lend<'a, T: Table>(&self, end: &'a Endpoint<'_, T>) -> Request<'a>
         ensures { lent_report result ≡ outlined end.now.core.inbox.last end.now.args
             end.now.core.inbox.last_tokens self.now }

@@ -1,9 +1,9 @@
-//! The message at the front of a server's inbox: a request that was read and not yet taken.
+//! The message at the front of a server's inbox: a request that was read and not yet applied.
 use crate::changes::Change;
 use crate::outline::Outline;
 use wl_objects::Entry;
 
-/// A request that was read and not yet taken: its report and its changes. It borrows nothing; its
+/// A request that was read and not yet applied: its report and its changes. It borrows nothing; its
 /// arguments are at the end that read it.
 #[derive(Clone, Copy, Debug)]
 pub(crate) struct PendingRequest {

@@ -2,7 +2,7 @@
 ghost use Rattle.std.specs.Prelude.{◌≡◌, ◌&&◌, Some, IfOk, IfSome, nat_lt};
 ghost use Rattle.wl_object_map.specs.Objects.{look};
 ghost use Rattle.wl_connection.specs.Sending.{delete_id_len};
-ghost use Rattle.wl_server.specs.Steps.{CanTake, front_step, needs_delete_id, pending_in};
+ghost use Rattle.wl_server.specs.Steps.{CanApply, front_step, needs_delete_id, pending_in};
 ghost use Rattle.wl_server.specs.Steps.{pendings_in, server_state};
 
 use crate::bind::is_bad_bind;
@@ -69,7 +69,7 @@ impl<T: Table> Role<T> for ServerRole<T::Alloc> {
     ghost use Rattle.wl_server.specs.Requests.{Report as ServerReport, server_role};
     ghost use Rattle.wl_server.specs.Seen.{report_of};
     ghost use Rattle.wl_server.specs.Slots.{IsSound as IsSoundServer};
-    ghost use Rattle.wl_server.specs.Steps.{IsNextRequest, front_report, taken_report};
+    ghost use Rattle.wl_server.specs.Steps.{IsNextRequest, front_report, applied_report};
     ghost use Rattle.wl_server.specs.Steps.{whole_state};
 
     type Owned = OwnedRequest<T::Alloc>;
@@ -86,7 +86,7 @@ impl<T: Table> Role<T> for ServerRole<T::Alloc> {
 
     ghost fronts = { front_report };
 
-    ghost tells = { taken_report };
+    ghost tells = { applied_report };
 
     ghost IsSound = { λ core kept. IsSoundServer core kept.globals.items kept.registries };
 
@@ -119,7 +119,7 @@ impl<T: Table> Role<T> for ServerRole<T::Alloc> {
         request.outline.to_owned(alloc, &end.args, body, tokens)
     }
 
-    fn take(
+    fn apply(
         &mut self,
         end: &mut Endpoint<'_, T>,
         request: &PendingRequest,
@@ -136,7 +136,7 @@ impl<T: Table> Role<T> for ServerRole<T::Alloc> {
     }
 }
 
-/// The first request, if it is whole and can be taken. Only the parsed arguments change.
+/// The first request, if it is whole and can be applied. Only the parsed arguments change.
 pub(crate) fn first_request<T: Table>(
     end: &mut Endpoint<'_, T>,
     role: &ServerRole<T::Alloc>,
@@ -144,7 +144,7 @@ pub(crate) fn first_request<T: Table>(
     ensures answer { pendings_in end.old.core end.new.args result
         ≡ front_step (server_state end.old.core role.now.globals.items) }
     ensures can { IfOk result (λ found. IfSome found
-        (λ request. CanTake end.old.core (pending_in end.old.core end.new.args request))) }
+        (λ request. CanApply end.old.core (pending_in end.old.core end.new.args request))) }
     ensures same { end.new.core ≡ end.old.core }
     ensures entry { IfOk result (λ found. IfSome found (λ request.
         look end.old.core.view request.outline.target.id ≡ Some request.entry)) }

@@ -5,7 +5,7 @@ use Rattle.wl_objects.specs.declared.error.NextError.TheVariants as errors
 use Rattle.wl_connection.specs.Core.{Core, HasDisplay}
 use Rattle.wl_connection.specs.Sending.{delete_id_len}
 use Rattle.wl_server.specs.Steps.{needs_delete_id}
-use Rattle.wl_server.proofs.Fronts.{Answers, Meant, can_take_told, entry_told, fault_told, full_told}
+use Rattle.wl_server.proofs.Fronts.{Answers, Meant, can_apply_told, entry_told, fault_told, full_told}
 use Rattle.wl_server.proofs.Fronts.{is_full_for, none_told, request_told}
 use Rattle.wl_server.proofs.role.first_request.Goals as goal
 
@@ -45,7 +45,7 @@ returns-clause-answer g c =
 
 pub returns-clause-can : goal.returns-clause-can
 returns-clause-can g c =
-    can_take_told c.args.end.now.core c.args.role.now.globals.items c.first_message.new.end.args c.in-Ok-Some.request
+    can_apply_told c.args.end.now.core c.args.role.now.globals.items c.first_message.new.end.args c.in-Ok-Some.request
     (subst (λ (k : Core). HasDisplay k.view) (λ i. (c.end.view_is i).core) c.end.invariant.display)
     (subst (Meant c.args.end.now.core c.args.role.now.globals.items c.first_message.new.end.args) c.in-Ok-Some.field-0-is
     c.in-Ok-Some.ensures.comes)

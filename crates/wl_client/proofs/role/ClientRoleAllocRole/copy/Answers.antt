@@ -11,7 +11,8 @@ returns-clause-ok g c =
     subst (λ (r : Report). IfOk c.to_owned.result (λ report. report_of report ≡ r))
     (front_told c.args.end.now.core _ c.args.end.now.args _ c.args.event.now c.body-body.result.now
     c.first_tokens-tokens.result (λ i. (c.end.view_is i).core)
-    (λ i. (c.end.view_is i).args) c.requires.ahead.ahead.can_take c.body-body.ensures.body all c.first_tokens-tokens.ensures)
+    (λ i. (c.end.view_is i).args) c.requires.ahead.ahead.can_apply c.body-body.ensures.body all
+    c.first_tokens-tokens.ensures)
     c.to_owned.ensures.ok
 
 pub returns-clause-wants : goal.returns-clause-wants
@@ -20,5 +21,6 @@ returns-clause-wants g c =
     subst (λ (r : Report). OnErr c.to_owned.result (needs_memory r ≡ true))
     (front_told c.args.end.now.core _ c.args.end.now.args _ c.args.event.now c.body-body.result.now
     c.first_tokens-tokens.result (λ i. (c.end.view_is i).core)
-    (λ i. (c.end.view_is i).args) c.requires.ahead.ahead.can_take c.body-body.ensures.body all c.first_tokens-tokens.ensures)
+    (λ i. (c.end.view_is i).args) c.requires.ahead.ahead.can_apply c.body-body.ensures.body all
+    c.first_tokens-tokens.ensures)
     c.to_owned.ensures.err

@@ -13,7 +13,7 @@ returns-clause-ok g c =
     subst (λ (r : Report). IfOk c.to_owned.result (λ report. report_of report ≡ r))
     (front-told c.args.end.now.core _ c.args.end.now.args _ c.args.request.now c.body-body.result.now
     c.first_tokens-tokens.result (λ i. (c.end.view_is i).core)
-    (λ i. (c.end.view_is i).args) c.requires.ahead.can_take c.body-body.ensures.body all c.first_tokens-tokens.ensures)
+    (λ i. (c.end.view_is i).args) c.requires.ahead.can_apply c.body-body.ensures.body all c.first_tokens-tokens.ensures)
     c.to_owned.ensures.ok
 
 pub returns-clause-wants : goal.returns-clause-wants

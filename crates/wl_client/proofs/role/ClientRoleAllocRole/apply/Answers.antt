@@ -11,9 +11,9 @@ use Rattle.wl_client.specs.Reports.{opens_row}
 use Rattle.wl_client.specs.Steps.{CanChange, CanOpen, changed}
 use Rattle.wl_client.proofs.Makings.{opens_unused}
 use Rattle.wl_client.proofs.SoundClients.{sound_by, sound_changed, sound_opened}
-use Rattle.wl_client.proofs.role.ClientRoleAllocRole.take.Goals as goal
-use Rattle.wl_client.proofs.role.ClientRoleAllocRole.take.Goals.{in-None, in-Some+in_ok-open_made-in-Some}
-use Rattle.wl_client.proofs.role.ClientRoleAllocRole.take.Goals.{in-Nothing, in-Zombie, in-Close}
+use Rattle.wl_client.proofs.role.ClientRoleAllocRole.apply.Goals as goal
+use Rattle.wl_client.proofs.role.ClientRoleAllocRole.apply.Goals.{in-None, in-Some+in_ok-open_made-in-Some}
+use Rattle.wl_client.proofs.role.ClientRoleAllocRole.apply.Goals.{in-Nothing, in-Zombie, in-Close}
 
 -- a fact that always holds
 on_err : {A E P : Type 0} (r : Result A E) → P → OnErr r P
@@ -24,7 +24,7 @@ pub returns-in_err-open_made-in-Some-clause-opens :
     goal.returns-in_err-open_made-in-Some-clause-opens
 returns-in_err-open_made-in-Some-clause-opens g c =
     let core = c.args.end.now.core in
-    let can = c.requires.ahead.ahead.can_take in
+    let can = c.requires.ahead.ahead.can_apply in
     let may : CanOpen core.tables core.view (Some c.in-Some.new) =
     subst (CanOpen core.tables core.view) c.in-Some.is can.made in
     let row = opens_unused core.tables core.view c.in-Some.new c.open_made.ensures.sound c.requires.sound.frees_none
@@ -35,7 +35,7 @@ pub returns-clause-sound : goal.returns-clause-sound
 returns-clause-sound g c =
     let core = c.args.end.now.core in
     let change = c.args.event.now.change in
-    let can = c.requires.ahead.ahead.can_take in
+    let can = c.requires.ahead.ahead.can_apply in
     let opening : c.match-event.end.core ≡ with_view core (opens core.view change.made) =
     elim c.match-event.branch [
       | in-None w ↦ (

@@ -5,14 +5,14 @@ use Rattle.wl_message.specs.Outgoing.{Outgoing}
 use Rattle.wl_connection.specs.Core.{Core, past, with_view}
 use Rattle.wl_connection.specs.Sending.{delete_id_len, fits}
 use Rattle.wl_server.specs.Steps.{core_by, core_without, pending_in, registries_by, registries_without}
-use Rattle.wl_server.proofs.AfterRequest.{taken-is, taken-left}
+use Rattle.wl_server.proofs.AfterRequest.{applied-is, applied-left}
 use Rattle.wl_server.proofs.Closings.{registries_opened, row_opened}
 use Rattle.wl_server.proofs.LastingObjects.{lasting_step}
 use Rattle.wl_server.proofs.Registries.{births_left, has_now}
-use Rattle.wl_server.proofs.role.ServerRoleAllocRole.take.Goals as goal
+use Rattle.wl_server.proofs.role.ServerRoleAllocRole.apply.Goals as goal
 
 pub open_new_object-requires-clause-free : goal.open_new_object-requires-clause-free
-open_new_object-requires-clause-free g c = c.requires.ahead.can_take.made
+open_new_object-requires-clause-free g c = c.requires.ahead.can_apply.made
 
 pub close_object-requires-clause-row : goal.close_object-requires-clause-row
 close_object-requires-clause-row g c =
@@ -22,7 +22,7 @@ close_object-requires-clause-row g c =
     let view : c.pass.new.self.view ≡ opens core.view made =
     ap (λ (k : Core). k.view) c.pass.ensures ∙ ap (λ (k : Core). k.view) c.in_ok-open_new_object.ensures.core in
     row_opened core.view c.pass.new.self.view made object view c.in_ok-open_new_object.ensures.fresh
-    (c.requires.ahead.can_take.ended object c.in-Some.is).row
+    (c.requires.ahead.can_apply.ended object c.in-Some.is).row
 
 pub close_object-requires-clause-sound : goal.close_object-requires-clause-sound
 close_object-requires-clause-sound g c =
@@ -36,14 +36,14 @@ close_object-requires-clause-sound g c =
 
 pub close_object-requires-clause-not_display : goal.close_object-requires-clause-not_display
 close_object-requires-clause-not_display g c =
-    (c.requires.ahead.can_take.ended c.in-Some.object c.in-Some.is).not_display
+    (c.requires.ahead.can_apply.ended c.in-Some.object c.in-Some.is).not_display
 
 pub close_object-requires-clause-room : goal.close_object-requires-clause-room
 close_object-requires-clause-room g c client =
     let outbox : c.pass.new.self.outbox ≡ c.args.end.now.core.outbox =
     ap (λ (k : Core). k.outbox) c.pass.ensures ∙ ap (λ (k : Core). k.outbox) c.in_ok-open_new_object.ensures.core in
     subst (λ (o : Outgoing). IsTrue (fits o delete_id_len 0)) (sym outbox)
-    ((c.requires.ahead.can_take.ended c.in-Some.object c.in-Some.is).room client)
+    ((c.requires.ahead.can_apply.ended c.in-Some.object c.in-Some.is).room client)
 
 pub returns-in-Some : goal.returns-in-Some
 returns-in-Some g c =
@@ -60,15 +60,15 @@ returns-in-Some g c =
     c.close_object.ensures.registries ∙ (λ i. registries_without (sym c.in-Some.is i) (opened.registries i)) in
     record {
       args = search rules;
-      ok = taken-left core c.close_object.new.core kept.globals.items kept.registries.list
+      ok = applied-left core c.close_object.new.core kept.globals.items kept.registries.list
           c.close_object.new.registries.list step c.requires.ahead.step now left;
-      told = taken-is core c.close_object.new.core c.args.end.now.args request now;
+      told = applied-is core c.close_object.new.core c.args.end.now.args request now;
       err = tt;
       opens = tt;
       sound = record {
         few = c.requires.sound.few;
         registries = has_now core c.close_object.new.core kept.registries.list c.close_object.new.registries.list step
-            c.requires.ahead.can_take now left opened.fresh c.requires.sound.registries;
+            c.requires.ahead.can_apply now left opened.fresh c.requires.sound.registries;
         past = omega (
           arith,
           c.close_object.ensures.past,
@@ -97,15 +97,15 @@ returns-in_default g c =
     (λ i. registries_without (sym c.in_default.is i) (opened.registries i)) in
     record {
       args = search rules;
-      ok = taken-left core c.pass.new.self kept.globals.items kept.registries.list
+      ok = applied-left core c.pass.new.self kept.globals.items kept.registries.list
           c.open_new_object.new.registries.list step c.requires.ahead.step now left;
-      told = taken-is core c.pass.new.self c.args.end.now.args request now;
+      told = applied-is core c.pass.new.self c.args.end.now.args request now;
       err = tt;
       opens = tt;
       sound = record {
         few = c.requires.sound.few;
         registries = has_now core c.pass.new.self kept.registries.list c.open_new_object.new.registries.list step
-            c.requires.ahead.can_take now left opened.fresh c.requires.sound.registries;
+            c.requires.ahead.can_apply now left opened.fresh c.requires.sound.registries;
         past = omega (arith, opened.past, ap (λ (k : Core). k.view.client.births) c.pass.ensures);
         settled = opened.settled kept.globals.items c.requires.sound.settled;
         lasting = lasting_step core c.pass.new.self step now opened.fresh c.requires.sound.lasting;
