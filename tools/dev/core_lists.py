@@ -30,7 +30,7 @@ KINDS = {
 # names as short as this, as many in a line as there is room for.
 WIDEST, WIDEST_LIST, SHORT = 100, 60, 10
 # The comments around a part of a file that is made.
-BEGINS = "Generated from tools/core.xml by tools/dev/core-files, down to the next mark."
+BEGINS = "Made by core-files from core.xml, down to the next mark."
 ENDS = "End of what is generated."
 
 

@@ -71,7 +71,7 @@ const ANY_OBJECT: Kind = Obj {
     iface: None,
 };
 
-// Generated from tools/core.xml by tools/dev/core-files, down to the next mark.
+// Made by core-files from core.xml, down to the next mark.
 
 const WL_REGISTRY: Iface = Iface(1);
 
