@@ -7,7 +7,7 @@ use Rattle.std.proofs.lemmas.Grind.{common_steps}
 use Rattle.std.proofs.lemmas.List.{append-nil, flat_map_more, map-append, map_more}
 use Rattle.wl_recording.specs.declared.piece.Direction.{Direction}
 use Rattle.wl_recording.specs.declared.piece.Direction.TheVariants.{ToServer, ToClient}
-use Rattle.wl_recording.specs.Piece.{Piece, own, recorded_piece}
+use Rattle.wl_recording.specs.Piece.{Piece, own_bytes, recorded_piece}
 use Rattle.wl_recording.specs.declared.piece.Passed.{Passed}
 use Rattle.wl_check.specs.Merged.{same_direction, stream_of}
 use Rattle.std.specs.List.{Contains, IsFirstAndRest, flat_map}
@@ -145,23 +145,24 @@ place_after text texts line next beyond is =
 
 -- a piece's bytes to the server
 own_is : (direction : Direction) (bytes : List ℕ)
-    → (if same_direction direction ToServer then bytes else []) ≡ own ToServer direction bytes
+    → (if same_direction direction ToServer then bytes else []) ≡ own_bytes ToServer direction bytes
 own_is ToServer bytes = refl
 own_is ToClient bytes = refl
 
 pub stream_push : (pieces : List Piece) (piece : Piece)
-    → stream_of ToServer (pieces ++ piece ∷ []) ≡ stream_of ToServer pieces ++ own ToServer piece.direction piece.bytes
+    → stream_of ToServer (pieces ++ piece ∷ [])
+    ≡ stream_of ToServer pieces ++ own_bytes ToServer piece.direction piece.bytes
 stream_push [] piece = append-nil _ ∙ own_is piece.direction piece.bytes
 stream_push (first ∷ pieces) piece =
     ap (λ (l : List ℕ). (if same_direction first.direction ToServer then first.bytes else []) ++ l)
     (stream_push pieces piece)
     ∙ sym (append_assoc (if same_direction first.direction ToServer then first.bytes else [])
-    (stream_of ToServer pieces) (own ToServer piece.direction piece.bytes))
+    (stream_of ToServer pieces) (own_bytes ToServer piece.direction piece.bytes))
 
 pub stream_take : {A : Type 0} (all : List (Passed A)) (i : ℕ) (x : Passed A) → i < length all → x ≡ get_or all i x
     → stream_of ToServer (map recorded_piece (take (i + 1) all))
     ≡ stream_of ToServer (map recorded_piece (take i all))
-    ++ own ToServer (recorded_piece x).direction (recorded_piece x).bytes
+    ++ own_bytes ToServer (recorded_piece x).direction (recorded_piece x).bytes
 stream_take all i x lt is =
     rw (map_more recorded_piece all i x lt, ← is) (stream_push (map recorded_piece (take i all)) (recorded_piece x))
 

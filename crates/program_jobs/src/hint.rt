@@ -3,7 +3,7 @@ ghost use Rattle.std.specs.Prelude.{◌≡◌, ◌++◌, List, IfOk, OnOk, optio
 ghost use Rattle.std.specs.List.{list_all};
 ghost use Rattle.wl_wire.specs.Reading.{seen};
 ghost use Rattle.wl_recording.specs.declared.piece.Direction.TheVariants.{ToServer};
-ghost use Rattle.wl_recording.specs.Piece.{Piece, own};
+ghost use Rattle.wl_recording.specs.Piece.{Piece, own_bytes};
 ghost use Rattle.wl_recording.specs.Text.{TextRecords};
 ghost use Rattle.wl_check.specs.Merged.{stream_of};
 ghost use Rattle.wl_sigs.specs.Rules.{is_name, is_name_byte};
@@ -80,7 +80,7 @@ fn append_request<A: Allocator, B: Allocator>(
     piece: &Passed<B>,
 ) -> Result<(), AllocError>
     ensures { OnOk result (requests.new.items ≡ requests.old.items
-        ++ own ToServer piece.now.direction piece.now.bytes) }
+        ++ own_bytes ToServer piece.now.direction piece.now.bytes) }
 {
     match piece.direction {
         Direction::ToServer => requests.extend_from_slice(piece.bytes.as_slice()),

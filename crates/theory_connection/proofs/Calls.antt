@@ -23,12 +23,12 @@ use Rattle.wl_object_map.specs.declared.object.State.TheVariants as states
 use Rattle.wl_objects.specs.declared.error.SendError.{SendError}
 use Rattle.wl_object_map.specs.declared.object.Maker.{Maker}
 use Rattle.wl_object_map.specs.Objects.{Objects, ObjectsAreSound, look, next_id, next_birth}
-use Rattle.wl_objects.specs.Reading.{is_of}
+use Rattle.wl_objects.specs.Reading.{has_required_iface}
 use Rattle.wl_message.specs.Cut.{greatest_limit}
 use Rattle.wl_objects.specs.Writing.{Given, suits, wrong_place, lost_place}
 use Rattle.wl_objects.specs.Writing.{is_live_as, row_is_of, can_name, wired, tokens_of, message_len}
 use Rattle.wl_objects.specs.Messages.{NewObject, made, live_row, checked, checked_by, checked_as}
-use Rattle.wl_objects.specs.Messages.{unless_hidden, unless_wrong, is_hidden}
+use Rattle.wl_objects.specs.Messages.{unless_hidden, signature_unless_wrong, is_hidden}
 use Rattle.wl_objects.proofs.WrittenArrives.{no_nul}
 use Rattle.theory_connection.specs.Meant.{Birth, client_birth, Born, Known, Arg, rearg, born_of, birth_of, wire}
 use Rattle.theory_connection.specs.Meant.{tokens, new_object_in, made_in, objects, born_of_entry, live_entry}
@@ -89,7 +89,7 @@ pub record Fine (limit : ℕ) (wrong lost : Option ℕ) (len : ℕ) (signature s
   pub same : signature ≡ s
 
 fine : (limit : ℕ) (wrong lost : Option ℕ) (len : ℕ) (signature s : sigs.MessageSignature)
-    → unless_wrong limit wrong lost len signature ≡ Ok s → Fine limit wrong lost len signature s
+    → signature_unless_wrong limit wrong lost len signature ≡ Ok s → Fine limit wrong lost len signature s
 fine limit None None len signature s h = let k = of_len (nat_lt limit len) signature s _ h
     in record { suit = refl; found = refl; short = ltb-false limit len k.0; same = k.1 }
 fine limit None (Some place) len signature s h = absurd (cc h)
@@ -105,7 +105,8 @@ record AsChecked (limit : ℕ) (view : Objects) (given : List Given) (entry : En
 
 not_old : (limit : ℕ) (view : Objects) (given : List Given) (entry : Entry) (s t : sigs.MessageSignature) (b : Bool)
     (why : SendError) → nat_lt entry.version s.since ≡ b
-    → cond b (Err why) (unless_wrong limit (wrong_place 0 s.kinds given) (lost_place (look view) 0 s.kinds given)
+    → cond b (Err why)
+    (signature_unless_wrong limit (wrong_place 0 s.kinds given) (lost_place (look view) 0 s.kinds given)
     (message_len (map (wired 0) given)) s) ≡ Ok t → AsChecked limit view given entry (Some s) t
 not_old limit view given entry s t true why e h = absurd (cc h)
 not_old limit view given entry s t false why e h =
@@ -348,10 +349,11 @@ fit_one tables view new version (kinds.Obj null iface) (Obj (Some x)) s n r m g 
     let low = row_word view x.id v.entry s v.there in
     let of : row_is_of iface (Some v.entry) ≡ true = ap (row_is_of iface) (sym v.there) ∙ b.1 in (
       (omega (arith, low.1), λ z. absurd (omega (arith, low.0, z))),
-      (low.0, ap (λ o. is_of iface (live_entry (born_at x.id o))) v.there ∙ same_of iface v.entry ∙ of),
+      (low.0, ap (λ o. has_required_iface iface (live_entry (born_at x.id o))) v.there ∙ same_of iface v.entry ∙ of),
     )
   where
-    same_of : (i : Option Iface) (e : Entry) → is_of i (live_entry (born_of_entry x.id e)) ≡ is_of i e
+    same_of : (i : Option Iface) (e : Entry)
+        → has_required_iface i (live_entry (born_of_entry x.id e)) ≡ has_required_iface i e
     same_of None e = refl
     same_of (Some i) e = refl
 fit_one tables view new version (kinds.New (Some iface)) (New x) s n r m g l =

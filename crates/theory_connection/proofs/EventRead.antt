@@ -25,7 +25,7 @@ use Rattle.wl_object_map.specs.Objects.{Objects, look, closed}
 use Rattle.wl_objects.specs.Messages.{is_error, is_delete_id, same_iface, made, made_by, opens}
 use Rattle.wl_objects.specs.Messages.{after, ended_id, after_delete_id}
 use Rattle.wl_connection.specs.Core.{Core}
-use Rattle.wl_connection.specs.Receiving.{found, is_none}
+use Rattle.wl_connection.specs.Receiving.{found, is_empty_list}
 use Rattle.wl_client.specs.declared.globals.Global.{Global as Remembered}
 use Rattle.wl_client.specs.State as client
 use Rattle.wl_client.specs.Reports.{state_past, globals_told, report, object_made, object_replaced}
@@ -44,7 +44,8 @@ use Rattle.theory_connection.proofs.AskedCounted.{below_told}
 use Rattle.theory_connection.specs.Flight.{as_row, births_in}
 use Rattle.theory_connection.proofs.TwoRanges.{row_of_client}
 use Rattle.theory_connection.proofs.MadeFor.{made_for}
-use Rattle.theory_connection.specs.Stands.{StandsBy, SuitKinds, FitsSignature, WasGiven, InFlight, ShowsBirths, birth_in}
+use Rattle.theory_connection.specs.Stands.{StandsBy, SuitKinds, FitsSignature, WasGiven, InFlight, ShowsBirths}
+use Rattle.theory_connection.specs.Stands.{birth_in}
 use Rattle.theory_connection.specs.Stands.{IsEndingOfServer}
 use Rattle.wl_object_map.specs.View.{lives}
 use Rattle.theory_connection.proofs.WholeInFlight.{client_ends, client_told, OfClient, held_told_if, TellsAt}
@@ -340,7 +341,7 @@ pub record InDelete (p : PairState) (x : Known) (cs : List (Coming Known)) (midd
   pub there : look p.client.core.view x.id ≡ Some entry
   pub same : born_of_entry x.id entry ≡ x.born
   pub signature : sigs.MessageSignature
-  pub some_kinds : not (is_none signature.kinds) ≡ true
+  pub some_kinds : not (is_empty_list signature.kinds) ≡ true
   pub finds_it : found p.client.core event_side ≡ Ok
       (Some (the_found n (deleting x) (live_entry display_born) signature))
   pub keeps_target : signature.destroys ≡ Nothing

@@ -27,7 +27,7 @@ use Rattle.wl_object_map.specs.declared.object.State.TheVariants as states
 use Rattle.wl_object_map.specs.Objects.{Objects, look, next_birth, maker_of}
 use Rattle.wl_objects.specs.declared.lookup.NewId.{NewId}
 use Rattle.wl_objects.specs.declared.lookup.NewId.TheVariants.{Free}
-use Rattle.wl_objects.specs.Reading.{Reader, value_fault, iface_of, is_of, arguments_at, value_or_fault}
+use Rattle.wl_objects.specs.Reading.{Reader, value_fault, iface_of, has_required_iface, arguments_at, value_or_fault}
 use Rattle.wl_objects.specs.Reading.{in_state, reported_argument}
 use Rattle.wl_objects.specs.Reading.{reports_of, head_or, tokens_after, new_fault}
 use Rattle.wl_objects.specs.Writing.{spelled as spelled_values, message_len, message_bytes}
@@ -89,7 +89,8 @@ Finds side r (New x) = new_id_for side r x.id ≡ Free
 Finds side r (NewNamed name own x) = new_id_for side r x.id ≡ Free
 Finds side r _ = Unit {0}
 
-is_of_same : (iface : Option Iface) (e d : Entry) → e.iface ≡ d.iface → is_of iface d ≡ true → is_of iface e ≡ true
+is_of_same : (iface : Option Iface) (e d : Entry) → e.iface ≡ d.iface → has_required_iface iface d ≡ true
+    → has_required_iface iface e ≡ true
 is_of_same None e d h k = refl
 is_of_same (Some iface) e d h k = rw h k
 
@@ -121,7 +122,7 @@ right : (tables : List Interface) (version place : ℕ) (side : Side) (r : Reade
 right tables version place side r kind (Obj None) b n m = refl
 right tables version place side r kind (Obj (Some x)) b n m =
     let some : nat_eq x.id 0 ≡ false = ne_eqb x.id 0 (λ h. omega (arith, n.0)) in
-    let of : is_of (iface_of kind) m.entry ≡ true =
+    let of : has_required_iface (iface_of kind) m.entry ≡ true =
     is_of_same (iface_of kind) m.entry (live_entry x.born) m.iface n.1 in
     rw (some, m.there, of) refl
 right tables version place side r kind (New x) b n m = new_right tables version place side r kind x b n m

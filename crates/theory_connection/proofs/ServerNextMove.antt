@@ -13,7 +13,7 @@ use Rattle.wl_message.specs.Cut.{Front, More, Bad, Whole, HasMessage}
 use Rattle.wl_objects.specs.declared.error.NextError.{NextError}
 use Rattle.wl_objects.specs.declared.error.NextError.TheVariants as errors
 use Rattle.wl_objects.specs.Reading.{Reported}
-use Rattle.wl_connection.specs.Receiving.{Found, found_at, is_none}
+use Rattle.wl_connection.specs.Receiving.{Found, found_at, is_empty_list}
 use Rattle.wl_server.specs.Requests.{Report, unless_bad_bind, request, report, needs_memory, is_out_full}
 use Rattle.wl_server.specs.Requests.{next_answer, after_next, state_past, owes_delete_id}
 use Rattle.theory_connection.specs.Meant.{Known, Born, Message, Coming, renamed, born_of, birth_of}
@@ -68,7 +68,7 @@ is_some_request : (w : World) (m : Message Born) (r : Report) → ReportsRequest
 is_some_request w m r t h e = by_args r.args refl
   where
     by_args : (args : List Reported) → r.args ≡ args → ⊥
-    by_args [] k = cc (ap (λ (l : List Reported). not (is_none l)) k, h)
+    by_args [] k = cc (ap (λ (l : List Reported). not (is_empty_list l)) k, h)
     by_args (a ∷ args) k = cc (t.args, e, k)
 
 reports : (p : PairState) (w : World) (m : Message Known) (ms : List (Message Known)) (told : List (Coming Known))

@@ -23,7 +23,7 @@ use Rattle.wl_object_map.specs.View.{max_ids}
 use Rattle.wl_object_map.specs.declared.object.Maker.{Maker}
 use Rattle.wl_object_map.specs.declared.object.Maker.TheVariants.{Server}
 use Rattle.wl_object_map.specs.Objects.{Objects, ObjectsAreSound, look}
-use Rattle.wl_objects.specs.Reading.{iface_of, is_of}
+use Rattle.wl_objects.specs.Reading.{iface_of, has_required_iface}
 use Rattle.wl_objects.specs.Writing.{message_len}
 use Rattle.wl_objects.specs.Messages.{made_by, is_error, is_delete_id, is_bind, same_iface}
 use Rattle.wl_connection.specs.Core.{Core}
@@ -95,7 +95,7 @@ pub record InFlight (from : Outgoing) (to : Arrived) (messages : List boxes.Queu
 -- new object is as its maker makes it, with this version.
 abbrev pub NamesRightly : List Interface → ℕ → Kind → Arg Known → Type 0
 NamesRightly tables version kind (Obj (Some x)) =
-    (0 < x.id) × (is_of (iface_of kind) (live_entry x.born) ≡ true)
+    (0 < x.id) × (has_required_iface (iface_of kind) (live_entry x.born) ≡ true)
 NamesRightly tables version kind (New x) =
     made_by tables version kind (New x.id)
     ≡ Some (record { id = x.id; iface = x.born.iface; version = x.born.version })

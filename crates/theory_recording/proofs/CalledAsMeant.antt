@@ -13,7 +13,7 @@ use Rattle.wl_objects.specs.Messages.{NewObject, ended_id, is_error}
 use Rattle.wl_recording.specs.declared.piece.Direction.{Direction}
 use Rattle.wl_check.specs.Merged.{span, framed, same_direction}
 use Rattle.wl_check.specs.Changes.{Call, changes, destroyed_id, side_of}
-use Rattle.wl_check.specs.Places.{is_id, is_made, frees, made_entry, new_of, used_by, unless_deleted}
+use Rattle.wl_check.specs.Places.{is_id, is_made, frees_id, made_entry, new_or_null, used_by, unless_deleted}
 use Rattle.wl_check.specs.Places.{server_used_by}
 use Rattle.wl_object_map.specs.declared.object.Maker.{Maker}
 use Rattle.wl_check.specs.Rules.{judged}
@@ -100,8 +100,9 @@ destroyed_as b id (Some x) f h = λ i. destroyed_id (f i) (sym h i)
 -- what is known after a call that makes n and ends o
 record BehindCall (tables : List Interface) (e : List Judged) (call : Call) (n o : Option Known) : Type 0 where
   objects : (id : ℕ) → (knowledge tables (e ++ Ok call ∷ [])).object id
-      ≡ cond (is_made (option_map made_of n) id) (Some (made_entry (suc (length e)) Live (new_of (option_map made_of n))))
-      (unless_deleted (frees None id) (is_id (ended_ids o) id) ((knowledge tables e).object id))
+      ≡ cond (is_made (option_map made_of n) id)
+      (Some (made_entry (suc (length e)) Live (new_or_null (option_map made_of n))))
+      (unless_deleted (frees_id None id) (is_id (ended_ids o) id) ((knowledge tables e).object id))
   used : (knowledge tables (e ++ Ok call ∷ [])).used ≡ used_by (option_map made_of n) (knowledge tables e).used
   server_used : (knowledge tables (e ++ Ok call ∷ [])).server_used
       ≡ server_used_by (option_map made_of n) (knowledge tables e).server_used
@@ -123,8 +124,9 @@ behind_call tables e here d m entry f n valid made_is deleted_is =
     destroyed_as (destroys_one f.signature.destroys)
     (ended_id f.signature.destroys m.target.id (map wire m.args)) m.ends ended.flag ended.same in
     record {
-      objects = λ id. b.objects id ∙ (λ i. cond (is_made (made_is i) id) (Some (made_entry p Live (new_of (made_is i))))
-          (unless_deleted (frees (deleted_is i) id) (is_id (destroyed_is i) id) (k.object id)));
+      objects =
+          λ id. b.objects id ∙ (λ i. cond (is_made (made_is i) id) (Some (made_entry p Live (new_or_null (made_is i))))
+          (unless_deleted (frees_id (deleted_is i) id) (is_id (destroyed_is i) id) (k.object id)));
       used = b.used_is ∙ ap (λ (o : Option NewObject). used_by o k.used) made_is;
       server_used = b.server_used_is ∙ ap (λ (o : Option NewObject). server_used_by o k.server_used) made_is;
       places = places_behind tables e call ∙ ap (λ (o : Option NewObject). grown (birth_places tables e) o p) made_is;

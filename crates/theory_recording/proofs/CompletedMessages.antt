@@ -13,7 +13,7 @@ use Rattle.wl_message.specs.Outgoing.{all_bytes, all_tokens}
 use Rattle.wl_message.proofs.Cuts.{front_message, whole_stays, bad_stays, front_none}
 use Rattle.wl_message.proofs.Fronts.{front_stands}
 use Rattle.wl_recording.specs.declared.piece.Direction.{Direction}
-use Rattle.wl_check.specs.Merged.{span, Cutting, cutting, cut_at, same_direction, framed}
+use Rattle.wl_check.specs.Merged.{span, Cutting, cutting, cut_by_front, same_direction, framed}
 use Rattle.wl_check.specs.Session.{Judged, judged_after}
 use Rattle.wl_check.proofs.MessagesOfStream.{step}
 use Rattle.theory_connection.specs.World.{Each}
@@ -92,7 +92,7 @@ module _ {M : Type 0} (sp : M → boxes.QueuedMessage) (limit : ℕ) (tables : L
   stops e seen later p x f at within more =
       let here : cutting limit (length (streams d)) (streams d) p ≡ record { spans = []; place = p; has_bad_size = false } =
       step limit (length (streams d)) (streams d) p within (omega arith)
-      ∙ ap (λ (o : Front). cut_at p o (cutting limit (length (streams d)) (streams d)))
+      ∙ ap (λ (o : Front). cut_by_front p o (cutting limit (length (streams d)) (streams d)))
       (ap (front limit) at ∙ more) in
       subst (Walked e seen later x) (sym here) (record {
         fresh = [];
@@ -123,7 +123,7 @@ module _ {M : Type 0} (sp : M → boxes.QueuedMessage) (limit : ℕ) (tables : L
       let here : cutting limit (length (streams d)) (streams d) p
       ≡ record { spans = span p size ∷ c.spans; place = c.place; has_bad_size = c.has_bad_size } =
       step limit (length (streams d)) (streams d) p within (omega arith)
-      ∙ ap (λ (f : Front). cut_at p f (cutting limit (length (streams d)) (streams d))) found in
+      ∙ ap (λ (f : Front). cut_by_front p f (cutting limit (length (streams d)) (streams d))) found in
       let e' = e ++ Ok o.call ∷ [] in
       let after : judged_after limit tables streams e (map (framed d t) (span p size ∷ c.spans))
       ≡ judged_after limit tables streams e' (map (framed d t) c.spans) =

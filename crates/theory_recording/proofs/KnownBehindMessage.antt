@@ -18,7 +18,7 @@ use Rattle.wl_object_map.specs.Objects.{maker_of}
 use Rattle.wl_object_map.specs.ObjectsLaws.{is_from}
 use Rattle.wl_objects.specs.Messages.{NewObject}
 use Rattle.wl_check.specs.Changes.{Call, changes}
-use Rattle.wl_check.specs.Places.{KnownAtPlace as Knows, is_id, is_made, frees, made_entry, new_of, used_by}
+use Rattle.wl_check.specs.Places.{KnownAtPlace as Knows, is_id, is_made, frees_id, made_entry, new_or_null, used_by}
 use Rattle.wl_check.specs.Places.{unless_deleted, server_used_by}
 use Rattle.wl_check.specs.Session.{Judged, changes_at}
 use Rattle.wl_check.proofs.JudgedByPlaces.{changes_at_same}
@@ -127,7 +127,7 @@ at_deleted birth_places x here id false t = let there : put_row here.rows x.id N
 
 -- ---- a message that makes an object, or none, and destroys one, or none
 
-frees_none : (id : ℕ) → frees None id ≡ false
+frees_none : (id : ℕ) → frees_id None id ≡ false
 frees_none id = and_right (not (nat_eq id 1) && not (is_of_server id)) false refl
 
 -- an id of the client's range
@@ -142,7 +142,7 @@ most_is a b = elim (cases_lt a b) [
 
 makes_objects : (places : Maker → List ℕ) (p : ℕ) (here : Rows Row) (n : Option Known)
     → Below places here → IfThere (IsNext places) n → (id : ℕ)
-    → cond (is_made (option_map made_of n) id) (Some (made_entry p Live (new_of (option_map made_of n))))
+    → cond (is_made (option_map made_of n) id) (Some (made_entry p Live (new_or_null (option_map made_of n))))
     (option_map (entry_at places) (here.rows id))
     ≡ option_map (entry_at (grown places (option_map made_of n) p)) ((client_makes here n).rows id)
 makes_objects places p here None below f id = sym (row_more places (λ by. []) (here.rows id) (below id))
@@ -154,7 +154,7 @@ abbrev pub ended_ids : Option Known → Option ℕ
 ended_ids o = option_map (λ x. x.id) o
 
 ends_objects : (birth_places : Maker → List ℕ) (v : Rows Row) (o : Option Known) → IfThere (IsHeldInRows v) o → (id : ℕ)
-    → unless_deleted (frees None id) (is_id (ended_ids o) id) (option_map (entry_at birth_places) (v.rows id))
+    → unless_deleted (frees_id None id) (is_id (ended_ids o) id) (option_map (entry_at birth_places) (v.rows id))
     ≡ option_map (entry_at birth_places) ((client_ends o v).rows id)
 ends_objects birth_places v None h id = rw (frees_none id) refl
 ends_objects birth_places v (Some x) h id = rw (frees_none id)
@@ -326,8 +326,8 @@ record Made (places : Maker → List ℕ) (p : ℕ) (here v : Rows Row) (k' : Kn
 known_by : (k k' : Knows) (places : Maker → List ℕ) (p : ℕ) (here v : Rows Row) (n o : Option Known)
     → KnownAs k places here → Made places p here v k' n o
     → ((id : ℕ) → k'.object id
-    ≡ cond (is_made (option_map made_of n) id) (Some (made_entry p Live (new_of (option_map made_of n))))
-    (unless_deleted (frees None id) (is_id (ended_ids o) id) (k.object id)))
+    ≡ cond (is_made (option_map made_of n) id) (Some (made_entry p Live (new_or_null (option_map made_of n))))
+    (unless_deleted (frees_id None id) (is_id (ended_ids o) id) (k.object id)))
     → KnownAs k' (grown places (option_map made_of n) p) (client_ends o v)
 known_by k k' places p here v n o a m objects =
     let below : Below places here = λ id r e. (let l = a.below id r e in
@@ -335,14 +335,15 @@ known_by k k' places p here v n o a m objects =
     let same = same_used o v in
     record {
       objects = λ id. objects id
-          ∙ swap (is_made (option_map made_of n) id) (frees None id) (is_id (ended_ids o) id)
-          (made_entry p Live (new_of (option_map made_of n))) (k.object id) (frees_none id) (apart n o m.differ id)
-          ∙ ap (λ (row : Option Entry). unless_deleted (frees None id) (is_id (ended_ids o) id)
-          (cond (is_made (option_map made_of n) id) (Some (made_entry p Live (new_of (option_map made_of n)))) row))
+          ∙ swap (is_made (option_map made_of n) id) (frees_id None id) (is_id (ended_ids o) id)
+          (made_entry p Live (new_or_null (option_map made_of n))) (k.object id) (frees_none id) (apart n o m.differ id)
+          ∙ ap (λ (row : Option Entry). unless_deleted (frees_id None id) (is_id (ended_ids o) id)
+          (cond (is_made (option_map made_of n) id)
+          (Some (made_entry p Live (new_or_null (option_map made_of n)))) row))
           (a.objects id)
-          ∙ ap (unless_deleted (frees None id) (is_id (ended_ids o) id))
+          ∙ ap (unless_deleted (frees_id None id) (is_id (ended_ids o) id))
           (makes_objects places p here n below m.next id)
-          ∙ ap (λ (f : ℕ → Option Row). unless_deleted (frees None id) (is_id (ended_ids o) id)
+          ∙ ap (λ (f : ℕ → Option Row). unless_deleted (frees_id None id) (is_id (ended_ids o) id)
           (option_map (entry_at (grown places (option_map made_of n) p)) (f id))) (sym m.rows)
           ∙ ends_objects (grown places (option_map made_of n) p) v o m.held id;
       used = m.used ∙ sym same.0;
@@ -369,8 +370,8 @@ told_differ here n o f h y x e d =
 pub known_behind : (k k' : Knows) (places : Maker → List ℕ) (p : ℕ) (here : Rows Row) (n o : Option Known)
     → KnownAs k places here → IfThere (Fresh here) n → IfThere (IsHeldInRows here) o
     → ((id : ℕ) → k'.object id
-    ≡ cond (is_made (option_map made_of n) id) (Some (made_entry p Live (new_of (option_map made_of n))))
-    (unless_deleted (frees None id) (is_id (ended_ids o) id) (k.object id)))
+    ≡ cond (is_made (option_map made_of n) id) (Some (made_entry p Live (new_or_null (option_map made_of n))))
+    (unless_deleted (frees_id None id) (is_id (ended_ids o) id) (k.object id)))
     → k'.used ≡ used_by (option_map made_of n) k.used
     → k'.server_used ≡ server_used_by (option_map made_of n) k.server_used
     → KnownAs k' (grown places (option_map made_of n) p) (client_ends o (client_makes here n))
@@ -395,8 +396,8 @@ known_behind k k' places p here n o a f h objects used server_used =
 pub known_event : (k k' : Knows) (places : Maker → List ℕ) (p : ℕ) (here : Rows Row) (n o : Option Known)
     → KnownAs k places here → IfThere (NextTold here) n → IfThere (IsHeldInRows here) o → IfThere OfClient o
     → ((id : ℕ) → k'.object id
-    ≡ cond (is_made (option_map made_of n) id) (Some (made_entry p Live (new_of (option_map made_of n))))
-    (unless_deleted (frees None id) (is_id (ended_ids o) id) (k.object id)))
+    ≡ cond (is_made (option_map made_of n) id) (Some (made_entry p Live (new_or_null (option_map made_of n))))
+    (unless_deleted (frees_id None id) (is_id (ended_ids o) id) (k.object id)))
     → k'.used ≡ used_by (option_map made_of n) k.used
     → k'.server_used ≡ server_used_by (option_map made_of n) k.server_used
     → KnownAs k' (grown places (option_map made_of n) p) (client_ends o (client_told here n))
@@ -423,7 +424,7 @@ known_event k k' places p here n o a f h l objects used server_used =
 
 -- ---- a delete_id
 
-frees_some : (i id : ℕ) (b : Bool) → is_id (Some i) id ≡ b → i ≢ 1 → i ≤ 1048576 → frees (Some i) id ≡ b
+frees_some : (i id : ℕ) (b : Bool) → is_id (Some i) id ≡ b → i ≢ 1 → i ≤ 1048576 → frees_id (Some i) id ≡ b
 frees_some i id true e h low =
     let ne : nat_eq id 1 ≡ false = grind (arith, nat_tests) in
     let of : is_of_server id ≡ false = grind (arith, nat_tests) in
@@ -447,7 +448,7 @@ by_deleted v i by = λ id r e. elim (put_row_tells v.rows i None id) [
 -- after the delete of an object the checker no longer knows it
 pub known_deleted : (k k' : Knows) (birth_places : Maker → List ℕ) (here : Rows Row) (x : Known) → KnownAs k birth_places here
     → x.id ≢ 1 → x.id ≤ 1048576
-    → ((id : ℕ) → k'.object id ≡ unless_deleted (frees (Some x.id) id) false (k.object id)) → k'.used ≡ k.used
+    → ((id : ℕ) → k'.object id ≡ unless_deleted (frees_id (Some x.id) id) false (k.object id)) → k'.used ≡ k.used
     → k'.server_used ≡ k.server_used
     → KnownAs k' birth_places (at here x.id None)
 known_deleted k k' birth_places here x a ne low objects used server_used = record {

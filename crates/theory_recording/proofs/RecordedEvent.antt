@@ -23,8 +23,8 @@ use Rattle.wl_client.specs.declared.globals.Global.{Global as Remembered}
 use Rattle.wl_server.specs.State.{Global}
 use Rattle.wl_recording.specs.declared.piece.Direction.TheVariants.{ToClient}
 use Rattle.wl_check.specs.Changes.{changes, side_of, destroyed_id, is_global, first_number}
-use Rattle.wl_check.specs.Places.{is_id, is_made, made_entry, new_of, used_by, server_used_by}
-use Rattle.wl_check.specs.Places.{unless_deleted, frees}
+use Rattle.wl_check.specs.Places.{is_id, is_made, made_entry, new_or_null, used_by, server_used_by}
+use Rattle.wl_check.specs.Places.{unless_deleted, frees_id}
 use Rattle.wl_check.specs.Rules.{reader_by}
 use Rattle.wl_check.specs.Session.{Judged}
 use Rattle.wl_check.proofs.LongerRecording.{behind_one, advertised_own}
@@ -265,8 +265,8 @@ known_delete tables e here x entry signature a mortal low iface keeps =
     let destroyed_is : (changes tables call).destroyed ≡ None =
     ap (λ (d : Destroys). destroyed_id (destroys_one d) (ended_id d 1 (map wire (deleting x).args))) keeps in
     let known = known_deleted k k' (birth_places tables e) here x a mortal low
-    (λ id. b.objects id ∙ (λ i. cond (is_made (made_is i) id) (Some (made_entry p Live (new_of (made_is i))))
-    (unless_deleted (frees (deleted_is i) id) (is_id (destroyed_is i) id) (k.object id))))
+    (λ id. b.objects id ∙ (λ i. cond (is_made (made_is i) id) (Some (made_entry p Live (new_or_null (made_is i))))
+    (unless_deleted (frees_id (deleted_is i) id) (is_id (destroyed_is i) id) (k.object id))))
     (b.used_is ∙ ap (λ (o : Option NewObject). used_by o k.used) made_is)
     (b.server_used_is ∙ ap (λ (o : Option NewObject). server_used_by o k.server_used) made_is) in
     let there : birth_places tables (e ++ Ok call ∷ []) ≡ birth_places tables e =

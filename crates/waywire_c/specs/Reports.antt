@@ -113,8 +113,8 @@ told_by report = record {
   forgotten = report.forgotten;
 }
 
-abbrev pub of_kind : ℕ → ReportFields
-of_kind kind = record {
+abbrev pub fields_of_kind : ℕ → ReportFields
+fields_of_kind kind = record {
   kind = kind;
   opcode = 0;
   target = no_object;
@@ -133,16 +133,16 @@ of_kind kind = record {
 
 -- for the reason that no message was read
 abbrev pub told_unread : NextError → ReportFields
-told_unread (errors.Fault fault offset) = record (of_kind 6) {
+told_unread (errors.Fault fault offset) = record (fields_of_kind 6) {
   spelling = fault_spelling fault;
   place = fault_place fault;
   offset = offset;
 }
-told_unread _ = of_kind 0
+told_unread _ = fields_of_kind 0
 
 -- for a message to a live object, with room for this many arguments
 abbrev pub told_message : ℕ → Object → ℕ → List Reported → ReportFields
-told_message room target opcode args = record (of_kind 1) {
+told_message room target opcode args = record (fields_of_kind 1) {
   opcode = opcode;
   target = target;
   arg_count = min (length args) room;
@@ -151,14 +151,14 @@ told_message room target opcode args = record (of_kind 1) {
 -- What is reported about what a client read.
 abbrev pub told_incoming : ℕ → client.Report → ReportFields
 told_incoming room (client.Event target opcode args) = told_message room target opcode args
-told_incoming room (client.Discarded target opcode tokens) = record (of_kind 2) {
+told_incoming room (client.Discarded target opcode tokens) = record (fields_of_kind 2) {
   opcode = opcode;
   target = target;
   token_count = length tokens;
 }
-told_incoming room (client.Deleted object) = record (of_kind 3) { target = object }
-told_incoming room (client.Stray id) = record (of_kind 4) { id = id }
-told_incoming room (client.Error id named code text) = record (of_kind 5) {
+told_incoming room (client.Deleted object) = record (fields_of_kind 3) { target = object }
+told_incoming room (client.Stray id) = record (fields_of_kind 4) { id = id }
+told_incoming room (client.Error id named code text) = record (fields_of_kind 5) {
   id = id;
   code = code;
   named = (arg_named named).kind;
@@ -216,7 +216,7 @@ is_forgotten state (Some name) = not (is_some (global_of state.globals name))
 abbrev pub told_event_by : ℕ → State → State → Result (Option client.Report) NextError
     → ReportFields
 told_event_by room before after (Err why) = told_unread why
-told_event_by room before after (Ok None) = of_kind 0
+told_event_by room before after (Ok None) = fields_of_kind 0
 told_event_by room before after (Ok (Some report)) = record (told_incoming room report) {
   replaced = made_object after.replaced;
   forgotten = is_forgotten after (told_global_name (client.entry_of before.core.view report)
@@ -235,7 +235,7 @@ event_args _ = []
 -- What is reported about what a server read.
 abbrev pub told_request : ℕ → Result (Option server.Report) NextError → ReportFields
 told_request room (Err why) = told_unread why
-told_request room (Ok None) = of_kind 0
+told_request room (Ok None) = fields_of_kind 0
 told_request room (Ok (Some report)) =
     told_message room report.target report.opcode report.args
 

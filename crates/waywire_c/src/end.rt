@@ -16,7 +16,8 @@ ghost use Rattle.waywire_c.specs.Ends.{next_args, end_after_next};
 ghost use Rattle.waywire_c.specs.Statuses.{find_outcome, OrMemory};
 ghost use Rattle.waywire_c.specs.Values.{amounts_of, given_in, iface_at, object_from_c};
 ghost use Rattle.waywire_c.specs.Calls.{SendTells};
-ghost use Rattle.waywire_c.specs.Reports.{entry_told, entry_told_by, of_kind, TellsArgs, told_by};
+ghost use Rattle.waywire_c.specs.Reports.{entry_told, entry_told_by, fields_of_kind, TellsArgs};
+ghost use Rattle.waywire_c.specs.Reports.{told_by};
 
 use crate::end_handle::EndHandle;
 use crate::reading::read;
@@ -335,7 +336,7 @@ pub extern "C" fn waywire_c_end_next(
     ensures entry { result ≢ 11 → entry_told_by report.new ≡ next_entry end.old.held }
     ensures args { result ≢ 11 → TellsArgs (next_args end.old.held) args.old args.new }
     ensures state { result ≢ 11 → end.new.held ≡ end_after_next end.old.held }
-    ensures no_report { result ≡ 11 → told_by report.new ≡ of_kind 0 }
+    ensures no_report { result ≡ 11 → told_by report.new ≡ fields_of_kind 0 }
     ensures no_entry { result ≡ 11 → entry_told_by report.new ≡ entry_told None }
     ensures no_args { result ≡ 11 → args.new ≡ args.old }
     ensures unchanged { result ≡ 11 → end.new.held ≡ end.old.held }

@@ -10,7 +10,8 @@ ghost use Rattle.wl_server.specs.Requests.{request_opens, request as found_reque
 ghost use Rattle.waywire_c.specs.Ends.{front_opens, read_status, takes_none, told_next, next_entry};
 ghost use Rattle.waywire_c.specs.Ends.{next_args, end_after_next};
 ghost use Rattle.waywire_c.specs.Statuses.{read_outcome, OrMemory};
-ghost use Rattle.waywire_c.specs.Reports.{event_args, of_kind, request_args, TellsArgs, told_by};
+ghost use Rattle.waywire_c.specs.Reports.{event_args, fields_of_kind, request_args, TellsArgs};
+ghost use Rattle.waywire_c.specs.Reports.{told_by};
 ghost use Rattle.waywire_c.specs.Reports.{entry_told, entry_told_by, event_entry, request_entry};
 ghost use Rattle.waywire_c.specs.Reports.{told_event, told_request};
 
@@ -30,7 +31,7 @@ pub fn read(end: &mut HeldEnd, report: &mut Report, args: &mut [ReportArg]) -> u
     ensures entry { result ≢ 11 → entry_told_by report.new ≡ next_entry end.old }
     ensures args { result ≢ 11 → TellsArgs (next_args end.old) args.old args.new }
     ensures state { result ≢ 11 → end.new ≡ end_after_next end.old }
-    ensures no_report { result ≡ 11 → told_by report.new ≡ of_kind 0 }
+    ensures no_report { result ≡ 11 → told_by report.new ≡ fields_of_kind 0 }
     ensures no_entry { result ≡ 11 → entry_told_by report.new ≡ entry_told None }
     ensures no_args { result ≡ 11 → args.new ≡ args.old }
     ensures unchanged { result ≡ 11 → end.new ≡ end.old }
@@ -56,7 +57,7 @@ fn read_event<'t>(
         ≡ entry_told (event_entry client.old.core.view (next_answer client.old)) }
     ensures args { result ≢ 11 → TellsArgs (event_args (next_answer client.old)) args.old args.new }
     ensures state { result ≢ 11 → client.new ≡ after_event client.old }
-    ensures no_report { result ≡ 11 → told_by report.new ≡ of_kind 0 }
+    ensures no_report { result ≡ 11 → told_by report.new ≡ fields_of_kind 0 }
     ensures no_entry { result ≡ 11 → entry_told_by report.new ≡ entry_told None }
     ensures no_args { result ≡ 11 → args.new ≡ args.old }
     ensures unchanged { result ≡ 11 → client.new ≡ client.old }
@@ -99,7 +100,7 @@ fn read_request<'t>(
     ensures args { result ≢ 11
         → TellsArgs (request_args (request_answer server.old)) args.old args.new }
     ensures state { result ≢ 11 → server.new ≡ after_request server.old }
-    ensures no_report { result ≡ 11 → told_by report.new ≡ of_kind 0 }
+    ensures no_report { result ≡ 11 → told_by report.new ≡ fields_of_kind 0 }
     ensures no_entry { result ≡ 11 → entry_told_by report.new ≡ entry_told None }
     ensures no_args { result ≡ 11 → args.new ≡ args.old }
     ensures unchanged { result ≡ 11 → server.new ≡ server.old }

@@ -4,7 +4,8 @@ ghost use Rattle.wl_object_map.specs.declared.object.Entry.{Entry};
 ghost use Rattle.wl_objects.specs.Parsed.{seen_args};
 ghost use Rattle.wl_client.specs.Outlines.{lent_report as lent_event};
 ghost use Rattle.wl_server.specs.Seen.{lent_report as lent_request};
-ghost use Rattle.waywire_c.specs.Reports.{args_of_event, told_global_name, of_kind, TellsArgs};
+ghost use Rattle.waywire_c.specs.Reports.{args_of_event, told_global_name, fields_of_kind};
+ghost use Rattle.waywire_c.specs.Reports.{TellsArgs};
 ghost use Rattle.waywire_c.specs.Reports.{told_by, entry_told, entry_told_by, told_incoming};
 ghost use Rattle.waywire_c.specs.Reports.{is_registry_entry};
 ghost use Rattle.waywire_c.specs.Reports.{told_message, told_unread};
@@ -68,7 +69,7 @@ pub struct Report {
 /// A report of this kind with nothing else.
 #[inline(always)]
 fn plain(kind: u32) -> Report
-    ensures report { told_by result ≡ of_kind kind }
+    ensures report { told_by result ≡ fields_of_kind kind }
     ensures entry { entry_told_by result ≡ entry_told None }
 {
     Report {
@@ -96,7 +97,7 @@ fn plain(kind: u32) -> Report
 /// The report if no message is whole.
 #[inline(always)]
 pub fn nothing() -> Report
-    ensures report { told_by result ≡ of_kind 0 }
+    ensures report { told_by result ≡ fields_of_kind 0 }
     ensures entry { entry_told_by result ≡ entry_told None }
 {
     plain(NOTHING)

@@ -26,8 +26,8 @@ use Rattle.wl_objects.specs.declared.error.Fault.{Fault}
 use Rattle.wl_objects.specs.declared.error.Fault.TheVariants.{BadSize, TrailingBytes, MissingDescriptor, UnknownMessage}
 use Rattle.wl_object_map.specs.Ranges.{first_server_id, max_server_id, is_of_server}
 use Rattle.wl_object_map.specs.View.{max_ids}
-use Rattle.wl_objects.specs.Reading.{Reader, forgiving_kind, forgiving, new_fault, value_fault, unless}
-use Rattle.wl_objects.specs.Reading.{value_or_fault as judged_value, before, and_those, arguments_at}
+use Rattle.wl_objects.specs.Reading.{Reader, forgiving_kind, forgiving, new_fault, value_fault, value_unless}
+use Rattle.wl_objects.specs.Reading.{value_or_fault as judged_value, value_before, value_then_rest, arguments_at}
 use Rattle.wl_objects.specs.Messages.{Received, NewObject, made, made_by, or_else}
 use Rattle.wl_objects.specs.Messages.{is_error, received_whole, received_as, received_by, received}
 use Rattle.wl_objects.specs.Messages.{new_id_of}
@@ -80,7 +80,7 @@ free_or r (Some x) rest f h = f
 
 free_before : (tables : List Interface) (version : ℕ) (r : Reader) (place : ℕ) (kind : Kind) (ks : List Kind)
     (v : Argument) (x : Result (List Argument × List ℕ) Fault) → value_fault r place kind v ≡ None
-    → Free_in tables version r ks x → Free_in tables version r (kind ∷ ks) (before v x)
+    → Free_in tables version r ks x → Free_in tables version r (kind ∷ ks) (value_before v x)
 free_before tables version r place kind ks v (Err fault) f h = tt
 free_before tables version r place kind ks v (Ok found) f h =
     free_or r (made_by tables version kind v) (made tables version ks found.0)
@@ -89,7 +89,7 @@ free_before tables version r place kind ks v (Ok found) f h =
 free_unless : (tables : List Interface) (version : ℕ) (r : Reader) (place : ℕ) (kind : Kind) (ks : List Kind)
     (bytes : List ℕ) (v : Argument × ℕ) (o : Option Fault) → value_fault r place kind v.0 ≡ o
     → ((b : List ℕ) → Free_in tables version r ks (arguments_at r (suc place) ks b))
-    → Free_in tables version r (kind ∷ ks) (and_those (arguments_at r (suc place) ks) bytes (unless o v))
+    → Free_in tables version r (kind ∷ ks) (value_then_rest (arguments_at r (suc place) ks) bytes (value_unless o v))
 free_unless tables version r place kind ks bytes v (Some fault) f h = tt
 free_unless tables version r place kind ks bytes v None f h =
     free_before tables version r place kind ks v.0 (arguments_at r (suc place) ks (drop v.1 bytes)) f
@@ -98,7 +98,7 @@ free_unless tables version r place kind ks bytes v None f h =
 free_judged : (tables : List Interface) (version : ℕ) (r : Reader) (place : ℕ) (kind : Kind) (ks : List Kind)
     (bytes : List ℕ) (x : Result (Argument × ℕ) ArgFault)
     → ((b : List ℕ) → Free_in tables version r ks (arguments_at r (suc place) ks b))
-    → Free_in tables version r (kind ∷ ks) (and_those (arguments_at r (suc place) ks) bytes
+    → Free_in tables version r (kind ∷ ks) (value_then_rest (arguments_at r (suc place) ks) bytes
     (judged_value r place kind x))
 free_judged tables version r place kind ks bytes (Err fault) h = tt
 free_judged tables version r place kind ks bytes (Ok v) h =

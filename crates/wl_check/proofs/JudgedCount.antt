@@ -5,7 +5,7 @@ use Rattle.wl_recording.specs.Piece.{Piece}
 use Rattle.wl_check.specs.declared.scanning.Scanner.{Scanner}
 use Rattle.wl_check.specs.declared.session_state.SessionStatus.{SessionStatus}
 use Rattle.wl_check.specs.declared.session_state.SessionStatus.TheVariants.{Open, Ended, Broken}
-use Rattle.wl_check.specs.SessionState.{is_going, IsAfter, IsEnd, IsFault, StatusIs}
+use Rattle.wl_check.specs.SessionState.{is_going, AfterPieces, IsEnd, IsFault, StatusIs}
 use Rattle.wl_check.specs.Session.{ArePassed, messages, session_of}
 use Rattle.wl_check.specs.Trace.{lasting}
 use Rattle.wl_check.proofs.JudgedByPlaces.{length_messages}
@@ -13,7 +13,7 @@ use Rattle.wl_check.proofs.Lines.{lasting_all, lasting_end, lasting_broken}
 use Rattle.wl_check.proofs.SessionByMessage.{open_passed}
 
 count_as : {A : Type 0} (limit : ℕ) (tables : List Interface) (ps : List Piece) (s : Scanner A)
-    (status : SessionStatus) → s.state.status ≡ status → IsAfter limit tables ps s
+    (status : SessionStatus) → s.state.status ≡ status → AfterPieces limit tables ps s
     → s.state.count ≡ lasting (messages tables (session_of limit ps))
 count_as limit tables ps s Open e h =
     let t = session_of limit ps in
@@ -37,5 +37,5 @@ count_as limit tables ps s (Broken f fault) e h =
     sym (lasting_broken (messages tables t) s.state.count fault i.is i.passed)
 
 pub judged_count : {A : Type 0} (limit : ℕ) (tables : List Interface) (ps : List Piece) (s : Scanner A)
-    → IsAfter limit tables ps s → s.state.count ≡ lasting (messages tables (session_of limit ps))
+    → AfterPieces limit tables ps s → s.state.count ≡ lasting (messages tables (session_of limit ps))
 judged_count limit tables ps s h = count_as limit tables ps s s.state.status refl h

@@ -8,7 +8,7 @@ use Rattle.wl_object_map.specs.declared.object.Entry.{Entry}
 use Rattle.wl_object_map.specs.declared.object.State.TheVariants.{Live}
 use Rattle.wl_check.specs.declared.changes.MessageChanges.{MessageChanges}
 use Rattle.wl_check.specs.Places.{makes_id, deletes_id, destroys_id, holder, is_ending, live_or_zombie, made_entry}
-use Rattle.wl_check.specs.Places.{new_of, entry_made_at, object_named, unless_deleted, object_after}
+use Rattle.wl_check.specs.Places.{new_or_null, entry_made_at, object_named, unless_deleted, object_after}
 use Rattle.wl_check.specs.Places.{used_after, server_used_after, advertised_after, taken_after, used, server_used}
 use Rattle.wl_check.specs.Places.{advertised_version, taken, KnownAtPlace, known, IsKnownBehind}
 
@@ -42,13 +42,13 @@ kept s p i false true (Some m) is h = rw (is, lt-ltb m p h) refl
 kept s p i false false (Some m) is h = rw (is, lt-ltb m p h) refl
 
 new : (s : ℕ → MessageChanges) (p i : ℕ) → entry_made_at s p (live_or_zombie (is_ending s p (suc p) i))
-    ≡ made_entry p Live (new_of (s p).made)
+    ≡ made_entry p Live (new_or_null (s p).made)
 new s p i = rw (is_ending_none s p (suc p) i (omega arith)) refl
 
 next : (s : ℕ → MessageChanges) (p i : ℕ) (made : Bool)
     → option_map (λ m. entry_made_at s m (live_or_zombie (is_ending s m (suc p) i)))
     (cond made (Some p) (cond (deletes_id (s p) i) None (holder s p i)))
-    ≡ cond made (Some (made_entry p Live (new_of (s p).made)))
+    ≡ cond made (Some (made_entry p Live (new_or_null (s p).made)))
     (unless_deleted (deletes_id (s p) i) (destroys_id (s p) i) (object_named s p i))
 next s p i true = ap (λ (e : Entry). Some e) (new s p i)
 next s p i false = kept s p i (deletes_id (s p) i) (destroys_id (s p) i) (holder s p i) refl (holder_before s p i)

@@ -6,24 +6,24 @@ use Rattle.std.proofs.lemmas.List.{length-drop, drop-append-le, drop-drop}
 use Rattle.wl_message.specs.Cut.{is_size, told_size, front, Front, More, Bad, Whole, cut_within, messages_in_stream}
 use Rattle.wl_message.proofs.Fronts.{Seen, short, long, whole, bad, seen, front_stands, is_size-true}
 use Rattle.wl_message.proofs.Cuts.{front_spoiled, told_append}
-use Rattle.wl_check.specs.Merged.{Span, span, cutting, cut_at, cut, finish}
-use Rattle.wl_check.specs.Text.{part_of, sound, Brings}
+use Rattle.wl_check.specs.Merged.{Span, span, cutting, cut_by_front, cut, span_finish}
+use Rattle.wl_check.specs.Text.{part_of, sound, BringsSpans}
 use Rattle.wl_check.proofs.MessagesOfStream.{step, new_spans, next_within, front_past, place_within}
 
 -- ---- where a message ends
 
-finish_bad : (limit p z : ℕ) → is_size limit z ≡ false → finish limit (span p z) ≡ p + 8
+finish_bad : (limit p z : ℕ) → is_size limit z ≡ false → span_finish limit (span p z) ≡ p + 8
 finish_bad limit p z e = rw e refl
 
-finish_good : (limit p z : ℕ) → is_size limit z ≡ true → finish limit (span p z) ≡ p + z
+finish_good : (limit p z : ℕ) → is_size limit z ≡ true → span_finish limit (span p z) ≡ p + z
 finish_good limit p z e = rw e refl
 
 pub whole_size : (limit : ℕ) (s : List ℕ) (p z : ℕ) → front limit (drop p s) ≡ Whole z → is_size limit z ≡ true
 whole_size limit s p z e = is_size-true limit z (front_stands limit (drop p s) z e).size
 
 within_step : (limit n b : ℕ) (w : List ℕ) (p : ℕ) (f : Front) → front limit (drop p w) ≡ f → p ≤ length w → b ≤ p
-    → ((z : ℕ) → p + z ≤ length w → Brings limit b (length w) (cutting limit n w (p + z)).spans)
-    → Brings limit b (length w) (cut_at p f (cutting limit n w)).spans
+    → ((z : ℕ) → p + z ≤ length w → BringsSpans limit b (length w) (cutting limit n w (p + z)).spans)
+    → BringsSpans limit b (length w) (cut_by_front p f (cutting limit n w)).spans
 within_step limit n b w p More e within after ih = tt
 within_step limit n b w p (Bad z) e within after ih =
     let x = front_spoiled limit (drop p w) z e in
@@ -38,7 +38,7 @@ within_step limit n b w p (Whole z) e within after ih =
     ((omega (arith, f, big, after), omega (arith, f, there)), ih z there)
 
 within : (limit n b : ℕ) (w : List ℕ) (p : ℕ) → p ≤ length w → b ≤ p
-    → Brings limit b (length w) (cutting limit n w p).spans
+    → BringsSpans limit b (length w) (cutting limit n w p).spans
 unfolding cutting
 within limit zero b w p there after = tt
 within limit (suc n) b w p there after = within_step limit n b w p (front limit (drop p w)) refl there after
@@ -49,8 +49,8 @@ within limit (suc n) b w p there after = within_step limit n b w p (front limit 
 why_step : (limit n : ℕ) (s : List ℕ) (p : ℕ) (f : Front) → front limit (drop p s) ≡ f → p ≤ length s
     → ((z : ℕ) → 8 ≤ z → p + z ≤ length s → (cutting limit n s (p + z)).has_bad_size ≡ false
     → front limit (drop (cutting limit n s (p + z)).place s) ≡ More)
-    → (cut_at p f (cutting limit n s)).has_bad_size ≡ false
-    → front limit (drop (cut_at p f (cutting limit n s)).place s) ≡ More
+    → (cut_by_front p f (cutting limit n s)).has_bad_size ≡ false
+    → front limit (drop (cut_by_front p f (cutting limit n s)).place s) ≡ More
 why_step limit n s p More e within ih fine = e
 why_step limit n s p (Bad z) e within ih fine = absurd (cc)
 why_step limit n s p (Whole z) e within ih fine = let x = next_within limit s p z e within in ih z x.0 x.1 fine
@@ -88,7 +88,7 @@ spoiled_by limit x y f (bad h none) e z w = absurd (cc)
 
 fresh_step : (limit : ℕ) (s t : List ℕ) (p : ℕ) (f : Front) → p ≤ length s → front limit (drop p s) ≡ More
     → drop p (s ++ t) ≡ drop p s ++ t → front limit (drop p (s ++ t)) ≡ f
-    → Brings limit (length s) (length (s ++ t)) (cut_at p f (cutting limit (length (s ++ t)) (s ++ t))).spans
+    → BringsSpans limit (length s) (length (s ++ t)) (cut_by_front p f (cutting limit (length (s ++ t)) (s ++ t))).spans
 fresh_step limit s t p More there more apart e = tt
 fresh_step limit s t p (Bad z) there more apart e =
     let less = spoiled_by limit (drop p s) t (front limit (drop p s)) (seen limit (drop p s)) more z
@@ -115,7 +115,7 @@ fresh_step limit s t p (Whole z) there more apart e =
     )
 
 brings_step : (limit : ℕ) (s t : List ℕ) (b : Bool) → (cut limit s).has_bad_size ≡ b
-    → Brings limit (length s) (length (s ++ t)) (cond b []
+    → BringsSpans limit (length s) (length (s ++ t)) (cond b []
     (cutting limit (length (s ++ t)) (s ++ t) (cut limit s).place).spans)
 brings_step limit s t true is = tt
 brings_step limit s t false is =
@@ -125,7 +125,7 @@ brings_step limit s t false is =
     (fresh_step limit s t p (front limit (drop p (s ++ t))) there
     (why limit (length s) s 0 (omega arith) (omega arith) is) (drop-append-le p s t there) refl)
 
-pub piece_brings : (limit : ℕ) (s t : List ℕ) → Brings limit (length s) (length (s ++ t))
+pub piece_brings : (limit : ℕ) (s t : List ℕ) → BringsSpans limit (length s) (length (s ++ t))
     (drop (length (cut limit s).spans) (cut limit (s ++ t)).spans)
 piece_brings limit s t = rw (new_spans limit s t) (brings_step limit s t (cut limit s).has_bad_size refl)
 
@@ -158,7 +158,7 @@ within_whole limit count z bytes e = rw (e, cut_within) refl
 
 parts_step : (limit n : ℕ) (s : List ℕ) (p : ℕ) (f : Front) → front limit (drop p s) ≡ f
     → ((z : ℕ) → parts limit s (cutting limit n s (p + z)).spans ≡ (cut_within n limit (drop (p + z) s)).messages)
-    → parts limit s (cut_at p f (cutting limit n s)).spans ≡ (cut_within (suc n) limit (drop p s)).messages
+    → parts limit s (cut_by_front p f (cutting limit n s)).spans ≡ (cut_within (suc n) limit (drop p s)).messages
 parts_step limit n s p More e ih = sym (within_more limit n (drop p s) e)
 parts_step limit n s p (Bad z) e ih = ap (map (part_of s))
     (sound_bad limit p z [] (front_spoiled limit (drop p s) z e).none) ∙ sym (within_bad limit n z (drop p s) e)

@@ -9,9 +9,9 @@ use Rattle.wl_message.specs.Cut.{is_size, front, Front, More, Bad, Whole, cut_wi
 use Rattle.wl_message.proofs.Cuts.{front_none}
 use Rattle.wl_recording.specs.Piece.{Piece}
 use Rattle.wl_check.specs.declared.frames.FramedMessage.{FramedMessage}
-use Rattle.wl_check.specs.Merged.{Span, span, cutting, cut_at, cut, finish, stream_of, piece_tokens}
+use Rattle.wl_check.specs.Merged.{Span, span, cutting, cut_by_front, cut, span_finish, stream_of, piece_tokens}
 use Rattle.wl_check.specs.Merged.{framed, completed, merged_within, merged}
-use Rattle.wl_check.specs.Text.{EndsWith, messages, bad_size, Brings, ComesWith, ComeInOrder}
+use Rattle.wl_check.specs.Text.{EndsWith, messages, bad_size, BringsSpans, ComesWith, ComeInOrder}
 use Rattle.wl_check.proofs.MessagesOfStream.{next_within}
 use Rattle.wl_check.proofs.LastBytes.{piece_brings, whole_size}
 use Rattle.wl_check.proofs.MergedPiece.{stream_more, tokens_more, merged_more, same_is}
@@ -34,7 +34,7 @@ order_more limit ps k from (f ∷ fs) gs l h g =
 
 -- the messages that a piece completes come with it
 come_with : (limit : ℕ) (ps : List Piece) (k : ℕ) (p : Piece) → slice_get ps k ≡ Some p → (ms : List Span)
-    → Brings limit (length (stream_of p.direction (take k ps)))
+    → BringsSpans limit (length (stream_of p.direction (take k ps)))
     (length (stream_of p.direction (take k ps) ++ p.bytes)) ms
     → AllByRecursion (ComesWith limit ps k) (map (framed p.direction (piece_tokens p.direction (take k ps) + p.tokens))
     ms)
@@ -50,7 +50,7 @@ come_with limit ps k p e (m ∷ ms) b =
         there = e;
         direction = refl;
         behind = b.0.0;
-        within = subst (λ (l : List ℕ). finish limit m ≤ length l) (sym bytes) b.0.1;
+        within = subst (λ (l : List ℕ). span_finish limit m ≤ length l) (sym bytes) b.0.1;
         tokens = sym tokens;
       },
       come_with limit ps k p e ms b.1,
@@ -102,7 +102,7 @@ end_later limit s rest p z ms g (bad_size before place size e a d f) =
 end_step : (limit n : ℕ) (s : List ℕ) (p : ℕ) (f : Front) → front limit (drop p s) ≡ f → p ≤ length s
     → ((z : ℕ) → 8 ≤ z → p + z ≤ length s → EndsWith limit s (cut_within n limit (drop (p + z) s)).rest
     (cutting limit n s (p + z)).spans)
-    → EndsWith limit s (cut_within (suc n) limit (drop p s)).rest (cut_at p f (cutting limit n s)).spans
+    → EndsWith limit s (cut_within (suc n) limit (drop p s)).rest (cut_by_front p f (cutting limit n s)).spans
 end_step limit n s p More e l ih = subst (λ (r : List ℕ). EndsWith limit s r []) (sym (rest_more limit n (drop p s) e))
     (messages tt (no_bad limit (drop p s) e))
 end_step limit n s p (Bad z) e l ih = subst (λ (r : List ℕ). EndsWith limit s r (span p z ∷ []))

@@ -12,7 +12,7 @@ use Rattle.wl_wire.specs.Word.{header_at}
 use Rattle.wl_wire.proofs.Numbers.{bytewise_from}
 use Rattle.wl_wire.proofs.Headers.{header-size}
 use Rattle.wl_check.specs.Seen.{size_of}
-use Rattle.wl_check.specs.Merged.{Span, span, Cutting, cutting, then_cut, cut_at, cut}
+use Rattle.wl_check.specs.Merged.{Span, span, Cutting, cutting, span_then_cut, cut_by_front, cut}
 
 -- ---- what is at the front, from the code's tests
 
@@ -77,11 +77,11 @@ front_more s t p within = drop-append-le p s t within
 -- any two amounts of fuel that are enough give the same result
 fuel_step : (limit n k : ℕ) (s : List ℕ) (p : ℕ) (f : Front) → front limit (drop p s) ≡ f → p ≤ length s
     → ((z : ℕ) → 8 ≤ z → p + z ≤ length s → cutting limit n s (p + z) ≡ cutting limit k s (p + z))
-    → cut_at p f (cutting limit n s) ≡ cut_at p f (cutting limit k s)
+    → cut_by_front p f (cutting limit n s) ≡ cut_by_front p f (cutting limit k s)
 fuel_step limit n k s p More e within ih = refl
 fuel_step limit n k s p (Bad z) e within ih = refl
 fuel_step limit n k s p (Whole z) e within ih = let w = next_within limit s p z e within
-    in ap (λ (c : Cutting). then_cut (span p z) c) (ih z w.0 w.1)
+    in ap (λ (c : Cutting). span_then_cut (span p z) c) (ih z w.0 w.1)
 
 pub fuel : (limit n k : ℕ) (s : List ℕ) (p : ℕ) → p ≤ length s → length s ≤ p + n → length s ≤ p + k
     → cutting limit n s p ≡ cutting limit k s p
@@ -94,7 +94,7 @@ fuel limit (suc n) (suc k) s p within a b = fuel_step limit n k s p (front limit
 
 -- one step, with enough fuel
 pub step : (limit j : ℕ) (w : List ℕ) (p : ℕ) → p ≤ length w → length w ≤ j
-    → cutting limit j w p ≡ cut_at p (front limit (drop p w)) (cutting limit j w)
+    → cutting limit j w p ≡ cut_by_front p (front limit (drop p w)) (cutting limit j w)
 unfolding cutting
 step limit j w p within enough = fuel limit j (suc j) w p within (omega arith) (omega arith)
 
@@ -107,7 +107,7 @@ goes_on a b = cond a.has_bad_size a (record {
 })
 
 then_goes : (m : Span) (c : Cutting) (f : ℕ → Cutting) (b : Bool) → c.has_bad_size ≡ b
-    → then_cut m (goes_on c f) ≡ goes_on (then_cut m c) f
+    → span_then_cut m (goes_on c f) ≡ goes_on (span_then_cut m c) f
 then_goes m c f true is = rw is refl
 then_goes m c f false is = rw is refl
 
@@ -115,7 +115,7 @@ more_step : (limit n j : ℕ) (s t : List ℕ) (p : ℕ) (f : Front) → front l
     → length (s ++ t) ≤ j
     → ((z : ℕ) → 8 ≤ z → p + z ≤ length s → cutting limit j (s ++ t) (p + z)
     ≡ goes_on (cutting limit n s (p + z)) (cutting limit j (s ++ t)))
-    → cutting limit j (s ++ t) p ≡ goes_on (cut_at p f (cutting limit n s)) (cutting limit j (s ++ t))
+    → cutting limit j (s ++ t) p ≡ goes_on (cut_by_front p f (cutting limit n s)) (cutting limit j (s ++ t))
 more_step limit n j s t p More e within enough ih = refl
 more_step limit n j s t p (Bad z) e within enough ih =
     let there : front limit (drop p (s ++ t)) ≡ Bad z =
@@ -139,7 +139,7 @@ more limit (suc n) j s t p within a b = more_step limit n j s t p (front limit (
 -- the place where the cutting stops is within the stream
 place_step : (limit n : ℕ) (s : List ℕ) (p : ℕ) (f : Front) → front limit (drop p s) ≡ f → p ≤ length s
     → ((z : ℕ) → p + z ≤ length s → (cutting limit n s (p + z)).place ≤ length s)
-    → (cut_at p f (cutting limit n s)).place ≤ length s
+    → (cut_by_front p f (cutting limit n s)).place ≤ length s
 place_step limit n s p More e within ih = within
 place_step limit n s p (Bad z) e within ih = within
 place_step limit n s p (Whole z) e within ih = ih z (next_within limit s p z e within).1

@@ -13,7 +13,7 @@ use Rattle.wl_check.specs.declared.session_state.SessionStatus.TheVariants.{Open
 use Rattle.wl_check.specs.declared.progress.Progress.{Progress}
 use Rattle.wl_check.specs.declared.inspector.Inspector.{Inspector}
 use Rattle.wl_check.specs.declared.scanning.Scanner.{Scanner}
-use Rattle.wl_check.specs.SessionState.{is_going, IsAt, IsAfter, IsEnd, IsFault, StatusIs}
+use Rattle.wl_check.specs.SessionState.{is_going, IsAt, AfterPieces, IsEnd, IsFault, StatusIs}
 use Rattle.wl_check.specs.Changes.{Call}
 use Rattle.wl_check.specs.Inspected.{printed, HasPassed, Inspected, begun, passed}
 use Rattle.wl_check.specs.Merged.{merged_within}
@@ -52,7 +52,7 @@ prints_both tables s o x first then last old between new same one other earlier 
 -- ---- after the pieces, the lines of all judged messages are the trace
 
 lines_reach_as : {A : Type 0} (limit : ℕ) (tables : List Interface) (ps : List Piece) (s : Scanner A)
-    (status : SessionStatus) → s.state.status ≡ status → IsAfter limit tables ps s
+    (status : SessionStatus) → s.state.status ≡ status → AfterPieces limit tables ps s
     → lines_within tables (session_of limit ps) s.state.count ≡ trace_of tables (session_of limit ps)
 lines_reach_as limit tables ps s Open e h =
     let t = session_of limit ps in
@@ -72,13 +72,13 @@ lines_reach_as limit tables ps s (Broken f fault) e h =
     trace_broken tables t s.state.count Lines fault (lines_within tables t s.state.count) i.is i.passed refl
 
 lines_reach : {A : Type 0} (limit : ℕ) (tables : List Interface) (ps : List Piece) (s : Scanner A)
-    → IsAfter limit tables ps s
+    → AfterPieces limit tables ps s
     → lines_within tables (session_of limit ps) s.state.count ≡ trace_of tables (session_of limit ps)
 lines_reach limit tables ps s h = lines_reach_as limit tables ps s s.state.status refl h
 
 -- what was written for a piece whose messages were judged up to its end
 pub prints_piece : {A : Type 0} (limit : ℕ) (tables : List Interface) (o : Output) (ps : List Piece) (p : Piece)
-    (s t : Scanner A) (old new : List ℕ) → IsAfter limit tables ps s → IsAfter limit tables (ps ++ p ∷ []) t
+    (s t : Scanner A) (old new : List ℕ) → AfterPieces limit tables ps s → AfterPieces limit tables (ps ++ p ∷ []) t
     → PrintsOn tables (session_of limit (ps ++ p ∷ [])) o s.state.count t.state.count old new
     → PrintsPiece limit tables o ps p old new
 prints_piece limit tables o ps p s t old new h after prints earlier old_is =
@@ -91,10 +91,10 @@ prints_piece limit tables o ps p s t old new h after prints earlier old_is =
 -- the same with the values that the code has
 pub prints_so : {A E : Type 0} (limit : ℕ) (tables : List Interface) (o : Output) (p : Piece) (s t : Scanner A)
     (old new : List ℕ) (r : Result (Unit {0}) E)
-    → OnOk r ((ps : List Piece) → IsAfter limit tables ps s → IsAfter limit tables (ps ++ p ∷ []) t)
-    → OnOk r ((ps : List Piece) → IsAfter limit tables ps s
+    → OnOk r ((ps : List Piece) → AfterPieces limit tables ps s → AfterPieces limit tables (ps ++ p ∷ []) t)
+    → OnOk r ((ps : List Piece) → AfterPieces limit tables ps s
     → PrintsOn tables (session_of limit (ps ++ p ∷ [])) o s.state.count t.state.count old new)
-    → OnOk r ((ps : List Piece) → IsAfter limit tables ps s → PrintsPiece limit tables o ps p old new)
+    → OnOk r ((ps : List Piece) → AfterPieces limit tables ps s → PrintsPiece limit tables o ps p old new)
 prints_so limit tables o p s t old new (Ok x) after prints =
     λ ps h. prints_piece limit tables o ps p s t old new h (after ps h) (prints ps h)
 prints_so limit tables o p s t old new (Err e) after prints = tt

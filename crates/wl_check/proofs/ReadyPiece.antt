@@ -7,11 +7,11 @@ use Rattle.wl_sigs.specs.Tables.{Interface}
 use Rattle.wl_recording.specs.declared.piece.Appended.{Appended}
 use Rattle.wl_recording.specs.declared.piece.Direction.{Direction}
 use Rattle.wl_recording.specs.declared.piece.Direction.TheVariants.{ToServer, ToClient}
-use Rattle.wl_recording.specs.Piece.{Piece, own}
+use Rattle.wl_recording.specs.Piece.{Piece, own_bytes}
 use Rattle.wl_check.specs.declared.session_state.SessionState.{SessionState}
 use Rattle.wl_check.specs.declared.frames.Stream.{Stream}
 use Rattle.wl_check.specs.declared.scanning.Scanner.{Scanner}
-use Rattle.wl_check.specs.SessionState.{is_going, end_in, Along, HasCome, IsAfter, IsReady, IsStream}
+use Rattle.wl_check.specs.SessionState.{is_going, end_in, JudgedAlong, HasCome, AfterPieces, IsReady, IsStream}
 use Rattle.wl_check.specs.Merged.{same_direction}
 use Rattle.wl_check.specs.Printed.{PrintsOn, PrintsPiece}
 use Rattle.wl_check.specs.Session.{session_of}
@@ -46,7 +46,7 @@ stream_same limit d ps c s t same h = record {
 -- without a new piece nothing changes
 pub still_after : {A : Type 0} (limit : ℕ) (tables : List Interface) (ps : List Piece) (c : SessionState A)
     (s t x y : Stream A) → AreSameBytes s t → AreSameBytes x y
-    → IsAfter limit tables ps (scanner c s x) → IsAfter limit tables ps (scanner c t y)
+    → AfterPieces limit tables ps (scanner c s x) → AfterPieces limit tables ps (scanner c t y)
 still_after limit tables ps c s t x y server client h = record {
   judged = h.judged;
   all = h.all;
@@ -68,9 +68,9 @@ pub come_server : {A : Type 0} (limit : ℕ) (tables : List Interface) (ps : Lis
     → IsReady limit tables ps p a s → HasCome limit tables ps p a s.state s.to_server
 come_server {A = A} limit tables ps p a s is r = record {
   before = r.before.to_server;
-  along = subst (λ (c : SessionState A). Along limit tables p.direction ps c r.before.to_server) (sym r.state)
+  along = subst (λ (c : SessionState A). JudgedAlong limit tables p.direction ps c r.before.to_server) (sym r.state)
       (along_server limit tables ps p.direction r.before is r.after);
-  bytes = r.appended_is.to_server ∙ ap (λ (d : Direction). r.before.to_server.bytes ++ own ToServer d p.bytes) is;
+  bytes = r.appended_is.to_server ∙ ap (λ (d : Direction). r.before.to_server.bytes ++ own_bytes ToServer d p.bytes) is;
   len = r.len_to_server;
   tokens = r.tokens_to_server;
   direction_is = r.appended_is.direction;
@@ -83,9 +83,9 @@ pub come_client : {A : Type 0} (limit : ℕ) (tables : List Interface) (ps : Lis
     → IsReady limit tables ps p a s → HasCome limit tables ps p a s.state s.to_client
 come_client {A = A} limit tables ps p a s is r = record {
   before = r.before.to_client;
-  along = subst (λ (c : SessionState A). Along limit tables p.direction ps c r.before.to_client) (sym r.state)
+  along = subst (λ (c : SessionState A). JudgedAlong limit tables p.direction ps c r.before.to_client) (sym r.state)
       (along_client limit tables ps p.direction r.before is r.after);
-  bytes = r.appended_is.to_client ∙ ap (λ (d : Direction). r.before.to_client.bytes ++ own ToClient d p.bytes) is;
+  bytes = r.appended_is.to_client ∙ ap (λ (d : Direction). r.before.to_client.bytes ++ own_bytes ToClient d p.bytes) is;
   len = r.len_to_client;
   tokens = r.tokens_to_client;
   direction_is = r.appended_is.direction;
@@ -97,11 +97,11 @@ come_client {A = A} limit tables ps p a s is r = record {
 pub judged_server : {A E : Type 0} (limit : ℕ) (tables : List Interface) (a : Appended) (s : Scanner A)
     (n : SessionState A) (after : Stream A) (r : Result (Unit {0}) E) → a.direction ≡ ToServer
     → OnOk r ((ps : List Piece) (p : Piece) → HasCome limit tables ps p a s.state s.to_server
-    → Along limit tables p.direction (ps ++ p ∷ []) n after)
+    → JudgedAlong limit tables p.direction (ps ++ p ∷ []) n after)
     → OnOk r (is_going n.status ≡ true → is_going s.state.status ≡ true)
     → OnOk r ((d : Direction) → same_direction a.direction d ≡ false → end_in n d ≡ end_in s.state d)
     → OnOk r ((ps : List Piece) (p : Piece) → IsReady limit tables ps p a s
-    → IsAfter limit tables (ps ++ p ∷ []) (record { state = n; to_server = after; to_client = s.to_client }))
+    → AfterPieces limit tables (ps ++ p ∷ []) (record { state = n; to_server = after; to_client = s.to_client }))
 judged_server {A = A} limit tables a s n after (Ok x) is along going other = λ ps p r.
     let pd : p.direction ≡ ToServer = sym r.appended_is.direction ∙ is in
     let b = r.before in
@@ -111,7 +111,7 @@ judged_server {A = A} limit tables a s n after (Ok x) is along going other = λ 
     (λ d away. other d (subst (λ (e : Direction). same_direction e d ≡ false) (sym r.appended_is.direction) away)
     ∙ ap (λ (c : SessionState A). end_in c d) r.state) in
     let client : AreSameBytes b.to_client s.to_client = record {
-      bytes = r.appended_is.to_client ∙ ap (λ (d : Direction). b.to_client.bytes ++ own ToClient d p.bytes) pd
+      bytes = r.appended_is.to_client ∙ ap (λ (d : Direction). b.to_client.bytes ++ own_bytes ToClient d p.bytes) pd
           ∙ append-nil b.to_client.bytes;
       len = r.len_to_client;
       tokens = r.tokens_to_client;
@@ -122,11 +122,11 @@ judged_server {A = A} limit tables a s n after (Err e) is along going other = tt
 pub judged_client : {A E : Type 0} (limit : ℕ) (tables : List Interface) (a : Appended) (s : Scanner A)
     (n : SessionState A) (after : Stream A) (r : Result (Unit {0}) E) → a.direction ≡ ToClient
     → OnOk r ((ps : List Piece) (p : Piece) → HasCome limit tables ps p a s.state s.to_client
-    → Along limit tables p.direction (ps ++ p ∷ []) n after)
+    → JudgedAlong limit tables p.direction (ps ++ p ∷ []) n after)
     → OnOk r (is_going n.status ≡ true → is_going s.state.status ≡ true)
     → OnOk r ((d : Direction) → same_direction a.direction d ≡ false → end_in n d ≡ end_in s.state d)
     → OnOk r ((ps : List Piece) (p : Piece) → IsReady limit tables ps p a s
-    → IsAfter limit tables (ps ++ p ∷ []) (record { state = n; to_server = s.to_server; to_client = after }))
+    → AfterPieces limit tables (ps ++ p ∷ []) (record { state = n; to_server = s.to_server; to_client = after }))
 judged_client {A = A} limit tables a s n after (Ok x) is along going other = λ ps p r.
     let pd : p.direction ≡ ToClient = sym r.appended_is.direction ∙ is in
     let b = r.before in
@@ -136,7 +136,7 @@ judged_client {A = A} limit tables a s n after (Ok x) is along going other = λ 
     (λ d away. other d (subst (λ (e : Direction). same_direction e d ≡ false) (sym r.appended_is.direction) away)
     ∙ ap (λ (c : SessionState A). end_in c d) r.state) in
     let server : AreSameBytes b.to_server s.to_server = record {
-      bytes = r.appended_is.to_server ∙ ap (λ (d : Direction). b.to_server.bytes ++ own ToServer d p.bytes) pd
+      bytes = r.appended_is.to_server ∙ ap (λ (d : Direction). b.to_server.bytes ++ own_bytes ToServer d p.bytes) pd
           ∙ append-nil b.to_server.bytes;
       len = r.len_to_server;
       tokens = r.tokens_to_server;
@@ -148,7 +148,7 @@ judged_client {A = A} limit tables a s n after (Err e) is along going other = tt
 pub prints_ready : {A E : Type 0} (limit : ℕ) (tables : List Interface) (o : Output) (a : Appended)
     (s t : Scanner A) (old new : List ℕ) (r : Result (Unit {0}) E)
     → OnOk r ((ps : List Piece) (p : Piece) → IsReady limit tables ps p a s
-    → IsAfter limit tables (ps ++ p ∷ []) t)
+    → AfterPieces limit tables (ps ++ p ∷ []) t)
     → OnOk r ((ps : List Piece) (p : Piece) → IsReady limit tables ps p a s
     → PrintsOn tables (session_of limit (ps ++ p ∷ [])) o s.state.count t.state.count old new)
     → OnOk r ((ps : List Piece) (p : Piece) → IsReady limit tables ps p a s

@@ -23,7 +23,7 @@ use Rattle.wl_check.specs.SessionState.{IsAt, is_going, IsEnd, IsTallied, Status
 use Rattle.wl_check.specs.SessionState.{Comes, WentOn, CutFollows, AllJudged}
 use Rattle.wl_check.specs.Session.{ArePassed}
 use Rattle.wl_check.specs.Changes.{Call, changes}
-use Rattle.wl_check.specs.Merged.{Span, span, Cutting, cutting, cut_at, bad_at, stopped, then_cut}
+use Rattle.wl_check.specs.Merged.{Span, span, Cutting, cutting, cut_by_front, cut_bad_at, cut_stopped_at, span_then_cut}
 use Rattle.wl_check.specs.Merged.{framed, same_direction}
 use Rattle.wl_check.specs.Places.{IsKnownBehind}
 use Rattle.wl_check.specs.Rules.{judged_front}
@@ -228,7 +228,7 @@ pub record InFront (limit : ℕ) (w rest : List ℕ) (p z : ℕ) : Type 0 where
   pub others : List Span
   pub spans : (cutting limit (length w) w p).spans ≡ span p z ∷ others
   pub good : is_size limit z ≡ true → cutting limit (length w) w p
-      ≡ then_cut (span p z) (cutting limit (length w) w (p + z))
+      ≡ span_then_cut (span p z) (cutting limit (length w) w (p + z))
 
 in_front_as : (limit : ℕ) (w rest : List ℕ) (p z : ℕ) (x : Front) → front limit (drop p w) ≡ x → p ≤ length w
     → drop p w ≡ rest → Some z ≡ size_of x → InFront limit w rest p z
@@ -238,9 +238,9 @@ in_front_as limit w rest p z (Bad y) e within is some =
     let b = front_spoiled limit (drop p w) y e in
     let l = ap (λ (l : List ℕ). length l) is in
     let none : is_size limit z ≡ false = ap (is_size limit) same ∙ b.none in
-    let c : cutting limit (length w) w p ≡ bad_at p y =
+    let c : cutting limit (length w) w p ≡ cut_bad_at p y =
     step limit (length w) w p within (omega arith)
-    ∙ ap (λ (f : Front). cut_at p f (cutting limit (length w) w)) e in
+    ∙ ap (λ (f : Front). cut_by_front p f (cutting limit (length w) w)) e in
     record {
       header = (let h = b.header in omega (arith, h, l));
       whole = λ good. absurd (cc (none, good));
@@ -253,11 +253,11 @@ in_front_as limit w rest p z (Whole y) e within is some =
     let n = next_within limit w p y e within in
     let l = ap (λ (l : List ℕ). length l) is in
     let d = length-drop p w in
-    let c : cutting limit (length w) w p ≡ then_cut (span p y) (cutting limit (length w) w (p + y)) =
+    let c : cutting limit (length w) w p ≡ span_then_cut (span p y) (cutting limit (length w) w (p + y)) =
     step limit (length w) w p within (omega arith)
-    ∙ ap (λ (f : Front). cut_at p f (cutting limit (length w) w)) e in
-    let c2 : cutting limit (length w) w p ≡ then_cut (span p z) (cutting limit (length w) w (p + z)) =
-    c ∙ ap (λ (n : ℕ). then_cut (span p n) (cutting limit (length w) w (p + n))) (sym same) in
+    ∙ ap (λ (f : Front). cut_by_front p f (cutting limit (length w) w)) e in
+    let c2 : cutting limit (length w) w p ≡ span_then_cut (span p z) (cutting limit (length w) w (p + z)) =
+    c ∙ ap (λ (n : ℕ). span_then_cut (span p n) (cutting limit (length w) w (p + n))) (sym same) in
     let a = n.0 in
     let b = n.1 in
     record {
@@ -332,9 +332,9 @@ nothing_left : {X : Type 0} (xs : List X) (k : ℕ) → drop k xs ≡ [] → len
 nothing_left xs k e = let l = length-drop k xs in let n = ap (λ (l : List _). length l) e in omega (arith, l, n)
 
 stops_as : (limit : ℕ) (w : List ℕ) (p : ℕ) (x : Front) → front limit (drop p w) ≡ x → p ≤ length w → None ≡ size_of x
-    → cutting limit (length w) w p ≡ stopped p
+    → cutting limit (length w) w p ≡ cut_stopped_at p
 stops_as limit w p More e within none = step limit (length w) w p within (omega arith)
-    ∙ ap (λ (f : Front). cut_at p f (cutting limit (length w) w)) e
+    ∙ ap (λ (f : Front). cut_by_front p f (cutting limit (length w) w)) e
 stops_as limit w p (Bad y) e within none = absurd (cc none)
 stops_as limit w p (Whole y) e within none = absurd (cc none)
 
@@ -344,7 +344,7 @@ pub all_judged : {A : Type 0} (limit : ℕ) (tables : List Interface) (s : Sessi
 all_judged limit tables s c d tokens rest h none =
     let w = s.streams d in
     let p = end_in c d in
-    let is : cutting limit (length w) w p ≡ stopped p =
+    let is : cutting limit (length w) w p ≡ cut_stopped_at p =
     stops_as limit w p (front limit (drop p w)) refl (end_within tables s c.count c.progress d h.judged.at)
     (none ∙ ap (λ (b : List ℕ). size_of (front limit b)) (sym h.rest_is)) in
     let done : length s.frames ≤ c.count = nothing_left s.frames c.count

@@ -22,8 +22,8 @@ use Rattle.wl_check.specs.declared.scanning.Scanner.{Scanner}
 use Rattle.wl_check.specs.declared.verdict.Verdict.{Verdict}
 use Rattle.wl_check.specs.declared.verdict.Verdict.TheVariants.{Lawful, Broken as BrokenAt}
 use Rattle.wl_check.specs.SessionState.{IsTallied, IsAt, is_going, IsEnd, IsFault, StatusIs, end_in}
-use Rattle.wl_check.specs.SessionState.{IsJudged, IsUnread, CutFollows, IsLeft, AllJudged, IsStream}
-use Rattle.wl_check.specs.SessionState.{Along, IsAfter}
+use Rattle.wl_check.specs.SessionState.{IsJudged, IsUnread, CutFollows, IsLeftOfStream, AllJudged, IsStream}
+use Rattle.wl_check.specs.SessionState.{JudgedAlong, AfterPieces}
 use Rattle.wl_check.specs.Session.{ArePassed}
 use Rattle.wl_check.specs.Merged.{Cutting, cut, cutting, framed, same_direction, stream_of}
 use Rattle.wl_check.specs.Merged.{piece_tokens, completed, merged, merged_within}
@@ -173,7 +173,7 @@ own_tokens_of ps p = tokens_last p.direction ps p
 -- the messages that the piece completes are the next to be judged
 pub follows_piece : {A : Type 0} (limit : ℕ) (tables : List Interface) (ps : List Piece) (p : Piece)
     (c : SessionState A) (stream : Stream A) (len tokens : ℕ) (bytes : List ℕ)
-    → Along limit tables p.direction ps c stream → is_going c.status ≡ true → len ≡ stream.len + length p.bytes
+    → JudgedAlong limit tables p.direction ps c stream → is_going c.status ≡ true → len ≡ stream.len + length p.bytes
     → len < 2 ^ 64 → tokens ≡ stream.tokens + p.tokens → bytes ≡ stream.bytes ++ p.bytes
     → CutFollows limit tables (session_of limit (ps ++ p ∷ [])) c p.direction tokens bytes
 follows_piece limit tables ps p c stream len tokens bytes h going len_is small tokens_is bytes_is =
@@ -217,10 +217,10 @@ follows_piece limit tables ps p c stream len tokens bytes h going len_is small t
 -- the piece was judged
 pub along_piece : {A : Type 0} (limit : ℕ) (tables : List Interface) (ps : List Piece) (p : Piece)
     (c n : SessionState A) (stream after : Stream A) (rest : List ℕ)
-    → Along limit tables p.direction ps c stream
+    → JudgedAlong limit tables p.direction ps c stream
     → AllJudged limit tables (session_of limit (ps ++ p ∷ [])) n p.direction rest
     → after.len ≡ stream.len + length p.bytes → after.tokens ≡ stream.tokens + p.tokens
-    → after.bytes ≡ rest → Along limit tables p.direction (ps ++ p ∷ []) n after
+    → after.bytes ≡ rest → JudgedAlong limit tables p.direction (ps ++ p ∷ []) n after
 along_piece limit tables ps p c n stream after rest h j len tokens bytes =
     let l = ap (λ (b : List ℕ). length b) (own_stream ps p) in
     let a = length-append (stream_of p.direction ps) p.bytes in
@@ -242,9 +242,10 @@ along_piece limit tables ps p c n stream after rest h j len tokens bytes =
 -- the session had ended before the piece
 pub along_closed : {A : Type 0} (limit : ℕ) (tables : List Interface) (ps : List Piece) (p : Piece)
     (c : SessionState A) (stream after : Stream A)
-    → Along limit tables p.direction ps c stream → is_going c.status ≡ false → after.len ≡ stream.len + length p.bytes
+    → JudgedAlong limit tables p.direction ps c stream → is_going c.status ≡ false
+    → after.len ≡ stream.len + length p.bytes
     → after.tokens ≡ stream.tokens + p.tokens
-    → Along limit tables p.direction (ps ++ p ∷ []) c after
+    → JudgedAlong limit tables p.direction (ps ++ p ∷ []) c after
 along_closed limit tables ps p c stream after h away len tokens =
     let l = ap (λ (b : List ℕ). length b) (own_stream ps p) in
     let a = length-append (stream_of p.direction ps) p.bytes in
@@ -282,14 +283,14 @@ other_stream limit d ps p c n stream away h going end =
     }
 
 pub after_server : {A : Type 0} (limit : ℕ) (tables : List Interface) (ps : List Piece) (p : Piece)
-    (s : Scanner A) (n : SessionState A) (after : Stream A) → p.direction ≡ ToServer → IsAfter limit tables ps s
-    → (Along limit tables p.direction ps s.state s.to_server
-    → Along limit tables p.direction (ps ++ p ∷ []) n after)
+    (s : Scanner A) (n : SessionState A) (after : Stream A) → p.direction ≡ ToServer → AfterPieces limit tables ps s
+    → (JudgedAlong limit tables p.direction ps s.state s.to_server
+    → JudgedAlong limit tables p.direction (ps ++ p ∷ []) n after)
     → (is_going n.status ≡ true → is_going s.state.status ≡ true)
     → ((d : Direction) → same_direction p.direction d ≡ false → end_in n d ≡ end_in s.state d)
-    → IsAfter limit tables (ps ++ p ∷ []) (record { state = n; to_server = after; to_client = s.to_client })
+    → AfterPieces limit tables (ps ++ p ∷ []) (record { state = n; to_server = after; to_client = s.to_client })
 after_server limit tables ps p s n after is h step going other =
-    let own : Along limit tables p.direction ps s.state s.to_server =
+    let own : JudgedAlong limit tables p.direction ps s.state s.to_server =
     record {
       judged = h.judged;
       all = h.all;
@@ -305,14 +306,14 @@ after_server limit tables ps p s n after is h step going other =
     }
 
 pub after_client : {A : Type 0} (limit : ℕ) (tables : List Interface) (ps : List Piece) (p : Piece)
-    (s : Scanner A) (n : SessionState A) (after : Stream A) → p.direction ≡ ToClient → IsAfter limit tables ps s
-    → (Along limit tables p.direction ps s.state s.to_client
-    → Along limit tables p.direction (ps ++ p ∷ []) n after)
+    (s : Scanner A) (n : SessionState A) (after : Stream A) → p.direction ≡ ToClient → AfterPieces limit tables ps s
+    → (JudgedAlong limit tables p.direction ps s.state s.to_client
+    → JudgedAlong limit tables p.direction (ps ++ p ∷ []) n after)
     → (is_going n.status ≡ true → is_going s.state.status ≡ true)
     → ((d : Direction) → same_direction p.direction d ≡ false → end_in n d ≡ end_in s.state d)
-    → IsAfter limit tables (ps ++ p ∷ []) (record { state = n; to_server = s.to_server; to_client = after })
+    → AfterPieces limit tables (ps ++ p ∷ []) (record { state = n; to_server = s.to_server; to_client = after })
 after_client limit tables ps p s n after is h step going other =
-    let own : Along limit tables p.direction ps s.state s.to_client =
+    let own : JudgedAlong limit tables p.direction ps s.state s.to_client =
     record {
       judged = h.judged;
       all = h.all;
@@ -328,7 +329,8 @@ after_client limit tables ps p s n after is h step going other =
     }
 
 pub along_server : {A : Type 0} (limit : ℕ) (tables : List Interface) (ps : List Piece) (d : Direction)
-    (s : Scanner A) → d ≡ ToServer → IsAfter limit tables ps s → Along limit tables d ps s.state s.to_server
+    (s : Scanner A) → d ≡ ToServer → AfterPieces limit tables ps s
+    → JudgedAlong limit tables d ps s.state s.to_server
 along_server limit tables ps d s is h = record {
   judged = h.judged;
   all = h.all;
@@ -336,7 +338,8 @@ along_server limit tables ps d s is h = record {
 }
 
 pub along_client : {A : Type 0} (limit : ℕ) (tables : List Interface) (ps : List Piece) (d : Direction)
-    (s : Scanner A) → d ≡ ToClient → IsAfter limit tables ps s → Along limit tables d ps s.state s.to_client
+    (s : Scanner A) → d ≡ ToClient → AfterPieces limit tables ps s
+    → JudgedAlong limit tables d ps s.state s.to_client
 along_client limit tables ps d s is h = record {
   judged = h.judged;
   all = h.all;
@@ -345,13 +348,13 @@ along_client limit tables ps d s is h = record {
 
 -- ---- before the first piece
 
-left_none : (limit : ℕ) (d : Direction) → IsLeft limit [] 0 []
+left_none : (limit : ℕ) (d : Direction) → IsLeftOfStream limit [] 0 []
 unfolding cutting
 left_none limit d = record { rest_is = refl; place = refl; has_bad_size = refl }
 
 pub none_judged : {A : Type 0} (limit : ℕ) (tables : List Interface) (s : Scanner A) → IsUnread s.state
     → s.to_server.bytes ≡ [] → s.to_server.len ≡ 0 → s.to_server.tokens ≡ 0
-    → s.to_client.bytes ≡ [] → s.to_client.len ≡ 0 → s.to_client.tokens ≡ 0 → IsAfter limit tables [] s
+    → s.to_client.bytes ≡ [] → s.to_client.len ≡ 0 → s.to_client.tokens ≡ 0 → AfterPieces limit tables [] s
 unfolding merged_within
 none_judged limit tables s f bytes len tokens bytes2 len2 tokens2 =
     let t = session_of limit [] in
@@ -400,7 +403,7 @@ verdict_of Ended s = Lawful s.state.progress.to_server.count s.state.progress.to
 verdict_of (Broken f fault) s = BrokenAt f.direction ((tally_in s.state.progress f.direction).count + 1) f.start fault
 
 lens_are : {A : Type 0} (limit : ℕ) (tables : List Interface) (ps : List Piece) (s : Scanner A)
-    → IsAfter limit tables ps s
+    → AfterPieces limit tables ps s
     → Lawful s.state.progress.to_server.count s.state.progress.to_client.count
     (s.to_server.len - s.state.progress.to_server.end) (s.to_client.len - s.state.progress.to_client.end)
     ≡ Lawful s.state.progress.to_server.count s.state.progress.to_client.count
@@ -413,7 +416,7 @@ lens_are limit tables ps s h =
     (b i - s.state.progress.to_client.end)
 
 answers_as : {A : Type 0} (limit : ℕ) (tables : List Interface) (ps : List Piece) (s : Scanner A)
-    (status : SessionStatus) → s.state.status ≡ status → IsAfter limit tables ps s
+    (status : SessionStatus) → s.state.status ≡ status → AfterPieces limit tables ps s
     → IsVerdictOf tables (session_of limit ps) (verdict_of status s)
 answers_as limit tables ps s Open e h =
     let t = session_of limit ps in
@@ -435,12 +438,12 @@ answers_as limit tables ps s (Broken f fault) e h =
     answers_broken tables t s.state.count f fault s.state.progress i.stands i.is i.passed h.judged.at
 
 pub answers_so : {A : Type 0} (limit : ℕ) (tables : List Interface) (ps : List Piece) (s : Scanner A)
-    → IsAfter limit tables ps s → IsVerdictOf tables (session_of limit ps) (verdict_of s.state.status s)
+    → AfterPieces limit tables ps s → IsVerdictOf tables (session_of limit ps) (verdict_of s.state.status s)
 answers_so limit tables ps s h = answers_as limit tables ps s s.state.status refl h
 
 -- the counted messages end within the bytes that came
 pub ends_within : {A : Type 0} (limit : ℕ) (tables : List Interface) (ps : List Piece) (s : Scanner A)
-    → IsAfter limit tables ps s
+    → AfterPieces limit tables ps s
     → (s.state.progress.to_server.end ≤ s.to_server.len) × (s.state.progress.to_client.end ≤ s.to_client.len)
 ends_within limit tables ps s h =
     let a = h.judged.at.to_server.within in
@@ -452,24 +455,24 @@ ends_within limit tables ps s h =
 -- both directions at once, with the values that the code has
 pub takes_server : {A E : Type 0} (limit : ℕ) (tables : List Interface) (p : Piece) (s : Scanner A)
     (n : SessionState A) (after : Stream A) (r : Result (Unit {0}) E) → p.direction ≡ ToServer
-    → OnOk r ((ps : List Piece) → Along limit tables p.direction ps s.state s.to_server
-    → Along limit tables p.direction (ps ++ p ∷ []) n after)
+    → OnOk r ((ps : List Piece) → JudgedAlong limit tables p.direction ps s.state s.to_server
+    → JudgedAlong limit tables p.direction (ps ++ p ∷ []) n after)
     → OnOk r (is_going n.status ≡ true → is_going s.state.status ≡ true)
     → OnOk r ((d : Direction) → same_direction p.direction d ≡ false → end_in n d ≡ end_in s.state d)
-    → OnOk r ((ps : List Piece) → IsAfter limit tables ps s
-    → IsAfter limit tables (ps ++ p ∷ []) (record { state = n; to_server = after; to_client = s.to_client }))
+    → OnOk r ((ps : List Piece) → AfterPieces limit tables ps s
+    → AfterPieces limit tables (ps ++ p ∷ []) (record { state = n; to_server = after; to_client = s.to_client }))
 takes_server limit tables p s n after (Ok x) is a b d =
     λ ps h. after_server limit tables ps p s n after is h (a ps) b d
 takes_server limit tables p s n after (Err e) is a b d = tt
 
 pub takes_client : {A E : Type 0} (limit : ℕ) (tables : List Interface) (p : Piece) (s : Scanner A)
     (n : SessionState A) (after : Stream A) (r : Result (Unit {0}) E) → p.direction ≡ ToClient
-    → OnOk r ((ps : List Piece) → Along limit tables p.direction ps s.state s.to_client
-    → Along limit tables p.direction (ps ++ p ∷ []) n after)
+    → OnOk r ((ps : List Piece) → JudgedAlong limit tables p.direction ps s.state s.to_client
+    → JudgedAlong limit tables p.direction (ps ++ p ∷ []) n after)
     → OnOk r (is_going n.status ≡ true → is_going s.state.status ≡ true)
     → OnOk r ((d : Direction) → same_direction p.direction d ≡ false → end_in n d ≡ end_in s.state d)
-    → OnOk r ((ps : List Piece) → IsAfter limit tables ps s
-    → IsAfter limit tables (ps ++ p ∷ []) (record { state = n; to_server = s.to_server; to_client = after }))
+    → OnOk r ((ps : List Piece) → AfterPieces limit tables ps s
+    → AfterPieces limit tables (ps ++ p ∷ []) (record { state = n; to_server = s.to_server; to_client = after }))
 takes_client limit tables p s n after (Ok x) is a b d =
     λ ps h. after_client limit tables ps p s n after is h (a ps) b d
 takes_client limit tables p s n after (Err e) is a b d = tt

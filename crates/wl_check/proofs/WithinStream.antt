@@ -11,7 +11,7 @@ use Rattle.wl_recording.specs.Piece.{Piece}
 use Rattle.wl_message.specs.Cut.{is_size, front, Front, More, Bad, Whole}
 use Rattle.wl_message.proofs.Cuts.{front_spoiled, all_append}
 use Rattle.wl_check.specs.declared.frames.FramedMessage.{FramedMessage}
-use Rattle.wl_check.specs.Merged.{Span, cutting, cut_at, cut, same_direction, stream_of, piece_tokens}
+use Rattle.wl_check.specs.Merged.{Span, cutting, cut_by_front, cut, same_direction, stream_of, piece_tokens}
 use Rattle.wl_check.specs.Merged.{framed, completed_at, merged_within, merged}
 use Rattle.wl_check.specs.Session.{session_of, IsWithin, AreWithin}
 use Rattle.wl_check.proofs.MessagesOfStream.{next_within}
@@ -21,7 +21,7 @@ FitsIn limit n m = (m.start + 8 ≤ n) × (is_size limit m.size ≡ true → m.s
 
 spans_step : (limit n : ℕ) (s : List ℕ) (p : ℕ) (f : Front) → front limit (drop p s) ≡ f → p ≤ length s
     → ((z : ℕ) → p + z ≤ length s → AllByRecursion (FitsIn limit (length s)) (cutting limit n s (p + z)).spans)
-    → AllByRecursion (FitsIn limit (length s)) (cut_at p f (cutting limit n s)).spans
+    → AllByRecursion (FitsIn limit (length s)) (cut_by_front p f (cutting limit n s)).spans
 spans_step limit n s p More e within ih = tt
 spans_step limit n s p (Bad z) e within ih =
     let b = front_spoiled limit (drop p s) z e in

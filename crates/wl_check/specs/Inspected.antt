@@ -3,7 +3,7 @@ use Rattle.std.specs.Prelude.{◌≡◌, ℕ, List, [], ◌∷◌, ◌++◌}
 use Rattle.wl_sigs.specs.Tables.{Interface}
 use Rattle.wl_recording.specs.Piece.{Piece}
 use Rattle.wl_check.specs.declared.inspector.Inspector.{Inspector}
-use Rattle.wl_check.specs.SessionState.{IsAfter}
+use Rattle.wl_check.specs.SessionState.{AfterPieces}
 use Rattle.wl_check.specs.Printed.{AreOwnLines}
 
 -- the lines that its last call printed
@@ -16,7 +16,7 @@ pub record HasPassed {A : Type 0} (limit : ℕ) (tables : List Interface) (ps : 
     (i : Inspector A) : Type 0 where
   pub limit_is : i.limit.bytes ≡ limit
   pub tables_are : i.tables.now ≡ tables
-  pub after : IsAfter limit tables ps i.scanner
+  pub after : AfterPieces limit tables ps i.scanner
 
 -- The effect of a call: the piece is the next one that passed, and the lines printed are those that
 -- the trace gains with it.

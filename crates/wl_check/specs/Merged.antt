@@ -22,27 +22,27 @@ pub record Cutting : Type 0 where
   pub place : ℕ
   pub has_bad_size : Bool
 
-abbrev pub stopped : ℕ → Cutting
-stopped place = record { spans = []; place = place; has_bad_size = false }
+abbrev pub cut_stopped_at : ℕ → Cutting
+cut_stopped_at place = record { spans = []; place = place; has_bad_size = false }
 
-abbrev pub bad_at : ℕ → ℕ → Cutting
-bad_at place size = record { spans = span place size ∷ []; place = place; has_bad_size = true }
+abbrev pub cut_bad_at : ℕ → ℕ → Cutting
+cut_bad_at place size = record { spans = span place size ∷ []; place = place; has_bad_size = true }
 
-abbrev pub then_cut : Span → Cutting → Cutting
-then_cut m others =
+abbrev pub span_then_cut : Span → Cutting → Cutting
+span_then_cut m others =
     record { spans = m ∷ others.spans; place = others.place; has_bad_size = others.has_bad_size }
 
 -- what is at a place, followed by the rest
-abbrev pub cut_at : ℕ → Front → (ℕ → Cutting) → Cutting
-cut_at place More others = stopped place
-cut_at place (Bad size) others = bad_at place size
-cut_at place (Whole size) others = then_cut (span place size) (others (place + size))
+abbrev pub cut_by_front : ℕ → Front → (ℕ → Cutting) → Cutting
+cut_by_front place More others = cut_stopped_at place
+cut_by_front place (Bad size) others = cut_bad_at place size
+cut_by_front place (Whole size) others = span_then_cut (span place size) (others (place + size))
 
 -- at most `count` messages of a stream, from a place on
 unfoldable pub cutting : ℕ → ℕ → List ℕ → ℕ → Cutting
-cutting limit zero stream place = stopped place
+cutting limit zero stream place = cut_stopped_at place
 cutting limit (suc count) stream place =
-    cut_at place (front limit (drop place stream)) (cutting limit count stream)
+    cut_by_front place (front limit (drop place stream)) (cutting limit count stream)
 
 -- The messages of a stream: they are cut by the sizes in their headers, each as soon as it is
 -- whole. A message with a bad size is found as soon as its header is whole, and is the last.
@@ -98,5 +98,5 @@ abbrev pub merged : ℕ → List Piece → List FramedMessage
 merged limit pieces = merged_within limit pieces (length pieces)
 
 -- where the last byte of a message is, or that of its header if the size is bad
-abbrev pub finish : ℕ → Span → ℕ
-finish limit m = if is_size limit m.size then m.start + m.size else m.start + 8
+abbrev pub span_finish : ℕ → Span → ℕ
+span_finish limit m = if is_size limit m.size then m.start + m.size else m.start + 8

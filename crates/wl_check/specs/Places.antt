@@ -19,8 +19,8 @@ is_id None id = false
 is_id (Some other) id = nat_eq other id
 
 -- the delete_id of 1 changes nothing; neither does that of an id of the server's range
-abbrev pub frees : Option ℕ → ℕ → Bool
-frees deleted id = not (nat_eq id 1) && not (is_of_server id) && is_id deleted id
+abbrev pub frees_id : Option ℕ → ℕ → Bool
+frees_id deleted id = not (nat_eq id 1) && not (is_of_server id) && is_id deleted id
 
 abbrev pub is_made : Option NewObject → ℕ → Bool
 is_made None id = false
@@ -32,7 +32,7 @@ makes_id changes id = is_made changes.made id
 
 -- the message is the delete_id of this id, and one that changes something
 abbrev pub deletes_id : MessageChanges → ℕ → Bool
-deletes_id changes id = frees changes.deleted id
+deletes_id changes id = frees_id changes.deleted id
 
 -- the message destroys the object with this id
 abbrev pub destroys_id : MessageChanges → ℕ → Bool
@@ -61,13 +61,13 @@ abbrev pub made_entry : ℕ → State → NewObject → Entry
 made_entry birth state new =
     record { birth = birth; iface = new.iface; version = new.version; state = state }
 
-abbrev pub new_of : Option NewObject → NewObject
-new_of None = record { id = 0; iface = display; version = 0 }
-new_of (Some new) = new
+abbrev pub new_or_null : Option NewObject → NewObject
+new_or_null None = record { id = 0; iface = display; version = 0 }
+new_or_null (Some new) = new
 
 -- the object made at a place
 abbrev pub entry_made_at : (ℕ → MessageChanges) → ℕ → State → Entry
-entry_made_at session birth state = made_entry birth state (new_of (session birth).made)
+entry_made_at session birth state = made_entry birth state (new_or_null (session birth).made)
 
 -- the object that an id names at a place: one that is held, open or ending
 abbrev pub object_named : (ℕ → MessageChanges) → ℕ → ℕ → Option Entry
@@ -164,7 +164,7 @@ unless_deleted deleted destroyed entry =
 -- what an id names after a message at a place
 abbrev pub object_after : ℕ → MessageChanges → ℕ → Option Entry → Option Entry
 object_after place changes id entry =
-    if makes_id changes id then Some (made_entry place Live (new_of changes.made))
+    if makes_id changes id then Some (made_entry place Live (new_or_null changes.made))
     else unless_deleted (deletes_id changes id) (destroys_id changes id) entry
 
 -- all that is known after a message at a place

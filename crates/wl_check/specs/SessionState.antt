@@ -140,7 +140,7 @@ pub record CutFollows {A : Type 0} (limit : ℕ) (tables : List Interface) (s : 
   pub has_bad_size : (cut_from limit s c d).has_bad_size ≡ (cut limit (s.streams d)).has_bad_size
 
 -- these are all bytes after the last message of a stream, and there is no bad size
-pub record IsLeft (limit : ℕ) (stream : List ℕ) (end : ℕ) (rest : List ℕ) : Type 0 where
+pub record IsLeftOfStream (limit : ℕ) (stream : List ℕ) (end : ℕ) (rest : List ℕ) : Type 0 where
   pub rest_is : drop end stream ≡ rest
   pub place : end ≡ (cut limit stream).place
   pub has_bad_size : (cut limit stream).has_bad_size ≡ false
@@ -150,7 +150,7 @@ pub record AllJudged {A : Type 0} (limit : ℕ) (tables : List Interface) (s : S
     (c : SessionState A) (d : Direction) (rest : List ℕ) : Type 0 where
   pub judged : IsJudged tables s c
   pub all : is_going c.status ≡ true → length s.frames ≡ c.count
-  pub left : is_going c.status ≡ true → IsLeft limit (s.streams d) (end_in c d) rest
+  pub left : is_going c.status ≡ true → IsLeftOfStream limit (s.streams d) (end_in c d) rest
 
 -- ---- pieces
 
@@ -159,18 +159,18 @@ pub record IsStream {A : Type 0} (limit : ℕ) (d : Direction) (ps : List Piece)
     (stream : Stream A) : Type 0 where
   pub len : stream.len ≡ length (stream_of d ps)
   pub tokens : stream.tokens ≡ piece_tokens d ps
-  pub left : is_going c.status ≡ true → IsLeft limit (stream_of d ps) (end_in c d)
+  pub left : is_going c.status ≡ true → IsLeftOfStream limit (stream_of d ps) (end_in c d)
       stream.bytes
 
 -- The messages of these pieces were judged, and this is what the pieces brought in one direction.
-pub record Along {A : Type 0} (limit : ℕ) (tables : List Interface) (d : Direction)
+pub record JudgedAlong {A : Type 0} (limit : ℕ) (tables : List Interface) (d : Direction)
     (ps : List Piece) (c : SessionState A) (brought : Stream A) : Type 0 where
   pub judged : IsJudged tables (session_of limit ps) c
   pub all : is_going c.status ≡ true → length (merged limit ps) ≡ c.count
   pub stream : IsStream limit d ps c brought
 
 -- and in both directions
-pub record IsAfter {A : Type 0} (limit : ℕ) (tables : List Interface) (ps : List Piece)
+pub record AfterPieces {A : Type 0} (limit : ℕ) (tables : List Interface) (ps : List Piece)
     (s : Scanner A) : Type 0 where
   pub judged : IsJudged tables (session_of limit ps) s.state
   pub all : is_going s.state.status ≡ true → length (merged limit ps) ≡ s.state.count
@@ -183,7 +183,7 @@ pub record HasCome {A : Type 0} (limit : ℕ) (tables : List Interface) (ps : Li
     (appended : Appended) (c : SessionState A) (stream : Stream A)
     : Type 0 where
   pub before : Stream A
-  pub along : Along limit tables p.direction ps c before
+  pub along : JudgedAlong limit tables p.direction ps c before
   pub bytes : stream.bytes ≡ before.bytes ++ p.bytes
   pub len : stream.len ≡ before.len
   pub tokens : stream.tokens ≡ before.tokens
@@ -195,7 +195,7 @@ pub record HasCome {A : Type 0} (limit : ℕ) (tables : List Interface) (ps : Li
 pub record IsReady {A : Type 0} (limit : ℕ) (tables : List Interface) (ps : List Piece) (p : Piece)
     (appended : Appended) (s : Scanner A) : Type 0 where
   pub before : Scanner A
-  pub after : IsAfter limit tables ps before
+  pub after : AfterPieces limit tables ps before
   pub state : s.state ≡ before.state
   pub len_to_server : s.to_server.len ≡ before.to_server.len
   pub len_to_client : s.to_client.len ≡ before.to_client.len

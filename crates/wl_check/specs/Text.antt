@@ -11,7 +11,7 @@ use Rattle.wl_recording.specs.declared.piece.Direction.{Direction}
 use Rattle.wl_check.specs.declared.frames.FramedMessage.{FramedMessage}
 use Rattle.wl_check.specs.declared.changes.MessageChanges.{MessageChanges}
 use Rattle.wl_recording.specs.Piece.{Piece}
-use Rattle.wl_check.specs.Merged.{Span, span, finish, same_direction, stream_of, piece_tokens}
+use Rattle.wl_check.specs.Merged.{Span, span, span_finish, same_direction, stream_of, piece_tokens}
 use Rattle.wl_check.specs.Places.{makes_id, deletes_id, destroys_id}
 use Rattle.wl_check.specs.Changes.{Call}
 use Rattle.wl_check.specs.Session.{ArePassed, Judged, ends_session}
@@ -71,9 +71,10 @@ pub data EndsWith (limit : ℕ) (stream rest : List ℕ) (spans : List Span) : T
 
 -- each of these messages ends after the first `before` bytes of its direction, and within the first
 -- `after`
-abbrev pub Brings : ℕ → ℕ → ℕ → List Span → Type 0
-Brings limit before after spans =
-    AllByRecursion (λ (m : Span). (before < finish limit m) × (finish limit m ≤ after)) spans
+abbrev pub BringsSpans : ℕ → ℕ → ℕ → List Span → Type 0
+BringsSpans limit before after spans =
+    AllByRecursion
+    (λ (m : Span). (before < span_finish limit m) × (span_finish limit m ≤ after)) spans
 
 -- a message of the session with no wl_display.error before it
 pub record IsExamined (messages : List Judged) (k : ℕ) : Type 0 where
@@ -103,8 +104,8 @@ pub record ComesWith (limit : ℕ) (pieces : List Piece) (k : ℕ) (frame : Fram
     pub there : slice_get pieces k ≡ Some piece
     pub direction : piece.direction ≡ frame.direction
     pub behind : length (stream_of frame.direction (take k pieces))
-        < finish limit (span frame.start frame.size)
-    pub within : finish limit (span frame.start frame.size)
+        < span_finish limit (span frame.start frame.size)
+    pub within : span_finish limit (span frame.start frame.size)
         ≤ length (stream_of frame.direction (take (suc k) pieces))
     pub tokens : frame.tokens ≡ piece_tokens frame.direction (take (suc k) pieces)
 

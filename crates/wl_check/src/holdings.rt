@@ -9,7 +9,8 @@ ghost use Rattle.wl_check.specs.declared.overwritten.Overwritten.TheVariants.{Ob
 ghost use Rattle.wl_check.specs.Held.{held_object, pair_cmp, put_back, held_version, Held};
 ghost use Rattle.wl_check.specs.Held.{slots_in, undone, undone_by, AreReached, HasFewSlots};
 ghost use Rattle.wl_check.specs.Held.{HasSlotsOf};
-ghost use Rattle.wl_check.specs.Places.{as_zombie, made_entry, frees, is_id, is_made, new_of};
+ghost use Rattle.wl_check.specs.Places.{as_zombie, made_entry, frees_id, is_id, is_made};
+ghost use Rattle.wl_check.specs.Places.{new_or_null};
 ghost use Rattle.wl_check.specs.Places.{server_used_by, used_by, advertised_once};
 
 use crate::changes::AdvertisedGlobal;
@@ -231,7 +232,7 @@ impl<A: Allocator> Holdings<A> {
     #[inline(always)]
     pub(crate) fn free(&mut self, id: Option<u32>, undo: &mut UndoList<A>) -> Result<(), AllocError>
         ensures freed { OnOk result ((other : ℕ) → held_object self.new other
-            ≡ cond (frees id other) None (held_object self.old other)) }
+            ≡ cond (frees_id id other) None (held_object self.old other)) }
         ensures slots { OnOk result (HasSlotsOf self.old self.new) }
         ensures globals { self.new.globals ≡ self.old.globals }
         ensures undone { undone_by undo.new self.new ≡ undone_by undo.old self.old }
@@ -280,7 +281,7 @@ impl<A: Allocator> Holdings<A> {
         undo: &mut UndoList<A>,
     ) -> Result<(), AllocError>
         ensures opened { OnOk result ((other : ℕ) → held_object self.new other
-            ≡ cond (is_made made other) (Some (made_entry place Live (new_of made)))
+            ≡ cond (is_made made other) (Some (made_entry place Live (new_or_null made)))
             (held_object self.old other)) }
         ensures slots { OnOk result ((used server_used : ℕ)
             → HasFewSlots self.old used server_used

@@ -2,7 +2,7 @@
 ghost use Rattle.std.specs.Prelude.{◌≡◌, ℕ, List, [], OnOk, OnErr, IfOk};
 ghost use Rattle.wl_recording.specs.Piece.{Piece};
 ghost use Rattle.wl_sigs.specs.Tables.{Interface};
-ghost use Rattle.wl_check.specs.SessionState.{IsAfter};
+ghost use Rattle.wl_check.specs.SessionState.{AfterPieces};
 
 use crate::frames::LentPiece;
 use crate::overwritten::UndoList;
@@ -31,7 +31,7 @@ pub struct Inspector<'t, A: Allocator = Global> {
     pub(crate) scanner: Scanner<A>,
     lines: Vec<u8, A>,
     ghost begun: { ∥ ((ps : List Piece)
-        × IsAfter limit.bytes tables.now ps scanner) ∥₁ },
+        × AfterPieces limit.bytes tables.now ps scanner) ∥₁ },
 }
 
 impl<'t, A: Allocator + Clone> Inspector<'t, A> {

@@ -16,7 +16,7 @@ ghost use Rattle.wl_check.specs.Trace.{lasting, trace_of};
 ghost use Rattle.wl_check.specs.declared.verdict.Verdict.{Verdict as Verdicts};
 ghost use Rattle.wl_recording.specs.declared.piece.Direction.{Direction as Way};
 ghost use Rattle.wl_recording.specs.Piece.{Piece};
-ghost use Rattle.wl_check.specs.Text.{spans_in, part_of, sound, Brings, ComeInOrder, EndsWith};
+ghost use Rattle.wl_check.specs.Text.{spans_in, part_of, sound, BringsSpans, ComeInOrder, EndsWith};
 ghost use Rattle.wl_check.specs.Text.{StaysHeld, IsExamined, StaysOpen, IsPrinted, WasAdvertised};
 ghost use Rattle.wl_check.specs.Text.{WasUsed};
 
@@ -51,7 +51,7 @@ pub fn messages_follow_their_pieces()
 /// its header.
 pub fn a_piece_brings_last_bytes()
     ensures { (limit : ℕ) (before piece : List ℕ)
-        → Brings limit (length before) (length (before ++ piece))
+        → BringsSpans limit (length before) (length (before ++ piece))
         (drop (length (cut limit before).spans) (cut limit (before ++ piece)).spans) }
 {}
 

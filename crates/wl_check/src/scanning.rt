@@ -8,7 +8,8 @@ ghost use Rattle.wl_recording.specs.Text.{IsFirstBad, TextRecords};
 ghost use Rattle.wl_sigs.specs.Tables.{Interface};
 ghost use Rattle.wl_sigs.specs.Valid.{Valid};
 ghost use Rattle.wl_check.specs.Held.{undone_by};
-ghost use Rattle.wl_check.specs.SessionState.{is_going, AllJudged, Along, CutFollows, IsAfter};
+ghost use Rattle.wl_check.specs.SessionState.{is_going, AllJudged, JudgedAlong, CutFollows};
+ghost use Rattle.wl_check.specs.SessionState.{AfterPieces};
 ghost use Rattle.wl_check.specs.SessionState.{HasCome, IsReady, OthersStay};
 ghost use Rattle.wl_check.specs.Passing.{piece_in};
 ghost use Rattle.wl_check.specs.Printed.{PrintsOn, PrintsPiece};
@@ -136,16 +137,16 @@ fn judge_piece<A: Allocator + Clone>(
     journal: &mut Journal<A>,
 ) -> Result<(), AllocError>
     requires valid { Valid protocol.now.tables.now }
-    requires along { ∥ ((ps : List Piece) × Along protocol.now.limit.bytes protocol.now.tables.now
-        piece.now.direction ps state.old stream.old) ∥₁ }
+    requires along { ∥ ((ps : List Piece) × JudgedAlong protocol.now.limit.bytes
+        protocol.now.tables.now piece.now.direction ps state.old stream.old) ∥₁ }
     ensures along { OnOk result ((ps : List Piece)
-        → Along protocol.now.limit.bytes protocol.now.tables.now piece.now.direction ps state.old
-        stream.old
-        → Along protocol.now.limit.bytes protocol.now.tables.now piece.now.direction
+        → JudgedAlong protocol.now.limit.bytes protocol.now.tables.now piece.now.direction ps
+        state.old stream.old
+        → JudgedAlong protocol.now.limit.bytes protocol.now.tables.now piece.now.direction
         (ps ++ piece_in piece.now ∷ []) state.new stream.new) }
     ensures lines { OnOk result ((ps : List Piece)
-        → Along protocol.now.limit.bytes protocol.now.tables.now piece.now.direction ps state.old
-        stream.old
+        → JudgedAlong protocol.now.limit.bytes protocol.now.tables.now piece.now.direction ps
+        state.old stream.old
         → PrintsOn protocol.now.tables.now
         (session_of protocol.now.limit.bytes (ps ++ piece_in piece.now ∷ []))
         journal.old.sink.output state.old.count state.new.count journal.old.sink.text.items
@@ -198,7 +199,7 @@ fn judge_waiting<A: Allocator + Clone>(
     ensures along { OnOk result ((ps : List Piece) (p : Piece)
         → HasCome protocol.now.limit.bytes protocol.now.tables.now ps p piece.now state.old
         stream.old
-        → Along protocol.now.limit.bytes protocol.now.tables.now p.direction (ps ++ p ∷ [])
+        → JudgedAlong protocol.now.limit.bytes protocol.now.tables.now p.direction (ps ++ p ∷ [])
         state.new stream.new) }
     ensures lines { OnOk result ((ps : List Piece) (p : Piece)
         → HasCome protocol.now.limit.bytes protocol.now.tables.now ps p piece.now state.old
@@ -234,7 +235,7 @@ impl<A: Allocator + Clone> Scanner<A> {
     /// Before the first piece.
     pub(crate) fn new(alloc: &A, tables: &Tables) -> Result<Self, AllocError>
         ensures valid { OnOk result (Valid tables.now) }
-        ensures none { IfOk result (λ s. (limit : ℕ) → IsAfter limit tables.now [] s) }
+        ensures none { IfOk result (λ s. (limit : ℕ) → AfterPieces limit tables.now [] s) }
     {
         Ok(Scanner {
             state: SessionState::new(alloc, tables)?,
@@ -253,13 +254,13 @@ impl<A: Allocator + Clone> Scanner<A> {
     ) -> Result<(), AllocError>
         requires valid { Valid protocol.now.tables.now }
         requires after { ∥ ((ps : List Piece)
-            × IsAfter protocol.now.limit.bytes protocol.now.tables.now ps self.old) ∥₁ }
+            × AfterPieces protocol.now.limit.bytes protocol.now.tables.now ps self.old) ∥₁ }
         ensures after { OnOk result ((ps : List Piece)
-            → IsAfter protocol.now.limit.bytes protocol.now.tables.now ps self.old
-            → IsAfter protocol.now.limit.bytes protocol.now.tables.now (ps ++ piece_in piece.now ∷
-            []) self.new) }
+            → AfterPieces protocol.now.limit.bytes protocol.now.tables.now ps self.old
+            → AfterPieces protocol.now.limit.bytes protocol.now.tables.now
+            (ps ++ piece_in piece.now ∷ []) self.new) }
         ensures lines { OnOk result ((ps : List Piece)
-            → IsAfter protocol.now.limit.bytes protocol.now.tables.now ps self.old
+            → AfterPieces protocol.now.limit.bytes protocol.now.tables.now ps self.old
             → PrintsPiece protocol.now.limit.bytes protocol.now.tables.now journal.old.sink.output
             ps (piece_in piece.now) journal.old.sink.text.items journal.new.sink.text.items) }
         ensures output { journal.new.sink.output ≡ journal.old.sink.output }
@@ -301,7 +302,8 @@ impl<A: Allocator + Clone> Scanner<A> {
             × IsReady protocol.now.limit.bytes protocol.now.tables.now ps p piece.now self.old) ∥₁ }
         ensures after { OnOk result ((ps : List Piece) (p : Piece)
             → IsReady protocol.now.limit.bytes protocol.now.tables.now ps p piece.now self.old
-            → IsAfter protocol.now.limit.bytes protocol.now.tables.now (ps ++ p ∷ []) self.new) }
+            → AfterPieces protocol.now.limit.bytes protocol.now.tables.now (ps ++ p ∷ [])
+            self.new) }
         ensures lines { OnOk result ((ps : List Piece) (p : Piece)
             → IsReady protocol.now.limit.bytes protocol.now.tables.now ps p piece.now self.old
             → PrintsPiece protocol.now.limit.bytes protocol.now.tables.now journal.old.sink.output
@@ -335,9 +337,9 @@ impl<A: Allocator> Scanner<A> {
     /// The verdict on the session of all pieces so far.
     pub(crate) fn verdict(&self) -> Verdict
         requires { ∥ ((limit : ℕ) × (tables : List Interface) × (ps : List Piece)
-            × IsAfter limit tables ps self.now) ∥₁ }
+            × AfterPieces limit tables ps self.now) ∥₁ }
         ensures { (limit : ℕ) (tables : List Interface) (ps : List Piece)
-            → IsAfter limit tables ps self.now
+            → AfterPieces limit tables ps self.now
             → IsVerdictOf tables (session_of limit ps) result }
     {
         let progress = &self.state.progress;

@@ -27,7 +27,7 @@ use Rattle.wl_objects.specs.Messages.{Received, NewObject, made, is_error, is_de
 use Rattle.wl_objects.specs.Messages.{after, after_delete_id, ended_id}
 use Rattle.wl_connection.specs.Core.{Core, with_view, with_failure}
 use Rattle.wl_connection.specs.Receiving.{Found, found, reader_in, reported, own_tokens}
-use Rattle.wl_connection.specs.Receiving.{past_found, is_none}
+use Rattle.wl_connection.specs.Receiving.{past_found, is_empty_list}
 use Rattle.wl_connection.specs.Roles.{Role, role_answer, role_after, IsNext}
 use Rattle.wl_client.specs.State.{State, Global, is_named, global_of, with_core}
 use Rattle.wl_object_map.specs.View.{lives}
@@ -118,7 +118,7 @@ entry_of view (Error id named code text) = look view id
 
 -- whether a report needs memory: for an event's arguments, or for the text of wl_display.error
 abbrev pub needs_memory : Report → Bool
-needs_memory (Event target opcode args) = not (is_none args)
+needs_memory (Event target opcode args) = not (is_empty_list args)
 needs_memory (Error id named code text) = true
 needs_memory _ = false
 

@@ -13,7 +13,7 @@ use Rattle.wl_wire.specs.Argument.{Argument, Int, Uint, Fixed, Str, Obj, Array, 
 use Rattle.wl_sigs.specs.Side.{Side}
 use Rattle.wl_sigs.specs.Destroys.{Destroys}
 use Rattle.wl_sigs.specs.Destroys.TheVariants.{Nothing, Target, Arg as ends_arg}
-use Rattle.wl_sigs.specs.Tables.{MessageSignature, makes, made_objects, first, destroys_one}
+use Rattle.wl_sigs.specs.Tables.{MessageSignature, makes, made_objects, first_element, destroys_one}
 use Rattle.wl_sigs.specs.Fixed.{display}
 use Rattle.wl_sigs.specs.Valid.{Valid}
 use Rattle.wl_message.specs.Outgoing.{Outgoing}
@@ -75,7 +75,7 @@ same-wired n m place (kind ∷ ks) (x ∷ list) w h =
     λ i. one.0 i ∷ more i
 
 -- a call that makes an object has a new object in its signature
-pub makes-some : (ks : List Kind) → is_some (call_makes ks) ≡ true → is_some (first (made_objects ks)) ≡ true
+pub makes-some : (ks : List Kind) → is_some (call_makes ks) ≡ true → is_some (first_element (made_objects ks)) ≡ true
 makes-some [] h = h
 makes-some (kinds.Int ∷ ks) h = makes-some ks h
 makes-some (kinds.Uint ∷ ks) h = makes-some ks h

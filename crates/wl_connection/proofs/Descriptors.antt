@@ -13,11 +13,11 @@ use Rattle.wl_wire.specs.declared.kind.ArgFault.{ArgFault}
 use Rattle.wl_wire.specs.declared.kind.ArgFault.TheVariants.{Short, NullNotAllowed}
 use Rattle.wl_wire.specs.Argument.{Argument, Int, Uint, Fixed, Str, Obj, New, NewNamed, Array, Fd}
 use Rattle.wl_wire.specs.Spelling.{padded}
-use Rattle.wl_wire.specs.Reading.{reading, asked, on_found, argument_of, text_of, number_at}
+use Rattle.wl_wire.specs.Reading.{reading, asked, map_found, argument_of, text_of, number_at}
 use Rattle.wl_sigs.specs.Tables.{descriptors, is_descriptor_kind}
 use Rattle.wl_objects.specs.declared.error.Fault.{Fault}
-use Rattle.wl_objects.specs.Reading.{Reader, forgiving_kind, value_fault, unless, value_or_fault, before}
-use Rattle.wl_objects.specs.Reading.{and_those, arguments_at, is_descriptor}
+use Rattle.wl_objects.specs.Reading.{Reader, forgiving_kind, value_fault, value_unless, value_or_fault, value_before}
+use Rattle.wl_objects.specs.Reading.{value_then_rest, arguments_at, is_descriptor}
 use Rattle.wl_objects.specs.Reading.{reported_argument, reports_of}
 
 -- how many of the values are descriptors
@@ -41,7 +41,7 @@ either_of kind true x y p q = p
 either_of kind false x y p q = q
 
 text_as : (kind : Kind) (f : List ℕ → Argument) (r : Result (List ℕ) ArgFault)
-    → ((text : List ℕ) → is_descriptor (f text) ≡ is_descriptor_kind kind) → OfKind kind (on_found f r)
+    → ((text : List ℕ) → is_descriptor (f text) ≡ is_descriptor_kind kind) → OfKind kind (map_found f r)
 text_as kind f (Err fault) h = tt
 text_as kind f (Ok text) h = h text
 
@@ -50,7 +50,7 @@ argument_as kinds.Int bytes = refl
 argument_as kinds.Uint bytes = refl
 argument_as kinds.Fixed bytes = refl
 argument_as (kinds.Str null) bytes = either_of (kinds.Str null) ((number_at bytes == 0) && null) (Ok (Str None))
-    (on_found (λ text. Str (Some text)) (text_of (number_at bytes) bytes)) refl
+    (map_found (λ text. Str (Some text)) (text_of (number_at bytes) bytes)) refl
     (text_as (kinds.Str null) (λ text. Str (Some text)) (text_of (number_at bytes) bytes) (λ text. refl))
 argument_as (kinds.Obj null iface) bytes = either_of (kinds.Obj null iface) (number_at bytes == 0)
     (cond null (Ok (Obj 0)) (Err NullNotAllowed)) (Ok (Obj (number_at bytes)))
@@ -65,7 +65,7 @@ argument_as kinds.Array bytes = refl
 argument_as kinds.Fd bytes = refl
 
 with_len : (kind : Kind) (n : ℕ) (r : Result Argument ArgFault) → OfKind kind r
-    → ReadAs kind (on_found (λ value. (value, n)) r)
+    → ReadAs kind (map_found (λ value. (value, n)) r)
 with_len kind n (Err fault) h = tt
 with_len kind n (Ok v) h = h
 
@@ -77,7 +77,7 @@ unless_short kind false r h = h
 read_as : (kind : Kind) (bytes : List ℕ) → ReadAs kind (reading kind bytes)
 read_as kind bytes =
     unless_short kind (nat_lt (length bytes) (asked kind bytes))
-    (on_found (λ value. (value, asked kind bytes)) (argument_of kind bytes))
+    (map_found (λ value. (value, asked kind bytes)) (argument_of kind bytes))
     (with_len kind (asked kind bytes) (argument_of kind bytes) (argument_as kind bytes))
 
 kind_stays : (forgives : Bool) (kind : Kind) → is_descriptor_kind (forgiving_kind forgives kind)
@@ -104,13 +104,13 @@ pub count_more : (kind : Kind) (ks : List Kind) → descriptors (kind ∷ ks)
 count_more kind ks = sum_by-cons (λ (k : Kind). if is_descriptor_kind k then 1 else 0) kind ks
 
 has_before : (kind : Kind) (ks : List Kind) (v : Argument) (x : Result (List Argument × List ℕ) Fault)
-    → is_descriptor v ≡ is_descriptor_kind kind → HasAll ks x → HasAll (kind ∷ ks) (before v x)
+    → is_descriptor v ≡ is_descriptor_kind kind → HasAll ks x → HasAll (kind ∷ ks) (value_before v x)
 has_before kind ks v (Err fault) e h = tt
 has_before kind ks v (Ok found) e h = (λ i. cond (e i) 1 0 + h i) ∙ sym (count_more kind ks)
 
 has_unless : (kind : Kind) (ks : List Kind) (v : Argument × ℕ) (bytes : List ℕ) (f : Option Fault)
     (others : List ℕ → Result (List Argument × List ℕ) Fault) → is_descriptor v.0 ≡ is_descriptor_kind kind
-    → ((rest : List ℕ) → HasAll ks (others rest)) → HasAll (kind ∷ ks) (and_those others bytes (unless f v))
+    → ((rest : List ℕ) → HasAll ks (others rest)) → HasAll (kind ∷ ks) (value_then_rest others bytes (value_unless f v))
 has_unless kind ks v bytes (Some fault) others e h = tt
 has_unless kind ks v bytes None others e h = has_before kind ks v.0 (others (drop v.1 bytes)) e (h (drop v.1 bytes))
 
@@ -118,7 +118,7 @@ has_judged : (r : Reader) (place : ℕ) (kind : Kind) (ks : List Kind) (bytes : 
     (x : Result (Argument × ℕ) ArgFault) (others : List ℕ → Result (List Argument × List ℕ) Fault)
     → ReadAs (forgiving_kind r.forgives kind) x
     → ((rest : List ℕ) → HasAll ks (others rest)) → HasAll (kind ∷ ks)
-    (and_those others bytes (value_or_fault r place kind x))
+    (value_then_rest others bytes (value_or_fault r place kind x))
 has_judged r place kind ks bytes (Err fault) others e h = tt
 has_judged r place kind ks bytes (Ok v) others e h =
     has_unless kind ks v bytes (value_fault r place kind v.0) others (e ∙ kind_stays r.forgives kind) h

@@ -26,14 +26,15 @@ use Rattle.wl_objects.specs.declared.argument.Arg.{Arg}
 use Rattle.wl_objects.specs.Writing.{given, given_of, wired, on_wire, Given, is_live_as}
 use Rattle.wl_objects.specs.Writing.{row_is_of, names_one, wrong_place, lost_place}
 use Rattle.wl_objects.specs.Messages.{id_named, id_at, Received, received}
-use Rattle.wl_objects.specs.Reading.{Reader, forgiving, object_fault, unless, value_or_fault, and_those, arguments_at}
+use Rattle.wl_objects.specs.Reading.{Reader, forgiving, object_fault, value_unless, value_or_fault, value_then_rest}
+use Rattle.wl_objects.specs.Reading.{arguments_at}
 use Rattle.wl_objects.specs.declared.error.Fault.{Fault}
 use Rattle.wl_wire.specs.declared.kind.ArgFault.TheVariants.{Short, NullNotAllowed}
 use Rattle.wl_wire.specs.declared.kind.Kind.{Kind}
 use Rattle.wl_wire.specs.declared.kind.Kind.TheVariants as kinds
 use Rattle.wl_wire.specs.declared.header.Header.{Header}
 use Rattle.wl_wire.specs.Argument.{Argument}
-use Rattle.wl_wire.specs.Reading.{on_found, number_at}
+use Rattle.wl_wire.specs.Reading.{map_found, number_at}
 use Rattle.wl_object_map.specs.View.{lives}
 use Rattle.wl_connection.proofs.ReceivedMessage.{is_received}
 use Rattle.wl_connection.proofs.Spelled.{read_row}
@@ -169,7 +170,8 @@ values_in (Err fault) = []
 
 iface_test : (r : Reader) (n : ℕ) (values : List Argument) (body : List ℕ) (entry : Entry) (b : Bool)
     → r.object n ≡ Some entry → nat_eq n 0 ≡ false → nat_eq 1 entry.iface.0 ≡ b
-    → and_those (arguments_at r 1 []) body (unless (if b then None else Some (faults.BadObject 0)) (Obj n, 4))
+    → value_then_rest (arguments_at r 1 []) body
+    (value_unless (if b then None else Some (faults.BadObject 0)) (Obj n, 4))
     ≡ Ok (values, []) → NamesRow r.object values
 iface_test r n values body entry false e z i h = absurd (cc h)
 iface_test r n values body entry true e z i h =
@@ -184,23 +186,24 @@ iface_test r n values body entry true e z i h =
 
 row_test : (r : Reader) (n : ℕ) (values : List Argument) (body : List ℕ) (row : Option Entry) → r.object n ≡ row
     → nat_eq n 0 ≡ false
-    → and_those (arguments_at r 1 []) body (unless (object_fault 0 (Some registry) row) (Obj n, 4)) ≡ Ok (values, [])
+    → value_then_rest (arguments_at r 1 []) body (value_unless (object_fault 0 (Some registry) row) (Obj n, 4))
+    ≡ Ok (values, [])
     → NamesRow r.object values
 row_test r n values body None e z h = absurd (cc h)
 row_test r n values body (Some entry) e z h = iface_test r n values body entry (nat_eq 1 entry.iface.0) e z refl h
 
 read_test : (reader : Reader) (n : ℕ) (values : List Argument) (body : List ℕ) (a b : Bool) → nat_eq n 0 ≡ b
-    → (let r = forgiving false reader in and_those (arguments_at r 1 []) body
+    → (let r = forgiving false reader in value_then_rest (arguments_at r 1 []) body
     (value_or_fault r 0 registry_kind (if a then Err Short
-    else on_found (λ value. (value, 4)) (if b then Err NullNotAllowed else Ok (Obj n))))) ≡ Ok (values, [])
+    else map_found (λ value. (value, 4)) (if b then Err NullNotAllowed else Ok (Obj n))))) ≡ Ok (values, [])
     → NamesRow reader.object values
 read_test reader n values body true b z h = absurd (cc h)
 read_test reader n values body false true z h = absurd (cc h)
 read_test reader n values body false false z h =
     let r = forgiving false reader in
     row_test r n values body (r.object n) refl z
-    (subst (λ (b : Bool). and_those (arguments_at r 1 []) body
-    (unless (if b then None else object_fault 0 (Some registry) (r.object n)) (Obj n, 4)) ≡ Ok (values, [])) z h)
+    (subst (λ (b : Bool). value_then_rest (arguments_at r 1 []) body
+    (value_unless (if b then None else object_fault 0 (Some registry) (r.object n)) (Obj n, 4)) ≡ Ok (values, [])) z h)
 
 pub argument_received : (tables : List Interface) (reader : Reader) (h : Header) (body : List ℕ) (waiting : ℕ)
     (m : Received) (k : ℕ) → Valid tables

@@ -22,8 +22,9 @@ use Rattle.wl_object_map.specs.Objects.{Objects, look}
 use Rattle.wl_objects.specs.declared.error.Fault.{Fault}
 use Rattle.wl_objects.specs.declared.lookup.NewId.{NewId}
 use Rattle.wl_objects.specs.declared.lookup.NewId.TheVariants.{Free, Wrong, TooMany}
-use Rattle.wl_objects.specs.Reading.{Reader, by_maker, forgiving, forgiving_kind, new_fault, value_fault, unless}
-use Rattle.wl_objects.specs.Reading.{value_or_fault, before, and_those, arguments_at}
+use Rattle.wl_objects.specs.Reading.{Reader, new_id_by_maker, forgiving, forgiving_kind, new_fault, value_fault}
+use Rattle.wl_objects.specs.Reading.{value_unless}
+use Rattle.wl_objects.specs.Reading.{value_or_fault, value_before, value_then_rest, arguments_at}
 use Rattle.wl_objects.specs.Messages.{NewObject, Received, is_error, made, made_by, new_id_of, or_else}
 use Rattle.wl_objects.specs.Messages.{reader_of, received, server_may_use}
 use Rattle.wl_connection.proofs.ReceivedMessage.{is_received}
@@ -46,7 +47,7 @@ own_id (Some iface) own id m h =
 -- the id of the object that an argument makes is free for the kind's maker
 one_free : (tables : List Interface) (r : Reader) (version place : ℕ) (kind : Kind) (value : Argument) (m : NewObject)
     → value_fault r place kind value ≡ None → made_by tables version kind value ≡ Some m
-    → by_maker kind (r.new_id m.id) (r.new_server_id m.id) ≡ Free
+    → new_id_by_maker kind (r.new_id m.id) (r.new_server_id m.id) ≡ Free
 one_free tables r version place (kinds.New (Some iface)) (New id) m f h =
     let same : record { id = id; iface = iface; version = version } ≡ m = cc h in
     ap (λ (x : NewObject). r.new_id x.id) (sym same) ∙ no_fault place (r.new_id id) f
@@ -75,7 +76,7 @@ read_in (Err fault) = ([], [])
 
 behind : (r : Reader) (place : ℕ) (kind : Kind) (ks : List Kind) (values : List Argument) (rest at : List ℕ)
     (value : Argument) (x : Result (List Argument × List ℕ) Fault) → value_fault r place kind value ≡ None
-    → arguments_at r (suc place) ks at ≡ x → before value x ≡ Ok (values, rest)
+    → arguments_at r (suc place) ks at ≡ x → value_before value x ≡ Ok (values, rest)
     → ReadsFirst r place kind ks values rest
 behind r place kind ks values rest at value (Err fault) f o e = absurd (cc e)
 behind r place kind ks values rest at value (Ok more) f o e = record {
@@ -89,7 +90,7 @@ behind r place kind ks values rest at value (Ok more) f o e = record {
 
 unfaulted : (r : Reader) (place : ℕ) (kind : Kind) (ks : List Kind) (bytes : List ℕ) (values : List Argument)
     (rest : List ℕ) (value : Argument × ℕ) (x : Option Fault) → value_fault r place kind value.0 ≡ x
-    → and_those (arguments_at r (suc place) ks) bytes (unless x value) ≡ Ok (values, rest)
+    → value_then_rest (arguments_at r (suc place) ks) bytes (value_unless x value) ≡ Ok (values, rest)
     → ReadsFirst r place kind ks values rest
 unfaulted r place kind ks bytes values rest value (Some fault) f e = absurd (cc e)
 unfaulted r place kind ks bytes values rest value None f e =
@@ -98,7 +99,7 @@ unfaulted r place kind ks bytes values rest value None f e =
 
 first_read : (r : Reader) (place : ℕ) (kind : Kind) (ks : List Kind) (bytes : List ℕ) (values : List Argument)
     (rest : List ℕ) (x : Result (Argument × ℕ) ArgFault)
-    → and_those (arguments_at r (suc place) ks) bytes (value_or_fault r place kind x) ≡ Ok (values, rest)
+    → value_then_rest (arguments_at r (suc place) ks) bytes (value_or_fault r place kind x) ≡ Ok (values, rest)
     → ReadsFirst r place kind ks values rest
 first_read r place kind ks bytes values rest (Err fault) e = absurd (cc e)
 first_read r place kind ks bytes values rest (Ok value) e =
@@ -112,7 +113,7 @@ one_of (Some n) other m h = inl h
 module _ (Only : List Kind → Type 0) (pick : NewId → NewId → NewId) (tables : List Interface) (version : ℕ)
     (tail : (kind : Kind) (ks : List Kind) → Only (kind ∷ ks) → Only ks)
     (head : (kind : Kind) (ks : List Kind) (value : Argument) (m : NewObject) (a b : NewId) → Only (kind ∷ ks)
-    → made_by tables version kind value ≡ Some m → by_maker kind a b ≡ pick a b) where
+    → made_by tables version kind value ≡ Some m → new_id_by_maker kind a b ≡ pick a b) where
   made_free : (r : Reader) (place : ℕ) (ks : List Kind) (bytes : List ℕ) (values : List Argument) (rest : List ℕ)
       (m : NewObject) → Only ks → arguments_at r place ks bytes ≡ Ok (values, rest)
       → made tables version ks values ≡ Some m → pick (r.new_id m.id) (r.new_server_id m.id) ≡ Free
@@ -139,7 +140,8 @@ without_server (kinds.NewByServer iface) ks h = absurd (cc h)
 without_server kinds.Array ks h = h
 without_server kinds.Fd ks h = h
 
-of_client : (kind : Kind) (ks : List Kind) (a b : NewId) → server_objects (kind ∷ ks) ≡ [] → by_maker kind a b ≡ a
+of_client : (kind : Kind) (ks : List Kind) (a b : NewId) → server_objects (kind ∷ ks) ≡ []
+    → new_id_by_maker kind a b ≡ a
 of_client kinds.Int ks a b h = refl
 of_client kinds.Uint ks a b h = refl
 of_client kinds.Fixed ks a b h = refl
@@ -162,7 +164,8 @@ without_client kinds.Array ks h = h
 without_client kinds.Fd ks h = h
 
 of_server : (tables : List Interface) (version : ℕ) (kind : Kind) (ks : List Kind) (value : Argument) (m : NewObject)
-    (a b : NewId) → new_objects (kind ∷ ks) ≡ [] → made_by tables version kind value ≡ Some m → by_maker kind a b ≡ b
+    (a b : NewId) → new_objects (kind ∷ ks) ≡ [] → made_by tables version kind value ≡ Some m
+    → new_id_by_maker kind a b ≡ b
 of_server tables version kinds.Int ks value m a b h e = absurd (cc e)
 of_server tables version kinds.Uint ks value m a b h e = absurd (cc e)
 of_server tables version kinds.Fixed ks value m a b h e = absurd (cc e)

@@ -11,7 +11,8 @@ use Rattle.wl_wire.specs.declared.kind.Kind.TheVariants as kinds
 use Rattle.wl_wire.specs.Argument.{Argument}
 use Rattle.wl_sigs.specs.Side.{Side}
 use Rattle.wl_sigs.specs.Side.TheVariants.{Event}
-use Rattle.wl_sigs.specs.Tables.{Interface, MessageSignature, makes, new_objects, made_objects, first, signature_at}
+use Rattle.wl_sigs.specs.Tables.{Interface, MessageSignature, makes, new_objects, made_objects, first_element}
+use Rattle.wl_sigs.specs.Tables.{signature_at}
 use Rattle.wl_sigs.specs.Tables.{server_objects}
 use Rattle.wl_sigs.specs.Rules.{has_server_objects}
 use Rattle.wl_sigs.specs.Valid.{Valid}
@@ -23,7 +24,8 @@ use Rattle.wl_objects.specs.declared.error.SendError.{SendError}
 use Rattle.wl_objects.specs.declared.error.SendError.TheVariants as refusals
 use Rattle.wl_objects.specs.Writing.{Given, wired, wrong_place, lost_place, message_len}
 use Rattle.wl_objects.specs.Writing.{tokens_of}
-use Rattle.wl_objects.specs.Messages.{made, maker_by, NewObject, unless_lost, unless_wrong, checked_as}
+use Rattle.wl_objects.specs.Messages.{made, maker_by, NewObject, signature_unless_lost, signature_unless_wrong}
+use Rattle.wl_objects.specs.Messages.{checked_as}
 use Rattle.wl_objects.specs.Messages.{unless_hidden, checked_by, checked, live_row, is_hidden}
 use Rattle.wl_sigs.proofs.ServerObjectsTold.{none_by_server}
 use Rattle.wl_connection.specs.Core.{Core}
@@ -39,11 +41,12 @@ early_len : (b : Bool) (m : MessageSignature) → IsEarly (if b then Err refusal
 early_len true m = (λ e. cc e, λ e. cc e)
 early_len false m = tt
 
-early_lost : (limit len : ℕ) (o : Option ℕ) (m : MessageSignature) → IsEarly (unless_lost limit o len m)
+early_lost : (limit len : ℕ) (o : Option ℕ) (m : MessageSignature) → IsEarly (signature_unless_lost limit o len m)
 early_lost limit len None m = early_len (nat_lt limit len) m
 early_lost limit len (Some place) m = (λ e. cc e, λ e. cc e)
 
-early_wrong : (limit len : ℕ) (o lost : Option ℕ) (m : MessageSignature) → IsEarly (unless_wrong limit o lost len m)
+early_wrong : (limit len : ℕ) (o lost : Option ℕ) (m : MessageSignature)
+    → IsEarly (signature_unless_wrong limit o lost len m)
 early_wrong limit len None lost m = early_lost limit len lost m
 early_wrong limit len (Some place) lost m = (λ e. cc e, λ e. cc e)
 
@@ -56,7 +59,7 @@ early_as : (limit : ℕ) (view : Objects) (given : List Given) (entry : Entry) (
     → IsEarly (checked_as limit view given entry o)
 early_as limit view given entry None = (λ e. cc e, λ e. cc e)
 early_as limit view given entry (Some m) =
-    early_old (nat_lt entry.version m.since) (unless_wrong limit (wrong_place 0 m.kinds given)
+    early_old (nat_lt entry.version m.since) (signature_unless_wrong limit (wrong_place 0 m.kinds given)
     (lost_place (look view) 0 m.kinds given) (message_len (map (wired 0) given)) m)
     (early_wrong limit (message_len (map (wired 0) given)) (wrong_place 0 m.kinds given)
     (lost_place (look view) 0 m.kinds given) m)
@@ -75,7 +78,7 @@ early_checked limit tables side view target opcode given =
 
 -- a message whose signature has no new object makes none
 pub makes_none : (tables : List Interface) (version : ℕ) (ks : List Kind) (values : List Argument)
-    → is_some (first (made_objects ks)) ≡ false → made tables version ks values ≡ None
+    → is_some (first_element (made_objects ks)) ≡ false → made tables version ks values ≡ None
 makes_none tables version [] values h = refl
 makes_none tables version (k ∷ ks) [] h = refl
 makes_none tables version (kinds.Int ∷ ks) (v ∷ values) h = makes_none tables version ks values h
@@ -148,16 +151,19 @@ opens_none_as false (Some m) h limit view given entry =
     by_len true = refl
     by_len false = h m refl
 
-    by_lost : (o : Option ℕ) → opens_object (unless_lost limit o (message_len (map (wired 0) given)) m) ≡ false
+    by_lost : (o : Option ℕ)
+        → opens_object (signature_unless_lost limit o (message_len (map (wired 0) given)) m) ≡ false
     by_lost None = by_len (nat_lt limit (message_len (map (wired 0) given)))
     by_lost (Some place) = refl
 
-    by_wrong : (o lost : Option ℕ) → opens_object (unless_wrong limit o lost (message_len (map (wired 0) given)) m) ≡ false
+    by_wrong : (o lost : Option ℕ)
+        → opens_object (signature_unless_wrong limit o lost (message_len (map (wired 0) given)) m) ≡ false
     by_wrong None lost = by_lost lost
     by_wrong (Some place) lost = refl
 
     by_test : (b : Bool) (o lost : Option ℕ) → opens_object
-        (if b then Err refusals.TooOld else unless_wrong limit o lost (message_len (map (wired 0) given)) m) ≡ false
+        (if b then Err refusals.TooOld else signature_unless_wrong limit o lost (message_len (map (wired 0) given)) m)
+        ≡ false
     by_test true o lost = refl
     by_test false o lost = by_wrong o lost
 
@@ -165,7 +171,7 @@ opens_none_as false (Some m) h limit view given entry =
 pub event_makes_none : (tables : List Interface) → Valid tables → has_server_objects tables ≡ false
     → (place opcode : ℕ) (m : MessageSignature) → signature_at tables place Event opcode ≡ Some m
     → is_some (makes m) ≡ false
-event_makes_none tables v none place opcode m at = ap (λ l. is_some (first l)) (none_made m.kinds
+event_makes_none tables v none place opcode m at = ap (λ l. is_some (first_element l)) (none_made m.kinds
     (v.few_objects_made.events place opcode m at) (none_by_server tables none place opcode m at))
 
 -- so writing an event opens nothing

@@ -16,11 +16,12 @@ use Rattle.wl_sigs.specs.Tables.{MessageSignature, Interface, signature_at, desc
 use Rattle.wl_object_map.specs.declared.object.Entry.{Entry}
 use Rattle.wl_objects.specs.declared.error.Fault.{Fault}
 use Rattle.wl_objects.specs.declared.error.Fault.TheVariants as faults
-use Rattle.wl_objects.specs.Reading.{Reader, forgiving_kind, value_fault, unless, value_or_fault, before, and_those}
+use Rattle.wl_objects.specs.Reading.{Reader, forgiving_kind, value_fault, value_unless, value_or_fault, value_before}
+use Rattle.wl_objects.specs.Reading.{value_then_rest}
 use Rattle.wl_objects.specs.Reading.{arguments_at, forgiving, reports_of}
 use Rattle.wl_objects.specs.Messages.{Received, is_error, received_whole, received_as, received_by, received}
 use Rattle.wl_objects.specs.declared.error.NextError.{NextError}
-use Rattle.wl_connection.specs.Receiving.{is_none}
+use Rattle.wl_connection.specs.Receiving.{is_empty_list}
 use Rattle.wl_connection.specs.Outcomes.{answers_with}
 use Rattle.wl_sigs.specs.Rules.{is_empty}
 
@@ -41,19 +42,20 @@ abbrev Few : ℕ → Result (List Argument × List ℕ) Fault → Type 0
 Few n (Err fault) = Unit {0}
 Few n (Ok found) = length found.0 ≤ n
 
-few-before : (n : ℕ) (v : Argument) (x : Result (List Argument × List ℕ) Fault) → Few n x → Few (suc n) (before v x)
+few-before : (n : ℕ) (v : Argument) (x : Result (List Argument × List ℕ) Fault) → Few n x
+    → Few (suc n) (value_before v x)
 few-before n v (Err fault) h = tt
 few-before n v (Ok found) h = omega arith
 
 few-unless : (n : ℕ) (v : Argument × ℕ) (bytes : List ℕ) (f : Option Fault)
     (others : List ℕ → Result (List Argument × List ℕ) Fault)
-    → ((rest : List ℕ) → Few n (others rest)) → Few (suc n) (and_those others bytes (unless f v))
+    → ((rest : List ℕ) → Few n (others rest)) → Few (suc n) (value_then_rest others bytes (value_unless f v))
 few-unless n v bytes (Some fault) others h = tt
 few-unless n v bytes None others h = few-before n v.0 (others (drop v.1 bytes)) (h (drop v.1 bytes))
 
 few-judged : (n : ℕ) (r : Reader) (place : ℕ) (k : Kind) (bytes : List ℕ) (x : Result (Argument × ℕ) ArgFault)
     (others : List ℕ → Result (List Argument × List ℕ) Fault)
-    → ((rest : List ℕ) → Few n (others rest)) → Few (suc n) (and_those others bytes (value_or_fault r place k x))
+    → ((rest : List ℕ) → Few n (others rest)) → Few (suc n) (value_then_rest others bytes (value_or_fault r place k x))
 few-judged n r place k bytes (Err fault) others h = tt
 few-judged n r place k bytes (Ok v) others h = few-unless n v bytes (value_fault r place k v.0) others h
 
@@ -158,7 +160,7 @@ first-tokens (suc n) (x ∷ a) (y ∷ b) p q f =
 -- ---- a message with arguments is reported with arguments
 
 pub some_reported : (r : Reader) (tokens : List ℕ) (values : List Argument) → values ≢ []
-    → not (is_none (reports_of r tokens values)) ≡ true
+    → not (is_empty_list (reports_of r tokens values)) ≡ true
 some_reported r tokens [] h = absurd (h refl)
 some_reported r tokens (v ∷ values) h = refl
 

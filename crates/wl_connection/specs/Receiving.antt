@@ -68,6 +68,6 @@ own_tokens core message = take (takes message) core.inbox.tokens
 abbrev pub past_found : Core → Found → Core
 past_found core f = past core f.size (takes f.message)
 
-abbrev pub is_none : {X : Type 0} → List X → Bool
-is_none [] = true
-is_none (x ∷ xs) = false
+abbrev pub is_empty_list : {X : Type 0} → List X → Bool
+is_empty_list [] = true
+is_empty_list (x ∷ xs) = false

@@ -19,7 +19,7 @@ abbrev pub need_of : Found → Need
 need_of f = record { size = f.size; tokens = takes f.message }
 
 -- A message with this need is at the front: it is found there, or would be if more tokens waited.
-pub record Wants (core : Core) (side : Side) (need : Need) : Type 0 where
+pub record WantsNeed (core : Core) (side : Side) (need : Need) : Type 0 where
   pub more : List ℕ
   pub message : Found
   pub there : found (with_arrived core [] more) side ≡ Ok (Some message)
@@ -52,8 +52,8 @@ untaken (p ∷ ps) zero some =
 untaken (p ∷ ps) (suc count) some = untaken ps count some
 
 -- a piece with more appended
-abbrev pub longer : Part → List ℕ → List ℕ → Part
-longer p bytes tokens = record { bytes = p.bytes ++ bytes; tokens = p.tokens ++ tokens }
+abbrev pub part_with_more : Part → List ℕ → List ℕ → Part
+part_with_more p bytes tokens = record { bytes = p.bytes ++ bytes; tokens = p.tokens ++ tokens }
 
 -- No piece is left, or not all tokens of the next one fit.
 abbrev pub NoneFits : ℕ → List Part → ℕ → Type 0

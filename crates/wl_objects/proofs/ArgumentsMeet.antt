@@ -16,7 +16,8 @@ use Rattle.wl_wire.proofs.Fronts.{reading-spelled}
 use Rattle.wl_wire.proofs.Taken.{reading-found}
 use Rattle.wl_wire.proofs.Refused.{fault-reading, reading-fault}
 use Rattle.wl_objects.specs.declared.error.Fault.{Fault}
-use Rattle.wl_objects.specs.Reading.{Reader, forgiving_kind, value_fault, unless, value_or_fault, before, and_those}
+use Rattle.wl_objects.specs.Reading.{Reader, forgiving_kind, value_fault, value_unless, value_or_fault, value_before}
+use Rattle.wl_objects.specs.Reading.{value_then_rest}
 use Rattle.wl_objects.specs.Reading.{arguments_at}
 use Rattle.wl_objects.specs.Spelling as spelling
 use Rattle.wl_objects.specs.Spelling.{MeetsKinds, FirstFault}
@@ -33,7 +34,7 @@ says-before : (r : Reader) (place : ℕ) (kind : Kind) (ks : List Kind) (bytes :
     (x : Result (List Argument × List ℕ) Fault)
     → bytes ≡ take n bytes ++ drop n bytes → Spells (forgiving_kind r.forgives kind) v (take n bytes)
     → value_fault r place kind v ≡ None
-    → Says r (suc place) ks (drop n bytes) x → Says r place (kind ∷ ks) bytes (before v x)
+    → Says r (suc place) ks (drop n bytes) x → Says r place (kind ∷ ks) bytes (value_before v x)
 says-before r place kind ks bytes v n (Ok found) e s f h = spelling.more s f h e
 says-before r place kind ks bytes v n (Err fault) e s f h = spelling.later s f h e
 
@@ -42,7 +43,7 @@ says-unless : (r : Reader) (place : ℕ) (kind : Kind) (ks : List Kind) (bytes :
     → bytes ≡ take n bytes ++ drop n bytes → Spells (forgiving_kind r.forgives kind) v (take n bytes)
     → value_fault r place kind v ≡ f
     → Says r (suc place) ks (drop n bytes) (arguments_at r (suc place) ks (drop n bytes))
-    → Says r place (kind ∷ ks) bytes (and_those (arguments_at r (suc place) ks) bytes (unless f (v, n)))
+    → Says r place (kind ∷ ks) bytes (value_then_rest (arguments_at r (suc place) ks) bytes (value_unless f (v, n)))
 says-unless r place kind ks bytes v n None e s f h =
     says-before r place kind ks bytes v n (arguments_at r (suc place) ks (drop n bytes)) e s f h
 says-unless r place kind ks bytes v n (Some fault) e s f h = spelling.meaning (drop n bytes) s f e
@@ -51,7 +52,8 @@ says-judged : (r : Reader) (place : ℕ) (kind : Kind) (ks : List Kind) (bytes :
     (x : Result (Argument × ℕ) ArgFault) → Bytewise bytes
     → reading (forgiving_kind r.forgives kind) bytes ≡ x
     → ((n : ℕ) → Says r (suc place) ks (drop n bytes) (arguments_at r (suc place) ks (drop n bytes)))
-    → Says r place (kind ∷ ks) bytes (and_those (arguments_at r (suc place) ks) bytes (value_or_fault r place kind x))
+    → Says r place (kind ∷ ks) bytes
+    (value_then_rest (arguments_at r (suc place) ks) bytes (value_or_fault r place kind x))
 says-judged r place kind ks bytes (Ok found) w e h =
     let spelled = reading-found (forgiving_kind r.forgives kind) found.0 found.1 bytes w e in
     says-unless r place kind ks bytes found.0 found.1 (value_fault r place kind found.0)
@@ -80,7 +82,7 @@ faulty r place ks bytes fault w e = subst (λ (x : Result (List Argument × List
 -- reading goes on after an argument that is spelled at the front and without fault
 one-right : (r : Reader) (place : ℕ) (kind : Kind) (ks : List Kind) (bytes front behind : List ℕ) (v : Argument)
     → Spells (forgiving_kind r.forgives kind) v front → value_fault r place kind v ≡ None → bytes ≡ front ++ behind
-    → arguments_at r place (kind ∷ ks) bytes ≡ before v (arguments_at r (suc place) ks behind)
+    → arguments_at r place (kind ∷ ks) bytes ≡ value_before v (arguments_at r (suc place) ks behind)
 one-right r place kind ks bytes front behind v s f e =
     let one = reading-spelled behind s in
     let rest : drop (length front) (front ++ behind) ≡ behind = drop_at front behind (length front) refl in
@@ -89,7 +91,7 @@ one-right r place kind ks bytes front behind v s f e =
 pub meets-read : {r : Reader} {place : ℕ} {ks : List Kind} {bytes : List ℕ} {values : List Argument} {rest : List ℕ}
     → MeetsKinds r place ks bytes values rest → arguments_at r place ks bytes ≡ Ok (values, rest)
 meets-read {r} spelling.none = refl
-meets-read {r} (spelling.more s f m e) = one-right r _ _ _ _ _ _ _ s f e ∙ ap (before _) (meets-read m)
+meets-read {r} (spelling.more s f m e) = one-right r _ _ _ _ _ _ _ s f e ∙ ap (value_before _) (meets-read m)
 
 pub fault-read : {r : Reader} {place : ℕ} {ks : List Kind} {bytes : List ℕ} {fault : Fault}
     → FirstFault r place ks bytes fault → arguments_at r place ks bytes ≡ Err fault
@@ -97,4 +99,4 @@ fault-read {r} (spelling.spelling {kind = kind} {bytes = bytes} {fault = fault} 
     fault-reading (forgiving_kind r.forgives kind) fault bytes f in rw one refl
 fault-read {r} (spelling.meaning {place = place} {kind = kind} {value = value} {front = front} behind s f e) =
     let one = reading-spelled behind s in rw (e, one, f) refl
-fault-read {r} (spelling.later s f m e) = one-right r _ _ _ _ _ _ _ s f e ∙ ap (before _) (fault-read m)
+fault-read {r} (spelling.later s f m e) = one-right r _ _ _ _ _ _ _ s f e ∙ ap (value_before _) (fault-read m)

@@ -9,7 +9,7 @@ use Rattle.std.proofs.Common.{Err}
 use Rattle.std.proofs.lemmas.List.Elements.{All-cons, All-same}
 use Rattle.wl_sigs.specs.Tables.{MessageSignature}
 use Rattle.wl_objects.specs.declared.error.SendError.TheVariants.{WrongArgs}
-use Rattle.wl_objects.specs.Messages.{unless_wrong}
+use Rattle.wl_objects.specs.Messages.{signature_unless_wrong}
 use Rattle.wl_objects.specs.Carried.{InRange}
 use Rattle.wl_wire.specs.declared.kind.Kind.{Kind}
 use Rattle.wl_wire.specs.declared.kind.Kind.TheVariants as kinds
@@ -58,7 +58,7 @@ wrong-next i ks list k a p q e t = rw (add-one, drop-cons ks i k p, drop-cons li
 
 -- a call with an argument of the wrong kind is refused for that, whatever else is wrong with it
 pub refused-wrong : (limit place : ℕ) (wrong lost : Option ℕ) (len : ℕ) (m : MessageSignature) → wrong ≡ Some place
-    → Err (WrongArgs place) ≡ unless_wrong limit wrong lost len m
+    → Err (WrongArgs place) ≡ signature_unless_wrong limit wrong lost len m
 refused-wrong limit place wrong lost len m e = rw e refl
 
 pub len-at : (id i : ℕ) (list : List Arg) (a : Arg) → i < length list

@@ -14,7 +14,7 @@ use Rattle.wl_wire.specs.declared.value.ValueRef.TheVariants as spelled_as
 use Rattle.wl_wire.specs.Reading.{reading}
 use Rattle.wl_objects.specs.declared.error.Fault.{Fault}
 use Rattle.wl_objects.specs.declared.parsed.ParsedArg.{ParsedArg}
-use Rattle.wl_objects.specs.Reading.{Reader, Reported, forgiving_kind, value_fault, before}
+use Rattle.wl_objects.specs.Reading.{Reader, Reported, forgiving_kind, value_fault, value_before}
 use Rattle.wl_objects.specs.Reading.{arguments_at, is_descriptor, head_or, reported_argument, reports_of}
 use Rattle.wl_objects.specs.declared.argument.Got.{Got}
 use Rattle.wl_objects.specs.Seen.{got, got_values}
@@ -102,7 +102,7 @@ refused r place v None fault e = absurd (cc)
 refused r place v (Some other) fault e = let same : other ≡ fault = cc in ap (λ (x : Fault). Some x) same
 
 made-before : (r : Reader) (place : ℕ) (v : Argument) (y : Result (List Argument × List ℕ) Fault)
-    → views_outcome r place (before v y)
+    → views_outcome r place (value_before v y)
     ≡ views_prepended (argument_view r place v ∷ []) (views_outcome r (place_after v place) y)
 made-before r place v (Err fault) = refl
 made-before r place v (Ok found) = refl
@@ -127,7 +127,7 @@ parsed-next r q i end n place birth ks k body items p v b s e f =
     let right : value_fault q i (get_or ks i k) v ≡ None = j.0 in
     let same : view_of_parsed body birth p ≡ argument_view r place v = j.1 in
     let read : arguments_at q i (drop i ks) (drop end body)
-    ≡ before v (arguments_at q (suc i) (drop (suc i) ks) (drop (end + n) body)) =
+    ≡ value_before v (arguments_at q (suc i) (drop (suc i) ks) (drop (end + n) body)) =
     rw (drop-cons ks i k b, e, right, drop-drop) refl in
     let next : i + 1 ≡ suc i = add-one i in
     rw (read, made-before, behind-both, take_more_set items i p s, map-append, same, next) refl

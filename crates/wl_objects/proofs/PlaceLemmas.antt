@@ -17,7 +17,7 @@ use Rattle.wl_objects.specs.declared.error.SendError.{SendError}
 use Rattle.wl_objects.specs.declared.error.SendError.TheVariants as refusals
 use Rattle.wl_objects.specs.Writing.{Given, wired, suits, can_name, wrong_place, lost_place, message_len}
 use Rattle.wl_objects.specs.Messages.{is_hidden, checked, checked_as, checked_by, live_row}
-use Rattle.wl_objects.specs.Messages.{unless_hidden, unless_wrong, unless_lost}
+use Rattle.wl_objects.specs.Messages.{unless_hidden, signature_unless_wrong, signature_unless_lost}
 use Rattle.wl_objects.specs.Places.{SuitsAt, IsWrongAt, IsFirstWrong, NamesAt, IsLostAt}
 use Rattle.wl_objects.specs.Places.{IsFirstLost, ReachesArguments, unsuited, missing, one_too_many}
 use Rattle.wl_objects.proofs.Wholes.{live-target, live-row, shown-signature}
@@ -287,7 +287,8 @@ IsLate _ = Unit {0}
 
 -- the result of the arguments
 abbrev judged_list : ℕ → Objects → List Given → MessageSignature → Result MessageSignature SendError
-judged_list limit view list m = unless_wrong limit (wrong_place 0 m.kinds list) (lost_place (look view) 0 m.kinds list)
+judged_list limit view list m =
+    signature_unless_wrong limit (wrong_place 0 m.kinds list) (lost_place (look view) 0 m.kinds list)
     (message_len (map (wired 0) list)) m
 
 late_signature : (limit : ℕ) (view : Objects) (list : List Given) (entry : Entry) (at : Option MessageSignature)
@@ -342,7 +343,7 @@ reached limit tables side view target opcode list m r =
     rw (row, r.shown, r.exists, since) refl
 
 wrong_of : (limit : ℕ) (wrong lost : Option ℕ) (len place : ℕ) (m : MessageSignature)
-    → unless_wrong limit wrong lost len m ≡ Err (refusals.WrongArgs place) → wrong ≡ Some place
+    → signature_unless_wrong limit wrong lost len m ≡ Err (refusals.WrongArgs place) → wrong ≡ Some place
 wrong_of limit (Some p) lost len place m e = let same : p ≡ place = cc in ap (λ (n : ℕ). Some n) same
 wrong_of limit None (Some p) len place m e = absurd (cc)
 wrong_of limit None None len place m e = absurd (by_len (nat_lt limit len) e)
@@ -352,7 +353,8 @@ wrong_of limit None None len place m e = absurd (by_len (nat_lt limit len) e)
     by_len false e = cc
 
 lost_of : (limit : ℕ) (wrong lost : Option ℕ) (len place : ℕ) (m : MessageSignature)
-    → unless_wrong limit wrong lost len m ≡ Err (refusals.BadObject place) → (wrong ≡ None) × (lost ≡ Some place)
+    → signature_unless_wrong limit wrong lost len m ≡ Err (refusals.BadObject place)
+    → (wrong ≡ None) × (lost ≡ Some place)
 lost_of limit (Some p) lost len place m e = absurd (cc)
 lost_of limit None (Some p) len place m e = let same : p ≡ place = cc in (refl, ap (λ (n : ℕ). Some n) same)
 lost_of limit None None len place m e = absurd (by_len (nat_lt limit len) e)
@@ -375,7 +377,7 @@ wrong-refused limit tables side view target opcode list place = (
             (message_len (map (wired 0) list)) place l.0 l.2),
       ),
   λ f. reached limit tables side view target opcode list f.0 f.1
-      ∙ ap (λ (w : Option ℕ). unless_wrong limit w (lost_place (look view) 0 f.0.kinds list)
+      ∙ ap (λ (w : Option ℕ). signature_unless_wrong limit w (lost_place (look view) 0 f.0.kinds list)
       (message_len (map (wired 0) list)) f.0) (first-wrong f.0.kinds list place f.2),
 )
 
@@ -392,8 +394,8 @@ lost-refused limit tables side view target opcode list place = (
       let n = none-wrong 0 l.0.kinds list p.0 in
       (l.0, l.1, n.0, n.1, lost-first (look view) l.0.kinds list place p.1),
   λ f. reached limit tables side view target opcode list f.0 f.1
-      ∙ (ap (λ (w : Option ℕ). unless_wrong limit w (lost_place (look view) 0 f.0.kinds list)
+      ∙ (ap (λ (w : Option ℕ). signature_unless_wrong limit w (lost_place (look view) 0 f.0.kinds list)
       (message_len (map (wired 0) list)) f.0) (suited-all 0 f.0.kinds list f.2 f.3)
-      ∙ ap (λ (l : Option ℕ). unless_lost limit l (message_len (map (wired 0) list)) f.0)
+      ∙ ap (λ (l : Option ℕ). signature_unless_lost limit l (message_len (map (wired 0) list)) f.0)
       (first-lost (look view) f.0.kinds list place f.4)),
 )

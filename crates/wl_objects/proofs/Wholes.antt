@@ -29,8 +29,8 @@ use Rattle.wl_objects.specs.Spelling as spelling
 use Rattle.wl_objects.specs.Writing.{Given, wired, spelled, suits, wrong_place, lost_place}
 use Rattle.wl_objects.specs.Writing.{is_live_as, message_len, message_bytes, tokens_of}
 use Rattle.wl_objects.specs.Messages.{received, is_error, is_hidden, same_iface, checked}
-use Rattle.wl_objects.specs.Messages.{checked_as, checked_by, live_row, unless_hidden, unless_wrong}
-use Rattle.wl_objects.specs.Messages.{of_length}
+use Rattle.wl_objects.specs.Messages.{checked_as, checked_by, live_row, unless_hidden, signature_unless_wrong}
+use Rattle.wl_objects.specs.Messages.{signature_within_limit}
 use Rattle.wl_objects.specs.Carried.{InRange, AreExpected, IsTarget, CallPasses, received_as_meant}
 use Rattle.wl_object_map.specs.View.{lives}
 use Rattle.wl_objects.proofs.WrittenArrives.{if-none, suits-wired, All-first, arrive-read, arrive-taken}
@@ -105,7 +105,7 @@ written-spelled n place (kind ∷ ks) (x ∷ list) b w i o =
 -- ---- calls
 
 checked-of : (limit : ℕ) (list : List Given) (len : ℕ) (signature found : MessageSignature)
-    → of_length limit len signature ≡ Ok found → (found ≡ signature) × (len ≤ limit)
+    → signature_within_limit limit len signature ≡ Ok found → (found ≡ signature) × (len ≤ limit)
 checked-of limit list len signature found e = by_length (nat_lt limit len) refl e
   where
     by_length : (b : Bool) → nat_lt limit len ≡ b → (if b then Err refusals.TooLong else Ok signature) ≡ Ok found
@@ -114,7 +114,7 @@ checked-of limit list len signature found e = by_length (nat_lt limit len) refl 
     by_length false t e = (cc, ltb-false limit len t)
 
 checked-places : (limit : ℕ) (wrong lost : Option ℕ) (len : ℕ) (signature found : MessageSignature)
-    → unless_wrong limit wrong lost len signature ≡ Ok found
+    → signature_unless_wrong limit wrong lost len signature ≡ Ok found
     → (wrong ≡ None) × (lost ≡ None) × (found ≡ signature) × (len ≤ limit)
 checked-places limit (Some place) lost len signature found e = absurd (cc)
 checked-places limit None (Some place) len signature found e = absurd (cc)
@@ -131,7 +131,7 @@ checked-signature limit view list entry (Some signature) found e =
     by_version (nat_lt entry.version signature.since) refl e
   where
     by_version : (b : Bool) → nat_lt entry.version signature.since ≡ b
-        → (if b then Err refusals.TooOld else unless_wrong limit (wrong_place 0 signature.kinds list)
+        → (if b then Err refusals.TooOld else signature_unless_wrong limit (wrong_place 0 signature.kinds list)
         (lost_place (look view) 0 signature.kinds list) (message_len (map (wired 0) list)) signature) ≡ Ok found
         → (Some signature ≡ Some found) × (found.since ≤ entry.version) × (wrong_place 0 found.kinds list ≡ None)
         × (lost_place (look view) 0 found.kinds list ≡ None) × (message_len (map (wired 0) list) ≤ limit)

@@ -18,7 +18,7 @@ use Rattle.wl_wire.proofs.Canonicals.{canonical-spells, spelled-len, reading-can
 use Rattle.wl_sigs.specs.Tables.{descriptors, is_descriptor_kind}
 use Rattle.wl_object_map.specs.declared.object.Object.{Object}
 use Rattle.wl_object_map.specs.declared.object.Entry.{Entry}
-use Rattle.wl_objects.specs.Reading.{Reader, forgiving_kind, is_of, iface_of, value_fault, arguments_at}
+use Rattle.wl_objects.specs.Reading.{Reader, forgiving_kind, has_required_iface, iface_of, value_fault, arguments_at}
 use Rattle.wl_objects.specs.Reading.{reported_argument, reports_of, head_or, tokens_after}
 use Rattle.wl_objects.specs.Writing.{Given, wired, spelled, suits, has_no_nul, can_name, names_one}
 use Rattle.wl_objects.specs.Writing.{wrong_place, lost_place, tokens_of}
@@ -53,14 +53,15 @@ pub if-none : (b : Bool) (x : Option ℕ) (p : ℕ) → (if b then x else Some p
 if-none true x p e = (refl, e)
 if-none false x p e = absurd (cc)
 
-is_of-same : (iface : Option Iface) (entry row : Entry) → row.iface ≡ entry.iface → is_of iface entry ≡ true
-    → is_of iface row ≡ true
+is_of-same : (iface : Option Iface) (entry row : Entry) → row.iface ≡ entry.iface
+    → has_required_iface iface entry ≡ true
+    → has_required_iface iface row ≡ true
 is_of-same None entry row e h = refl
 is_of-same (Some iface) entry row e h = rw e h
 
 -- a named object is live, with its row
 named-row : (w : Option Entry) (iface : Option Iface) (object : Object) → names_one iface object w ≡ true
-    → (entry : Entry) × (w ≡ Some entry) × (is_of iface entry ≡ true)
+    → (entry : Entry) × (w ≡ Some entry) × (has_required_iface iface entry ≡ true)
 named-row None iface object e = absurd (cc)
 named-row (Some entry) iface object e = (entry, refl, (and_parts _ _ e).1)
 
@@ -69,7 +70,7 @@ object-right : (writer : ℕ → Option Entry) (r : Reader) (place : ℕ) (kind 
     → value_fault r place kind (Obj object.id) ≡ None
 object-right writer r place kind object f held e =
     let w = named-row (writer object.id) (iface_of kind) object e in
-    let same : is_of (iface_of kind) held.row ≡ true =
+    let same : has_required_iface (iface_of kind) held.row ≡ true =
     is_of-same (iface_of kind) w.0 held.row (held.iface w.0 w.1) w.2 in
     let some : nat_eq object.id 0 ≡ false = ne_eqb object.id 0 held.not_null in
     rw (f, some, held.held, same) refl

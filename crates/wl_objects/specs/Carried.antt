@@ -15,7 +15,8 @@ use Rattle.wl_object_map.specs.declared.object.Entry.{Entry}
 use Rattle.wl_objects.specs.declared.argument.Named.{Named}
 use Rattle.wl_objects.specs.declared.argument.Named.TheVariants as named_as
 use Rattle.wl_objects.specs.declared.lookup.NewId.TheVariants.{Free}
-use Rattle.wl_objects.specs.Reading.{Reader, Reported, by_maker, in_state, arguments_at, reports_of}
+use Rattle.wl_objects.specs.Reading.{Reader, Reported, new_id_by_maker, in_state, arguments_at}
+use Rattle.wl_objects.specs.Reading.{reports_of}
 use Rattle.wl_object_map.specs.Objects.{Objects, look}
 use Rattle.wl_objects.specs.Writing.{Given, wired, spelled, message_len, tokens_of, wrong_place}
 use Rattle.wl_objects.specs.Writing.{lost_place}
@@ -51,7 +52,7 @@ pub record ReaderHolds (writer : ℕ → Option Entry) (reader : Reader) (object
 abbrev pub IsExpected : (ℕ → Option Entry) → Reader → ℕ → Kind → Given → Type 0
 IsExpected writer reader n kind (Obj (Some object)) = ReaderHolds writer reader object
 IsExpected writer reader n kind (New x) =
-    by_maker kind (reader.new_id n) (reader.new_server_id n) ≡ Free
+    new_id_by_maker kind (reader.new_id n) (reader.new_server_id n) ≡ Free
 IsExpected writer reader n kind (NewNamed iface version x) = reader.new_id n ≡ Free
 IsExpected writer reader n kind _ = Unit {0}
 

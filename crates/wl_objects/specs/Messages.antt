@@ -207,24 +207,28 @@ abbrev pub is_hidden : Side → Iface → ℕ → Bool
 is_hidden Request iface opcode = same_iface iface registry && nat_eq opcode 0
 is_hidden Event iface opcode = same_iface iface display || same_iface iface registry
 
-abbrev pub of_length : (limit len : ℕ) → MessageSignature → Result MessageSignature SendError
-of_length limit len signature = if nat_lt limit len then Err refusals.TooLong else Ok signature
-
-abbrev pub unless_lost : ℕ → Option ℕ → ℕ → MessageSignature → Result MessageSignature SendError
-unless_lost limit None len signature = of_length limit len signature
-unless_lost limit (Some place) len signature = Err (refusals.BadObject place)
-
-abbrev pub unless_wrong : ℕ → Option ℕ → Option ℕ → ℕ → MessageSignature
+abbrev pub signature_within_limit : (limit len : ℕ) → MessageSignature
     → Result MessageSignature SendError
-unless_wrong limit None lost len signature = unless_lost limit lost len signature
-unless_wrong limit (Some place) lost len signature = Err (refusals.WrongArgs place)
+signature_within_limit limit len signature =
+    if nat_lt limit len then Err refusals.TooLong else Ok signature
+
+abbrev pub signature_unless_lost : ℕ → Option ℕ → ℕ → MessageSignature
+    → Result MessageSignature SendError
+signature_unless_lost limit None len signature = signature_within_limit limit len signature
+signature_unless_lost limit (Some place) len signature = Err (refusals.BadObject place)
+
+abbrev pub signature_unless_wrong : ℕ → Option ℕ → Option ℕ → ℕ → MessageSignature
+    → Result MessageSignature SendError
+signature_unless_wrong limit None lost len signature =
+    signature_unless_lost limit lost len signature
+signature_unless_wrong limit (Some place) lost len signature = Err (refusals.WrongArgs place)
 
 abbrev pub checked_as : ℕ → Objects → List Given → Entry → Option MessageSignature
     → Result MessageSignature SendError
 checked_as limit view given entry None = Err refusals.NoSuchMessage
 checked_as limit view given entry (Some signature) =
     if nat_lt entry.version signature.since then Err refusals.TooOld
-    else unless_wrong limit (wrong_place 0 signature.kinds given)
+    else signature_unless_wrong limit (wrong_place 0 signature.kinds given)
     (lost_place (look view) 0 signature.kinds given) (message_len (map (wired 0) given)) signature
 
 abbrev pub unless_hidden : Bool → Option MessageSignature → Option MessageSignature

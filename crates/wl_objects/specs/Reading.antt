@@ -41,14 +41,14 @@ iface_of (kinds.Obj null iface) = iface
 iface_of _ = None
 
 -- whether an object has the required interface
-abbrev pub is_of : Option Iface → Entry → Bool
-is_of None entry = true
-is_of (Some iface) entry = nat_eq iface.0 entry.iface.0
+abbrev pub has_required_iface : Option Iface → Entry → Bool
+has_required_iface None entry = true
+has_required_iface (Some iface) entry = nat_eq iface.0 entry.iface.0
 
 abbrev pub object_fault : ℕ → Option Iface → Option Entry → Option Fault
 object_fault place iface None = Some (faults.BadObject place)
 object_fault place iface (Some entry) =
-    if is_of iface entry then None else Some (faults.BadObject place)
+    if has_required_iface iface entry then None else Some (faults.BadObject place)
 
 abbrev pub new_fault : ℕ → NewId → Option Fault
 new_fault place Free = None
@@ -57,9 +57,9 @@ new_fault place TooMany = Some faults.TooManyObjects
 
 -- the result for a new object's id by the argument's kind, from the results for the client and for
 -- the server
-abbrev pub by_maker : Kind → NewId → NewId → NewId
-by_maker (kinds.NewByServer iface) of_client of_server = of_server
-by_maker _ of_client of_server = of_client
+abbrev pub new_id_by_maker : Kind → NewId → NewId → NewId
+new_id_by_maker (kinds.NewByServer iface) of_client of_server = of_server
+new_id_by_maker _ of_client of_server = of_client
 
 -- the fault of a value that its bytes spell: an object that is unknown or has another interface, a
 -- new id that is not free
@@ -68,37 +68,37 @@ value_fault r place kind (Obj id) =
     if r.forgives then None
     else (if nat_eq id 0 then None else object_fault place (iface_of kind) (r.object id))
 value_fault r place kind (New id) =
-    new_fault place (by_maker kind (r.new_id id) (r.new_server_id id))
+    new_fault place (new_id_by_maker kind (r.new_id id) (r.new_server_id id))
 value_fault r place kind (NewNamed iface version id) = new_fault place (r.new_id id)
 value_fault r place kind _ = None
 
 -- a value and its length, unless there is a fault
-abbrev pub unless : Option Fault → Argument × ℕ → Result (Argument × ℕ) Fault
-unless None value = Ok value
-unless (Some fault) value = Err fault
+abbrev pub value_unless : Option Fault → Argument × ℕ → Result (Argument × ℕ) Fault
+value_unless None value = Ok value
+value_unless (Some fault) value = Err fault
 
 abbrev pub value_or_fault : Reader → ℕ → Kind → Result (Argument × ℕ) ArgFault
     → Result (Argument × ℕ) Fault
 value_or_fault r place kind (Err fault) = Err (faults.BadArgument place fault)
-value_or_fault r place kind (Ok value) = unless (value_fault r place kind value.0) value
+value_or_fault r place kind (Ok value) = value_unless (value_fault r place kind value.0) value
 
 -- a value in front of those read after it
-abbrev pub before : Argument → Result (List Argument × List ℕ) Fault
+abbrev pub value_before : Argument → Result (List Argument × List ℕ) Fault
     → Result (List Argument × List ℕ) Fault
-before value (Err fault) = Err fault
-before value (Ok more) = Ok (value ∷ more.0, more.1)
+value_before value (Err fault) = Err fault
+value_before value (Ok more) = Ok (value ∷ more.0, more.1)
 
-abbrev pub and_those : (List ℕ → Result (List Argument × List ℕ) Fault) → List ℕ
+abbrev pub value_then_rest : (List ℕ → Result (List Argument × List ℕ) Fault) → List ℕ
     → Result (Argument × ℕ) Fault → Result (List Argument × List ℕ) Fault
-and_those others bytes (Err fault) = Err fault
-and_those others bytes (Ok value) = before value.0 (others (drop value.1 bytes))
+value_then_rest others bytes (Err fault) = Err fault
+value_then_rest others bytes (Ok value) = value_before value.0 (others (drop value.1 bytes))
 
 -- The arguments at the front of bytes, one of each kind, and the bytes after them; or the first
 -- fault, from the left. The index is that of the first kind.
 abbrev pub arguments_at : Reader → ℕ → List Kind → List ℕ → Result (List Argument × List ℕ) Fault
 arguments_at r place [] bytes = Ok ([], bytes)
 arguments_at r place (kind ∷ ks) bytes =
-    and_those (arguments_at r (suc place) ks) bytes
+    value_then_rest (arguments_at r (suc place) ks) bytes
     (value_or_fault r place kind (reading (forgiving_kind r.forgives kind) bytes))
 
 -- a reader that forgives, or does not

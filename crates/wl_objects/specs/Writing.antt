@@ -16,7 +16,7 @@ use Rattle.wl_objects.specs.declared.writing.BindMessage.{BindMessage}
 use Rattle.wl_objects.specs.declared.argument.Arg.TheVariants as args
 use Rattle.wl_object_map.specs.declared.object.Object.{Object}
 use Rattle.wl_object_map.specs.declared.object.Entry.{Entry}
-use Rattle.wl_objects.specs.Reading.{is_of, iface_of}
+use Rattle.wl_objects.specs.Reading.{has_required_iface, iface_of}
 use Rattle.wl_object_map.specs.View.{lives}
 
 -- an argument of a call: an object or null, a new object that the call makes, a descriptor's token
@@ -71,7 +71,7 @@ is_live_as birth (Some entry) = nat_eq entry.birth birth && lives entry.state
 
 abbrev pub row_is_of : Option Iface → Option Entry → Bool
 row_is_of iface None = false
-row_is_of iface (Some entry) = is_of iface entry
+row_is_of iface (Some entry) = has_required_iface iface entry
 
 -- whether an object with this row can be named: it is live and has the required interface
 abbrev pub names_one : Option Iface → Object → Option Entry → Bool

@@ -6,7 +6,7 @@ ghost use Rattle.wl_wire.specs.Spelling.{padded, spelled_len};
 ghost use Rattle.wl_sigs.specs.Tables.{MessageSignature, max_args};
 ghost use Rattle.wl_sigs.specs.Valid.{Valid};
 ghost use Rattle.wl_object_map.specs.Objects.{look, ObjectsAreSound};
-ghost use Rattle.wl_objects.specs.Messages.{checked, live_row, unless_wrong};
+ghost use Rattle.wl_objects.specs.Messages.{checked, live_row, signature_unless_wrong};
 ghost use Rattle.wl_objects.specs.Carried.{InRange};
 ghost use Rattle.wl_objects.specs.Seen.{signature_in, signature_of};
 ghost use Rattle.wl_objects.specs.Writing.{EachFits, IsMeasured, call_makes, can_name, given};
@@ -108,7 +108,7 @@ fn measure<T: Table>(
 ) -> Result<Measured, SendError>
     requires few { length kinds.now ≤ max_args }
     ensures answer { (signature : MessageSignature) → signature_of signature result
-        ≡ unless_wrong limit (wrong_place 0 kinds.now (given args.now))
+        ≡ signature_unless_wrong limit (wrong_place 0 kinds.now (given args.now))
         (lost_place (look objects.now) 0 kinds.now (given args.now))
         (message_len (on_wire 0 args.now)) signature }
     ensures measured { IfOk result (IsMeasured kinds.now args.now limit) }

@@ -6,7 +6,7 @@ ghost use Rattle.std.specs.Result.{result_err};
 ghost use Rattle.wl_wire.specs.Word.{IsHeader};
 ghost use Rattle.wl_sigs.specs.Valid.{Valid};
 ghost use Rattle.wl_sigs.specs.Tables.{descriptors};
-ghost use Rattle.wl_objects.specs.Reading.{by_maker, object_fault, new_fault};
+ghost use Rattle.wl_objects.specs.Reading.{new_id_by_maker, object_fault, new_fault};
 ghost use Rattle.wl_objects.specs.Reading.{iface_of};
 ghost use Rattle.wl_objects.specs.Messages.{is_error, received};
 ghost use Rattle.wl_objects.specs.Seen.{received_of, received_in};
@@ -147,7 +147,7 @@ pub(crate) fn object_fault(
 
 /// The result for an id as that of a new object of this kind.
 pub(crate) fn new_id_as<L: Lookup>(lookup: &L, kind: Kind, id: u32) -> NewId
-    ensures { result ≡ by_maker kind ((L.reader lookup.now).new_id id)
+    ensures { result ≡ new_id_by_maker kind ((L.reader lookup.now).new_id id)
         ((L.reader lookup.now).new_server_id id) }
 {
     match kind {

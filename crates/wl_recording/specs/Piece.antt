@@ -22,11 +22,11 @@ recorded_piece kept = record {
 }
 
 -- these bytes if they go this way, else none
-abbrev pub own : Direction → Direction → List ℕ → List ℕ
-own ToServer ToServer bytes = bytes
-own ToServer ToClient bytes = []
-own ToClient ToServer bytes = []
-own ToClient ToClient bytes = bytes
+abbrev pub own_bytes : Direction → Direction → List ℕ → List ℕ
+own_bytes ToServer ToServer bytes = bytes
+own_bytes ToServer ToClient bytes = []
+own_bytes ToClient ToServer bytes = []
+own_bytes ToClient ToClient bytes = bytes
 
 -- This piece was appended: its bytes follow those of its direction, and those of the other
 -- direction are unchanged.
@@ -35,8 +35,8 @@ pub record IsAppended (piece : Piece) (appended : Appended)
   pub direction : appended.direction ≡ piece.direction
   pub len : appended.len ≡ length piece.bytes
   pub tokens : appended.tokens ≡ piece.tokens
-  pub to_server : server_after ≡ server ++ own ToServer piece.direction piece.bytes
-  pub to_client : client_after ≡ client ++ own ToClient piece.direction piece.bytes
+  pub to_server : server_after ≡ server ++ own_bytes ToServer piece.direction piece.bytes
+  pub to_client : client_after ≡ client ++ own_bytes ToClient piece.direction piece.bytes
 
 -- nothing was appended to the bytes of either direction
 abbrev pub AreAsBefore : List ℕ → List ℕ → List ℕ → List ℕ → Type 0

@@ -1,7 +1,7 @@
 //! Reading the lines of a recording.
 ghost use Rattle.std.specs.Prelude.{◌≡◌, ◌≢◌, ℕ, List, ◌∷◌, ◌++◌, length, IfOk, OnErr};
 ghost use Rattle.std.specs.Prelude.{IfSome, IfNone, MatchOption};
-ghost use Rattle.wl_recording.specs.Piece.{AreAsBefore, IsAppended, Piece, own};
+ghost use Rattle.wl_recording.specs.Piece.{AreAsBefore, IsAppended, Piece, own_bytes};
 ghost use Rattle.wl_recording.specs.Piece.{recorded_piece};
 ghost use Rattle.wl_recording.specs.declared.piece.Direction.{Direction as Way};
 ghost use Rattle.wl_recording.specs.declared.piece.Direction.TheVariants.{ToServer, ToClient};
@@ -86,8 +86,9 @@ fn append_parts<A: Allocator>(
     ensures appended { IfOk result (λ found. MatchOption found
         ((more : List ℕ) → SpellsBytes parts.now.digits.now more → ⊥)
         (λ len. (more : List ℕ) × SpellsBytes parts.now.digits.now more × (length more ≡ len)
-        × (to_server.new.items ≡ to_server.old.items ++ own ToServer parts.now.direction more)
-        × (to_client.new.items ≡ to_client.old.items ++ own ToClient parts.now.direction more))) }
+        × (to_server.new.items ≡ to_server.old.items ++ own_bytes ToServer parts.now.direction more)
+        × (to_client.new.items
+        ≡ to_client.old.items ++ own_bytes ToClient parts.now.direction more))) }
     ensures none { IfOk result (λ found. IfNone found
         (AreAsBefore to_server.old.items to_server.new.items to_client.old.items
         to_client.new.items)) }

@@ -1,7 +1,7 @@
 //! What is exchanged between two ends.
 ghost use Rattle.std.specs.Prelude.{◌≡◌, ◌++◌, OnOk, OnErr, IfOk};
 ghost use Rattle.wl_recording.specs.declared.piece.Direction.TheVariants.{ToServer, ToClient};
-ghost use Rattle.wl_recording.specs.Piece.{AreAsBefore, IsAppended, own, recorded_piece};
+ghost use Rattle.wl_recording.specs.Piece.{AreAsBefore, IsAppended, own_bytes, recorded_piece};
 
 use std::alloc::{AllocError, Allocator, Global};
 use wl_wire::Bytes;
@@ -68,9 +68,9 @@ fn extend_own<A: Allocator>(
     to_client: &mut Vec<u8, A>,
 ) -> Result<(), AllocError>
     ensures to_server { OnOk result
-        (to_server.new.items ≡ to_server.old.items ++ own ToServer direction bytes.now) }
+        (to_server.new.items ≡ to_server.old.items ++ own_bytes ToServer direction bytes.now) }
     ensures to_client { OnOk result
-        (to_client.new.items ≡ to_client.old.items ++ own ToClient direction bytes.now) }
+        (to_client.new.items ≡ to_client.old.items ++ own_bytes ToClient direction bytes.now) }
     ensures err { OnErr result
         (AreAsBefore to_server.old.items to_server.new.items to_client.old.items
         to_client.new.items) }

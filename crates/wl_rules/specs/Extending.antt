@@ -76,21 +76,21 @@ lesser (Some rule) None = Some rule
 lesser (Some rule) (Some other) = if nat_lt other rule then Some other else Some rule
 
 -- a message of the tables by its name
-abbrev pub by_name : MessageSignature → WrittenMessage
-by_name m = record { line = 0; name = m.name; since = m.since; kinds = []; destroys = false }
+abbrev pub named_message : MessageSignature → WrittenMessage
+named_message m = record { line = 0; name = m.name; since = m.since; kinds = []; destroys = false }
 
 -- what is added to an interface, with the messages that the interface already has before it
-abbrev pub behind_names : Interface → WrittenInterface → WrittenInterface
-behind_names i more = record more {
-  requests = map by_name i.requests ++ more.requests;
-  events = map by_name i.events ++ more.events;
+abbrev pub behind_own_messages : Interface → WrittenInterface → WrittenInterface
+behind_own_messages i more = record more {
+  requests = map named_message i.requests ++ more.requests;
+  events = map named_message i.events ++ more.events;
 }
 
 -- the lowest rule that an added message breaks
 abbrev pub added_rule : List Interface → (List ℕ → Option ℕ) → List Bool → ℕ → Interface
     → WrittenInterface → Side → ℕ → WrittenMessage → Option ℕ
 added_rule tables place ended here i more side opcode m =
-    let all = behind_names i more in
+    let all = behind_own_messages i more in
     lesser (message_rule place ended all side
     (first_place (map (λ n. n.name) (written_of side all))) opcode m)
     (clash_rule tables here i side m)

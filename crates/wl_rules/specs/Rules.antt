@@ -15,9 +15,9 @@ use Rattle.wl_rules.specs.Tables.{has_server_object}
 use Rattle.wl_rules.specs.Tables.{max_name_len, max_interfaces, max_messages, max_args}
 
 -- each element passes the test with its index; the first has index n
-abbrev pub all_from : {X : Type 0} → (ℕ → X → Bool) → ℕ → List X → Bool
-all_from test n [] = true
-all_from test n (x ∷ xs) = test n x && all_from test (n + 1) xs
+abbrev pub all_indexed_from : {X : Type 0} → (ℕ → X → Bool) → ℕ → List X → Bool
+all_indexed_from test n [] = true
+all_indexed_from test n (x ∷ xs) = test n x && all_indexed_from test (n + 1) xs
 
 abbrev pub is_empty : {X : Type 0} → List X → Bool
 is_empty [] = true
@@ -72,8 +72,8 @@ has_no_unnamed_new m = list_all (λ k. not (is_unnamed_new k)) m.kinds
 -- V5
 abbrev pub unnamed_new_in_bind_alone : List Interface → Bool
 unnamed_new_in_bind_alone tables =
-    all_from (λ place i.
-    all_from (λ opcode m. (nat_eq place 1 && nat_eq opcode 0) || has_no_unnamed_new m)
+    all_indexed_from (λ place i.
+    all_indexed_from (λ opcode m. (nat_eq place 1 && nat_eq opcode 0) || has_no_unnamed_new m)
     0 i.requests) 0 tables
     && each_message has_no_unnamed_new tables Event
 
@@ -114,15 +114,15 @@ sinces_are_in_range tables =
     && both_sides (λ side.
     list_all (λ i. list_all (λ m. nat_le m.since i.version) (messages_of side i)) tables)
 
-abbrev pub is_there : List Interface → Option Iface → Bool
-is_there tables None = true
-is_there tables (Some iface) = nat_lt iface.0 (length tables)
+abbrev pub is_in_tables : List Interface → Option Iface → Bool
+is_in_tables tables None = true
+is_in_tables tables (Some iface) = nat_lt iface.0 (length tables)
 
 -- V9
 abbrev pub named_interfaces_are_there : List Interface → Bool
 named_interfaces_are_there tables =
     both_sides (each_message (λ m.
-    list_all (λ k. is_there tables (named_interface k)) m.kinds) tables)
+    list_all (λ k. is_in_tables tables (named_interface k)) m.kinds) tables)
 
 abbrev pub ends_no_argument : MessageSignature → Bool
 ends_no_argument m = not (destroys_argument m.destroys)
@@ -130,7 +130,7 @@ ends_no_argument m = not (destroys_argument m.destroys)
 -- V10
 abbrev pub argument_ends_in_fixes_alone : List Interface → Bool
 argument_ends_in_fixes_alone tables =
-    all_from (λ place i.
+    all_indexed_from (λ place i.
     nat_eq place 18 || both_sides (λ side. list_all ends_no_argument (messages_of side i)))
     0 tables
 

@@ -84,14 +84,14 @@ made_objects (kinds.New iface ∷ more) = iface ∷ made_objects more
 made_objects (kinds.NewByServer iface ∷ more) = Some iface ∷ made_objects more
 made_objects (_ ∷ more) = made_objects more
 
-abbrev pub first : {X : Type 0} → List X → Option X
-first [] = None
-first (x ∷ xs) = Some x
+abbrev pub first_element : {X : Type 0} → List X → Option X
+first_element [] = None
+first_element (x ∷ xs) = Some x
 
 -- Whether a message makes an object, and of which interface: `Some None` if only the bytes give it.
 -- In valid tables no message makes more than one.
 abbrev pub makes : MessageSignature → Option (Option Iface)
-makes m = first (made_objects m.kinds)
+makes m = first_element (made_objects m.kinds)
 
 -- whether a message destroys its target
 abbrev pub destroys_target : Destroys → Bool

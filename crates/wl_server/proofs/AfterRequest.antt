@@ -23,7 +23,7 @@ use Rattle.wl_sigs.specs.Fixed.{registry}
 use Rattle.wl_message.specs.Arrived.{Arrived, in_front, without_first}
 use Rattle.wl_message.specs.Cut.{message_size}
 use Rattle.wl_connection.specs.Core.{Core, past, with_view}
-use Rattle.wl_connection.specs.Receiving.{Found, is_none, reader_in}
+use Rattle.wl_connection.specs.Receiving.{Found, is_empty_list, reader_in}
 use Rattle.wl_connection.specs.Outcomes.{answers_with}
 use Rattle.wl_connection.specs.Reads.{Answer}
 use Rattle.wl_connection.specs.Roles.{IsNext, front_answer, front_left}
@@ -145,7 +145,7 @@ not_none : (o : Option NewObject) → is_some o ≡ true → o ≢ None
 not_none None h e = cc h
 not_none (Some m) h e = cc e
 
-some-args : {X Y : Type 0} (f : X → Y) (xs : List X) → xs ≢ [] → not (is_none (map f xs)) ≡ true
+some-args : {X Y : Type 0} (f : X → Y) (xs : List X) → xs ≢ [] → not (is_empty_list (map f xs)) ≡ true
 some-args f [] h = absurd (h refl)
 some-args f (x ∷ xs) h = refl
 

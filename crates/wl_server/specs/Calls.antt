@@ -122,10 +122,11 @@ withdraw_refusal state name =
     else if is_present (global_of state.globals name) then None else Some global_errors.NoSuchGlobal
 
 -- a result, unless it is refused
-abbrev pub ok_unless : {X E : Type 0} → Option E → X → Result X E
-ok_unless None x = Ok x
-ok_unless (Some why) x = Err why
+abbrev pub ok_unless_refused : {X E : Type 0} → Option E → X → Result X E
+ok_unless_refused None x = Ok x
+ok_unless_refused (Some why) x = Err why
 
 -- What `add_global` returns, if no memory is needed: the name, or why it is refused.
 abbrev pub add_answer : State → Iface → ℕ → Result ℕ GlobalError
-add_answer state iface version = ok_unless (add_refusal state iface version) (next_name state)
+add_answer state iface version =
+    ok_unless_refused (add_refusal state iface version) (next_name state)

@@ -19,7 +19,7 @@ use Rattle.wl_objects.specs.declared.argument.Named.TheVariants as named_as
 use Rattle.wl_objects.specs.Reading.{Reported}
 use Rattle.wl_objects.specs.Messages.{Received, NewObject, made, is_bind, after}
 use Rattle.wl_connection.specs.Core.{Core, with_view}
-use Rattle.wl_connection.specs.Receiving.{Found, found, reported, past_found, is_none}
+use Rattle.wl_connection.specs.Receiving.{Found, found, reported, past_found, is_empty_list}
 use Rattle.wl_connection.specs.Roles.{Role, role_answer, role_after, IsReportNext}
 use Rattle.wl_connection.specs.Sending.{with_following, with_error_event, delete_id_len}
 use Rattle.wl_server.specs.State.{State, Global, Registry, global_of, untold, with_core}
@@ -153,7 +153,7 @@ state_past state f = record state {
 
 -- whether a report needs memory, for its arguments
 abbrev pub needs_memory : Report → Bool
-needs_memory report = not (is_none report.args)
+needs_memory report = not (is_empty_list report.args)
 
 -- whether the outbox lacks room for the delete_id that must follow the request
 abbrev pub is_out_full : Core → Found → Bool

@@ -22,7 +22,7 @@ use Rattle.wl_server.specs.State as server
 use Rattle.wl_server.specs.Requests as requests
 use Rattle.wl_server.specs.declared.globals.GlobalError.{GlobalError}
 use Rattle.wl_server.specs.declared.globals.GlobalError.TheVariants as global_errors
-use Rattle.wl_server.specs.Calls.{ok_unless, error_refusal, after_error}
+use Rattle.wl_server.specs.Calls.{ok_unless_refused, error_refusal, after_error}
 use Rattle.wl_server.specs.Announcing.{Fitting, after_announce}
 use Rattle.wl_connection.proofs.ReceivedMessage.{some_report}
 use Rattle.theory_connection.specs.Pair.{PairState, with_server, ended_mark, after_post, Writes, Calls}
@@ -85,23 +85,23 @@ calls {S = S} {E = E} f refusal before after now (Err why) a ok err =
 
 -- ---- a global
 
-why_refused : (refusal : Option GlobalError) (name : ℕ) (why : GlobalError) → ok_unless refusal name ≡ Err why
+why_refused : (refusal : Option GlobalError) (name : ℕ) (why : GlobalError) → ok_unless_refused refusal name ≡ Err why
     → refusal ≡ Some why
 why_refused None name why h = absurd (cc h)
 why_refused (Some other) name why h = let e : other ≡ why = cc h in cc e
 
-not_refused : (refusal : Option GlobalError) (name : ℕ) → IsOk (ok_unless refusal name) → refusal ≡ None
+not_refused : (refusal : Option GlobalError) (name : ℕ) → IsOk (ok_unless_refused refusal name) → refusal ≡ None
 not_refused None name h = refl
 not_refused (Some why) name h = absurd (cc h)
 
-name_given : (refusal : Option GlobalError) (name given : ℕ) → ok_unless refusal name ≡ Ok given
+name_given : (refusal : Option GlobalError) (name given : ℕ) → ok_unless_refused refusal name ≡ Ok given
     → (refusal ≡ None) × (name ≡ given)
 name_given None name given h = (refl, cc h)
 name_given (Some why) name given h = absurd (cc h)
 
 pub adds : {S : Type 0} (f : S → PairState) (refusal : Option GlobalError) (name : ℕ) (before after now : S)
     (result : Result ℕ GlobalError)
-    → AnswersOrMemory global_errors.Memory true (ok_unless refusal name) result → OnOk result (now ≡ after)
+    → AnswersOrMemory global_errors.Memory true (ok_unless_refused refusal name) result → OnOk result (now ≡ after)
     → OnErr result (now ≡ before) → Adds refusal name (f before) (f after) result (f now)
 adds {S = S} f refusal name before after now (Ok given) (inl e) ok err =
     let k = name_given refusal name given (sym e) in

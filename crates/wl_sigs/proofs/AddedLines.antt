@@ -10,7 +10,7 @@ use Rattle.wl_sigs.specs.Joined.{all_names, first_place, destroys_of}
 use Rattle.wl_sigs.specs.Broken.{message_rule, ended_of}
 use Rattle.wl_sigs.specs.FirstBroken.{written_of}
 use Rattle.wl_sigs.specs.Extended.{Gathered, grown}
-use Rattle.wl_sigs.specs.Extending.{clash_rule, by_name, behind_names, added_rule}
+use Rattle.wl_sigs.specs.Extending.{clash_rule, named_message, behind_own_messages, added_rule}
 use Rattle.wl_sigs.specs.Extending.{added_side_broken, added_broken}
 use Rattle.wl_sigs.specs.FirstLineBroken.{Clashes}
 use Rattle.wl_sigs.proofs.JoinedLookup.{placing_message}
@@ -27,7 +27,7 @@ use Rattle.wl_sigs.proofs.Clashes.{clash_least}
 abbrev pub AddedBreaks : List Interface → Gathered → ℕ → Interface → WrittenInterface → Side → ℕ → WrittenMessage → ℕ
     → Type 0
 AddedBreaks tables g here old more side o m rule =
-    MessageBroken (grown tables g) g.declared (behind_names old more) side o m rule
+    MessageBroken (grown tables g) g.declared (behind_own_messages old more) side o m rule
     ⊎ Clashes tables here old side (placing_message (grown tables g) g.declared m) rule
 
 target_of : (b : Bool) → destroys_target (destroys_of b) ≡ b
@@ -36,10 +36,10 @@ target_of false = refl
 
 behind_at : (old : Interface) (more : WrittenInterface) (side : Side) (k : ℕ) (m : WrittenMessage)
     → slice_get (written_of side more) k ≡ Some m
-    → slice_get (written_of side (behind_names old more)) (length (messages_of side old) + k) ≡ Some m
+    → slice_get (written_of side (behind_own_messages old more)) (length (messages_of side old) + k) ≡ Some m
 behind_at old more side k m at =
-    rw (written_behind old more side) (behind (map by_name (messages_of side old)) (written_of side more) k _ m
-    (let len = length-map (messages_of side old) by_name in omega (arith, len)) at)
+    rw (written_behind old more side) (behind (map named_message (messages_of side old)) (written_of side more) k _ m
+    (let len = length-map (messages_of side old) named_message in omega (arith, len)) at)
 
 added_message : (tables : List Interface) (g : Gathered) (here : ℕ) (old : Interface) (more : WrittenInterface)
     (side : Side) (k : ℕ) (m : WrittenMessage) → slice_get (written_of side more) k ≡ Some m
@@ -48,7 +48,7 @@ added_message : (tables : List Interface) (g : Gathered) (here : ℕ) (old : Int
     here old more side (length (messages_of side old) + k) m)
 added_message tables g here old more side k m at =
     let o = length (messages_of side old) + k in
-    let all = behind_names old more in
+    let all = behind_own_messages old more in
     let place = first_place (all_names (grown tables g) g.declared) in
     let ended = ended_of (grown tables g) g.declared in
     let first = first_place (map (λ n. n.name) (written_of side all)) in

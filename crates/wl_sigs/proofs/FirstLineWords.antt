@@ -11,7 +11,7 @@ use Rattle.wl_sigs.specs.Broken.{Broken}
 use Rattle.wl_sigs.specs.FirstBroken.{written_of, MessageBreaks, BreaksRule}
 use Rattle.wl_sigs.specs.Extended.{Gathered, gathered_from, gathered, interface_grown, grown}
 use Rattle.wl_sigs.specs.Extended.{whole_of, extended}
-use Rattle.wl_sigs.specs.Extending.{behind_names, first_line_broken}
+use Rattle.wl_sigs.specs.Extending.{behind_own_messages, first_line_broken}
 use Rattle.wl_sigs.specs.FirstLineBroken.{ExtensionBreaks, AddsMessage, Clashes, LineBreaks}
 use Rattle.wl_sigs.specs.FirstLineBroken.{by_declared, by_added, by_clash, by_extension}
 use Rattle.wl_sigs.specs.FirstLineBroken.{IsFirstBrokenLine}
@@ -59,12 +59,13 @@ added_words : (tables : List Interface) (written : List WrittenInterface) (line 
 added_words tables written line rule witness = elim witness.breaks.breaks [
   | inl message ↦ by_added witness.index witness.old (grown_of tables g witness.old witness.more) witness.side opcode
       (placed_of tables g witness.breaks.message) declares
-      (like_interface (extended tables written) (placing (grown tables g) g.declared (behind_names witness.old witness.more))
+      (like_interface (extended tables written)
+      (placing (grown tables g) g.declared (behind_own_messages witness.old witness.more))
       (grown_of tables g witness.old witness.more) witness.side opcode (placed_of tables g witness.breaks.message) rule
       (same_names (first_place names) (length names) (grown tables g) g.declared witness.old witness.more witness.side)
       (same_many (first_place names) (length names) (grown tables g) g.declared witness.old witness.more) refl
       (subst (λ (m : MessageSignature). MessageBreaks (extended tables written)
-      (placing (grown tables g) g.declared (behind_names witness.old witness.more)) witness.side opcode m rule)
+      (placing (grown tables g) g.declared (behind_own_messages witness.old witness.more)) witness.side opcode m rule)
       (same_message tables g witness.breaks.message) message))
   | inr clash ↦ by_clash witness.index witness.old (grown_of tables g witness.old witness.more) witness.side opcode
       (placed_of tables g witness.breaks.message) declares
@@ -157,7 +158,7 @@ message_back tables written line rule place old i side opcode m d breaks =
     let g = gathered tables written in
     let names = all_names tables g.declared in
     let same = is_added tables written line place old i side opcode m d in
-    let all = placing (grown tables g) g.declared (behind_names old d.more) in
+    let all = placing (grown tables g) g.declared (behind_own_messages old d.more) in
     let o = length (messages_of side old) + d.index in
     let at_opcode = subst (λ (n : ℕ). MessageBreaks (extended tables written) i side n m rule) d.opcode_is breaks in
     let of_grown = subst (λ (x : Interface). MessageBreaks (extended tables written) x side o m rule) same.interface

@@ -11,7 +11,7 @@ use Rattle.wl_text.specs.Text.{WrittenMessage, WrittenInterface}
 use Rattle.wl_sigs.specs.Joined.{all_names, first_place, message_placed}
 use Rattle.wl_sigs.specs.FirstBroken.{written_of}
 use Rattle.wl_sigs.specs.Extended.{Gathered, interface_grown, all_grown, grown}
-use Rattle.wl_sigs.specs.Extending.{by_name, behind_names}
+use Rattle.wl_sigs.specs.Extending.{named_message, behind_own_messages}
 use Rattle.wl_sigs.proofs.JoinedLookup.{placing, placing_message, placed_messages}
 
 -- an interface to which something is added
@@ -81,22 +81,22 @@ grown_messages place past i more Request = refl
 grown_messages place past i more Event = refl
 
 pub empty_behind : (i : Interface) (more : WrittenInterface)
-    → is_empty (behind_names i more).requests ≡ is_empty i.requests && is_empty more.requests
+    → is_empty (behind_own_messages i more).requests ≡ is_empty i.requests && is_empty more.requests
 empty_behind i more = by_cases i.requests more.requests
   where
     by_cases : (old : List MessageSignature) (new : List WrittenMessage)
-        → is_empty (map by_name old ++ new) ≡ is_empty old && is_empty new
+        → is_empty (map named_message old ++ new) ≡ is_empty old && is_empty new
     by_cases [] new = refl
     by_cases (m ∷ old) new = refl
 
 pub written_behind : (i : Interface) (more : WrittenInterface) (side : Side)
-    → written_of side (behind_names i more) ≡ map by_name (messages_of side i) ++ written_of side more
+    → written_of side (behind_own_messages i more) ≡ map named_message (messages_of side i) ++ written_of side more
 written_behind i more Request = refl
 written_behind i more Event = refl
 
 -- the names of an interface's messages, followed by the names of those that a text adds
 names_by_name : (ms : List MessageSignature)
-    → map (λ n. n.name) (map by_name ms) ≡ map (λ n. n.name) ms
+    → map (λ n. n.name) (map named_message ms) ≡ map (λ n. n.name) ms
 names_by_name [] = refl
 names_by_name (m ∷ ms) = ap (λ (names : List (List ℕ)). m.name ∷ names) (names_by_name ms)
 
@@ -107,11 +107,11 @@ placed_message_names place past (m ∷ ms) =
     ap (λ (names : List (List ℕ)). m.name ∷ names) (placed_message_names place past ms)
 
 pub names_behind : (i : Interface) (more : WrittenInterface) (side : Side)
-    → map (λ n. n.name) (written_of side (behind_names i more))
+    → map (λ n. n.name) (written_of side (behind_own_messages i more))
     ≡ map (λ n. n.name) (messages_of side i) ++ map (λ n. n.name) (written_of side more)
 names_behind i more side =
     ap (λ (ms : List WrittenMessage). map (λ n. n.name) ms) (written_behind i more side)
-    ∙ map-append (λ (n : WrittenMessage). n.name) (map by_name (messages_of side i)) (written_of side more)
+    ∙ map-append (λ (n : WrittenMessage). n.name) (map named_message (messages_of side i)) (written_of side more)
     ∙ ap (λ (names : List (List ℕ)). names ++ map (λ n. n.name) (written_of side more))
     (names_by_name (messages_of side i))
 
@@ -129,24 +129,25 @@ names_of_messages place past i more side =
 -- that of the tables
 pub same_names : (place : List ℕ → Option ℕ) (past : ℕ) (tables : List Interface) (written : List WrittenInterface)
     (i : Interface) (more : WrittenInterface) (side : Side)
-    → map (λ n. n.name) (messages_of side (placing tables written (behind_names i more)))
+    → map (λ n. n.name) (messages_of side (placing tables written (behind_own_messages i more)))
     ≡ map (λ n. n.name) (messages_of side (interface_grown place past i more))
 same_names place past tables written i more side =
-    ap (λ (ms : List MessageSignature). map (λ n. n.name) ms) (placed_messages tables written side (behind_names i more))
+    ap (λ (ms : List MessageSignature). map (λ n. n.name) ms)
+    (placed_messages tables written side (behind_own_messages i more))
     ∙ placed_message_names (first_place (all_names tables written)) (length (all_names tables written))
-    (written_of side (behind_names i more))
+    (written_of side (behind_own_messages i more))
     ∙ names_behind i more side ∙ sym (names_of_messages place past i more side)
 
 pub same_many : (place : List ℕ → Option ℕ) (past : ℕ) (tables : List Interface) (written : List WrittenInterface)
     (i : Interface) (more : WrittenInterface)
-    → length (placing tables written (behind_names i more)).requests
+    → length (placing tables written (behind_own_messages i more)).requests
     ≡ length (interface_grown place past i more).requests
 same_many place past tables written i more =
     omega (
       arith,
-      length-map (behind_names i more).requests (placing_message tables written),
-      length-append (map by_name i.requests) more.requests,
-      length-map i.requests by_name,
+      length-map (behind_own_messages i more).requests (placing_message tables written),
+      length-append (map named_message i.requests) more.requests,
+      length-map i.requests named_message,
       length-append i.requests (map (message_placed place past) more.requests),
       length-map more.requests (message_placed place past),
     )

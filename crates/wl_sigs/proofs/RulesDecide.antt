@@ -191,9 +191,9 @@ unnamed_from tables requests events place Event opcode m h = inr (events place o
 pub decides_bind : (tables : List Interface) → Decides (test.unnamed_new_in_bind_alone tables)
     (UnnamedNewInBindAlone tables)
 decides_bind tables =
-    let by_opcode : ℕ → Interface → Bool = λ place i. test.all_from
+    let by_opcode : ℕ → Interface → Bool = λ place i. test.all_indexed_from
     (λ opcode m. (nat_eq place 1 && nat_eq opcode 0) || test.has_no_unnamed_new m) 0 i.requests in
-    let requests = test.all_from by_opcode 0 tables in
+    let requests = test.all_indexed_from by_opcode 0 tables in
     let events = test.each_message test.has_no_unnamed_new tables Event in
     Decides-like (test.unnamed_new_in_bind_alone tables) (λ h. unnamed_from tables h.0 h.1)
     (λ all. (
@@ -331,21 +331,21 @@ abbrev IsThere : List Interface → Option Iface → Type 0
 IsThere tables named = (iface : Iface) → named ≡ Some iface → iface.0 < length tables
 
 decides_there : (tables : List Interface) (named : Option Iface)
-    → Decides (test.is_there tables named) (IsThere tables named)
+    → Decides (test.is_in_tables tables named) (IsThere tables named)
 decides_there tables None = (λ _ iface e. cc, λ _. refl)
 decides_there tables (Some iface) =
-    Decides-like (test.is_there tables (Some iface))
+    Decides-like (test.is_in_tables tables (Some iface))
     (λ h other e. let same : iface ≡ other = cc in subst (λ x. x.0 < length tables) same h) (λ all. all iface refl)
     (Decides-ltb iface.0 (length tables))
 
 pub decides_interfaces : (tables : List Interface)
     → Decides (test.named_interfaces_are_there tables) (NamedInterfacesAreThere tables)
 decides_interfaces tables =
-    Decides-both (test.each_message (λ m. list_all (λ k. test.is_there tables (named_interface k)) m.kinds) tables)
+    Decides-both (test.each_message (λ m. list_all (λ k. test.is_in_tables tables (named_interface k)) m.kinds) tables)
     (λ side. EachMessage tables side (λ m. All (λ k. IsThere tables (named_interface k)) m.kinds))
-    (Decides-message (λ m. list_all (λ k. test.is_there tables (named_interface k)) m.kinds)
+    (Decides-message (λ m. list_all (λ k. test.is_in_tables tables (named_interface k)) m.kinds)
     (λ m. All (λ k. IsThere tables (named_interface k)) m.kinds)
-    (λ m. Decides-list_all (λ k. test.is_there tables (named_interface k)) (λ k. IsThere tables (named_interface k))
+    (λ m. Decides-list_all (λ k. test.is_in_tables tables (named_interface k)) (λ k. IsThere tables (named_interface k))
     (λ k. decides_there tables (named_interface k)) m.kinds) tables)
 
 -- all rules

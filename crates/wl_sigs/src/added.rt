@@ -3,7 +3,8 @@ ghost use Rattle.std.specs.Prelude.{◌≡◌, ℕ, ◌≤◌, ◌++◌, length,
 ghost use Rattle.std.specs.Prelude.{option_copied};
 ghost use Rattle.wl_sigs.specs.BrokenLines.{IsOwner, broken, added_here};
 ghost use Rattle.wl_sigs.specs.FirstBroken.{written_of};
-ghost use Rattle.wl_sigs.specs.Extending.{behind_names, clash_rule, lesser, added_side_broken};
+ghost use Rattle.wl_sigs.specs.Extending.{behind_own_messages, clash_rule, lesser};
+ghost use Rattle.wl_sigs.specs.Extending.{added_side_broken};
 ghost use Rattle.wl_sigs.specs.Extending.{added_broken, has_argument, is_object_of};
 ghost use Rattle.wl_sigs.specs.Extending.{is_server_object_of};
 ghost use Rattle.wl_sigs.specs.Places.{place_in};
@@ -113,7 +114,7 @@ fn owner_with<'n, A: Allocator>(
     more: &WrittenInterface<'n, A>,
     side: Side,
 ) -> Owner
-    ensures { (result.side ≡ side) × IsOwner result (behind_names entry.now more.now) }
+    ensures { (result.side ≡ side) × IsOwner result (behind_own_messages entry.now more.now) }
 {
     let has_none = entry.messages(Side::Request).is_empty() && more.requests.is_empty();
     Owner {

@@ -22,7 +22,7 @@ use Rattle.wl_wire.specs.Spelling.{is_null, is_text, is_object, is_new, is_named
 use Rattle.wl_wire.specs.Spelling.{is_descriptor, is_new_by_server}
 use Rattle.wl_wire.specs.Faults.{BeginsWithWord, HoldsCounted, LacksCounted, LacksEndingNul, HasInnerNul, IsFirstFault}
 use Rattle.wl_wire.specs.Faults.{IsShort}
-use Rattle.wl_wire.specs.Reading.{number_at, asked, counted_bytes, text_of, on_found, argument_of, reading}
+use Rattle.wl_wire.specs.Reading.{number_at, asked, counted_bytes, text_of, map_found, argument_of, reading}
 use Rattle.wl_wire.proofs.Numbers.{Bytewise, number_at_fits, word-number_at, number-from_word}
 use Rattle.wl_wire.proofs.Numbers.{signed_fits, int_word-signed}
 
@@ -116,7 +116,7 @@ text_answered more bytes w h =
 
 string_case : (null : Bool) (bytes : List ℕ) → (number_at bytes ≡ 0 → null ≡ false) → (r : Result (List ℕ) ArgFault)
     → MatchResult r (λ text. SpellsText text (take (4 + padded (number_at bytes)) bytes)) (IsTextFault 0 bytes)
-    → IsAnswerThere (kinds.Str null) bytes (on_found (λ text. Str (Some text)) r)
+    → IsAnswerThere (kinds.Str null) bytes (map_found (λ text. Str (Some text)) r)
 string_case null bytes f (Ok text) s = is_text s
 string_case null bytes f (Err Short) s = absurd s
 string_case null bytes f (Err NullNotAllowed) s = (f (number-from_word 0 bytes s.0.0 s.0.1), s.0)
@@ -127,7 +127,7 @@ string_case null bytes f (Err InnerNul) s = s
 named_case : (bytes : List ℕ) → Bytewise bytes → 12 + padded (number_at bytes) ≤ length bytes
     → (r : Result (List ℕ) ArgFault) → MatchResult r
     (λ text. SpellsText text (take (4 + padded (number_at bytes)) bytes)) (IsTextFault 8 bytes)
-    → IsAnswerThere (kinds.New None) bytes (on_found
+    → IsAnswerThere (kinds.New None) bytes (map_found
     (λ name. NewNamed name (number_at (drop (4 + padded (number_at bytes)) bytes))
     (number_at (drop 4 (drop (4 + padded (number_at bytes)) bytes)))) r)
 named_case bytes w h (Ok name) s =
@@ -164,7 +164,7 @@ there_answered kinds.Fixed bytes w h = is_fixed (signed_fits (number_at bytes) (
     (int_word-signed bytes h w)
 there_answered (kinds.Str null) bytes w h =
     let n : ℕ = number_at bytes in
-    cond_both ((n == 0) && null) (Ok (Str None)) (on_found (λ text. Str (Some text)) (text_of n bytes))
+    cond_both ((n == 0) && null) (Ok (Str None)) (map_found (λ text. Str (Some text)) (text_of n bytes))
     (IsAnswerThere (kinds.Str null) bytes)
     (λ e.
     let p = and_parts (n == 0) null e in
@@ -213,7 +213,7 @@ short_answered kinds.Array bytes w h = lacks_counted 0 bytes w (omega arith)
 short_answered kinds.Fd bytes w h = absurd (omega arith)
 
 with_length : (kind : Kind) (bytes : List ℕ) → asked kind bytes ≤ length bytes → (r : Result Argument ArgFault)
-    → IsAnswerThere kind bytes r → IsAnswer kind bytes (on_found (λ value. (value, asked kind bytes)) r)
+    → IsAnswerThere kind bytes r → IsAnswer kind bytes (map_found (λ value. (value, asked kind bytes)) r)
 with_length kind bytes h (Ok value) s = (h, s)
 with_length kind bytes h (Err fault) s = s
 
@@ -222,7 +222,7 @@ with_length kind bytes h (Err fault) s = s
 pub reading-answers : (kind : Kind) (bytes : List ℕ) → Bytewise bytes → IsAnswer kind bytes (reading kind bytes)
 reading-answers kind bytes w =
     cond_both (nat_lt (length bytes) (asked kind bytes)) (Err Short)
-    (on_found (λ value. (value, asked kind bytes)) (argument_of kind bytes)) (IsAnswer kind bytes)
+    (map_found (λ value. (value, asked kind bytes)) (argument_of kind bytes)) (IsAnswer kind bytes)
     (λ e. short_answered kind bytes w (ltb-true (length bytes) (asked kind bytes) e))
     (λ e. let h = ltb-false (length bytes) (asked kind bytes) e
     in with_length kind bytes h (argument_of kind bytes) (there_answered kind bytes w h))

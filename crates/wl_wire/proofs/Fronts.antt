@@ -15,18 +15,18 @@ use Rattle.wl_wire.specs.Argument.{Argument, Int, Uint, Fixed, Str, Obj, New, Ne
 use Rattle.wl_wire.specs.Spelling.{Spells, SpellsText, padded, is_int, is_uint, is_fixed, is_null}
 use Rattle.wl_wire.specs.Spelling.{is_text, is_object, is_new, is_named, is_array, is_descriptor}
 use Rattle.wl_wire.specs.Spelling.{is_new_by_server}
-use Rattle.wl_wire.specs.Reading.{number_at, signed, asked, counted_bytes, text_of, on_found, argument_of, reading}
+use Rattle.wl_wire.specs.Reading.{number_at, signed, asked, counted_bytes, text_of, map_found, argument_of, reading}
 use Rattle.wl_wire.proofs.Numbers.{number_at-word, complement_fits, signed-complement}
 
 -- if all bytes are there, a reader finds the argument that they spell
 pub reading-there : (kind : Kind) (bytes : List ℕ) → asked kind bytes ≤ length bytes
-    → reading kind bytes ≡ on_found (λ value. (value, asked kind bytes)) (argument_of kind bytes)
+    → reading kind bytes ≡ map_found (λ value. (value, asked kind bytes)) (argument_of kind bytes)
 reading-there kind bytes h = rw (le-ltb (length bytes) (asked kind bytes) h) refl
 
 pub reading-is : (kind : Kind) (value : Argument) (len : ℕ) (bytes : List ℕ) → len ≤ length bytes
     → asked kind bytes ≡ len → argument_of kind bytes ≡ Ok value → reading kind bytes ≡ Ok (value, len)
 reading-is kind value len bytes h a e = reading-there kind bytes (omega (arith, a))
-    ∙ ap (on_found (λ v. (v, asked kind bytes))) e ∙ ap (λ (n : ℕ). Ok (value, n)) a
+    ∙ ap (map_found (λ v. (v, asked kind bytes))) e ∙ ap (λ (n : ℕ). Ok (value, n)) a
 
 text_of-is : (n : ℕ) (bytes text : List ℕ) → (n == 0) ≡ false → (slice_index bytes (n + 3) == 0) ≡ true
     → counted_bytes (n - 1) bytes ≡ text → list_any (λ b. b == 0) text ≡ false → text_of n bytes ≡ Ok text
@@ -88,12 +88,12 @@ string_found : (null : Bool) (text bytes : List ℕ) → number_at bytes ≡ len
     → text_of (length text + 1) bytes ≡ Ok text → argument_of (kinds.Str null) bytes ≡ Ok (Str (Some text))
 string_found null text bytes e t =
     let step : argument_of (kinds.Str null) bytes
-    ≡ on_found (λ text. Str (Some text)) (text_of (number_at bytes) bytes) =
+    ≡ map_found (λ text. Str (Some text)) (text_of (number_at bytes) bytes) =
     ap (λ (b : Bool). if b && null then Ok (Str None)
-    else on_found (λ text. Str (Some text)) (text_of (number_at bytes) bytes))
+    else map_found (λ text. Str (Some text)) (text_of (number_at bytes) bytes))
     (ne_eqb (number_at bytes) 0 (λ h. omega arith)) in
-    step ∙ ap (λ (n : ℕ). on_found (λ text. Str (Some text)) (text_of n bytes)) e
-    ∙ ap (on_found (λ text. Str (Some text))) t
+    step ∙ ap (λ (n : ℕ). map_found (λ text. Str (Some text)) (text_of n bytes)) e
+    ∙ ap (map_found (λ text. Str (Some text))) t
 
 null_found : (null : Bool) (bytes : List ℕ) → null ≡ true → number_at bytes ≡ 0
     → argument_of (kinds.Str null) bytes ≡ Ok (Str None)

@@ -15,7 +15,7 @@ use Rattle.wl_wire.specs.Word.{number_at}
 use Rattle.wl_wire.specs.Argument.{Str, NewNamed}
 use Rattle.wl_wire.specs.Spelling.{padded}
 use Rattle.wl_wire.specs.Faults.{BeginsWithWord, HoldsCounted, LacksCounted, LacksEndingNul, HasInnerNul, IsFirstFault}
-use Rattle.wl_wire.specs.Reading.{asked, counted_bytes, text_of, on_found, argument_of, reading}
+use Rattle.wl_wire.specs.Reading.{asked, counted_bytes, text_of, map_found, argument_of, reading}
 use Rattle.wl_wire.proofs.Numbers.{Bytewise, number-from_word}
 use Rattle.wl_wire.proofs.Fronts.{reading-there}
 use Rattle.wl_wire.proofs.Answered.{IsAnswer, reading-answers}
@@ -25,7 +25,7 @@ short_read kind bytes h = rw (lt-ltb (length bytes) (asked kind bytes) h) refl
 
 fault_read : (kind : Kind) (bytes : List ℕ) (fault : ArgFault) → asked kind bytes ≤ length bytes
     → argument_of kind bytes ≡ Err fault → reading kind bytes ≡ Err fault
-fault_read kind bytes fault h e = reading-there kind bytes h ∙ ap (on_found (λ value. (value, asked kind bytes))) e
+fault_read kind bytes fault h e = reading-there kind bytes h ∙ ap (map_found (λ value. (value, asked kind bytes))) e
 
 begins_number : (n : ℕ) (bytes : List ℕ) → BeginsWithWord n bytes → number_at bytes ≡ n
 begins_number n bytes b = number-from_word n bytes b.0 b.1
@@ -68,8 +68,8 @@ inner_text more bytes h = ap (λ (n : ℕ). text_of n bytes) (begins_number h.0 
 string_read : (null : Bool) (bytes : List ℕ) (fault : ArgFault) → ((number_at bytes == 0) && null) ≡ false
     → text_of (number_at bytes) bytes ≡ Err fault → argument_of (kinds.Str null) bytes ≡ Err fault
 string_read null bytes fault n e = ap (λ (b : Bool). if b then Ok (Str None)
-    else on_found (λ text. Str (Some text)) (text_of (number_at bytes) bytes)) n
-    ∙ ap (on_found (λ text. Str (Some text))) e
+    else map_found (λ text. Str (Some text)) (text_of (number_at bytes) bytes)) n
+    ∙ ap (map_found (λ text. Str (Some text))) e
 
 not_null : (null : Bool) (more n : ℕ) (bytes : List ℕ) → 0 < n → HoldsCounted more n bytes
     → ((number_at bytes == 0) && null) ≡ false
@@ -78,7 +78,7 @@ not_null null more n bytes p h = let e = begins_number n bytes h.0
 
 name_read : (bytes : List ℕ) (fault : ArgFault) → text_of (number_at bytes) bytes ≡ Err fault
     → argument_of (kinds.New None) bytes ≡ Err fault
-name_read bytes fault e = ap (on_found (λ name. NewNamed name (number_at (drop (4 + padded (number_at bytes)) bytes))
+name_read bytes fault e = ap (map_found (λ name. NewNamed name (number_at (drop (4 + padded (number_at bytes)) bytes))
     (number_at (drop 4 (drop (4 + padded (number_at bytes)) bytes))))) e
 
 null_object : (null : Bool) (iface : Option Iface) (bytes : List ℕ) → null ≡ false → number_at bytes ≡ 0

@@ -43,9 +43,9 @@ text_of n bytes =
     else Err NoEndingNul
 
 -- the same fault, or f of what was found
-abbrev pub on_found : {X Y : Type 0} → (X → Y) → Result X ArgFault → Result Y ArgFault
-on_found f (Ok x) = Ok (f x)
-on_found f (Err fault) = Err fault
+abbrev pub map_found : {X Y : Type 0} → (X → Y) → Result X ArgFault → Result Y ArgFault
+map_found f (Ok x) = Ok (f x)
+map_found f (Err fault) = Err fault
 
 -- The argument at the front of the bytes, if they are long enough for it.
 abbrev pub argument_of : Kind → List ℕ → Result Argument ArgFault
@@ -54,14 +54,14 @@ argument_of kinds.Uint bytes = Ok (Uint (number_at bytes))
 argument_of kinds.Fixed bytes = Ok (Fixed (signed (number_at bytes)))
 argument_of (kinds.Str null) bytes =
     if (number_at bytes == 0) && null then Ok (Str None)
-    else on_found (λ text. Str (Some text)) (text_of (number_at bytes) bytes)
+    else map_found (λ text. Str (Some text)) (text_of (number_at bytes) bytes)
 argument_of (kinds.Obj null iface) bytes =
     if number_at bytes == 0 then (if null then Ok (Obj 0) else Err NullNotAllowed)
     else Ok (Obj (number_at bytes))
 argument_of (kinds.New (Some iface)) bytes = Ok (New (number_at bytes))
 argument_of (kinds.New None) bytes =
     let after = drop (4 + padded (number_at bytes)) bytes in
-    on_found (λ name. NewNamed name (number_at after) (number_at (drop 4 after)))
+    map_found (λ name. NewNamed name (number_at after) (number_at (drop 4 after)))
     (text_of (number_at bytes) bytes)
 argument_of (kinds.NewByServer iface) bytes = Ok (New (number_at bytes))
 argument_of kinds.Array bytes = Ok (Array (counted_bytes (number_at bytes) bytes))
@@ -72,7 +72,7 @@ argument_of kinds.Fd bytes = Ok (Fd tt)
 abbrev pub reading : Kind → List ℕ → Result (Argument × ℕ) ArgFault
 reading kind bytes =
     if nat_lt (length bytes) (asked kind bytes) then Err Short
-    else on_found (λ value. (value, asked kind bytes)) (argument_of kind bytes)
+    else map_found (λ value. (value, asked kind bytes)) (argument_of kind bytes)
 
 -- an owned value of this argument allocates bytes
 abbrev pub HoldsBytes : Argument → Type 0

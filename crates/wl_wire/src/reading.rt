@@ -6,7 +6,7 @@ ghost use Rattle.wl_wire.specs.declared.kind.Kind.TheVariants.{Array as array_ki
 ghost use Rattle.wl_wire.specs.Argument.{Argument, lent};
 ghost use Rattle.wl_wire.specs.Spelling.{Spells, padded};
 ghost use Rattle.wl_wire.specs.Faults.{IsFirstFault};
-ghost use Rattle.wl_wire.specs.Reading.{number_at, on_found, reading, seen};
+ghost use Rattle.wl_wire.specs.Reading.{number_at, map_found, reading, seen};
 ghost use Rattle.wl_wire.specs.Reading.{text_of};
 
 use crate::fixed::Fixed;
@@ -118,7 +118,7 @@ fn array_at<'a>(bytes: &'a [u8]) -> Result<(ValueRef<'a>, usize), ArgFault>
 /// The non-null string at the front, without its ending NUL.
 fn text_at<'a>(bytes: &'a [u8]) -> Result<&'a [u8], ArgFault>
     requires { 4 + padded (number_at bytes.now) ≤ length bytes.now }
-    ensures { on_found (λ text. text.now) result ≡ text_of (number_at bytes.now) bytes.now }
+    ensures { map_found (λ text. text.now) result ≡ text_of (number_at bytes.now) bytes.now }
 {
     let len = LittleEndian::read_u32(bytes) as usize;
     if len == 0 {

@@ -3,7 +3,7 @@ use Rattle.std.proofs.Common.{◌∙◌, subst, take, add-one, arith}
 use Rattle.wl_recording.specs.Piece.{Piece, recorded_piece}
 use Rattle.wl_check.specs.Printed.{piece_of}
 use Rattle.wl_check.specs.Session.{session_of, IsVerdictOf}
-use Rattle.wl_check.specs.SessionState.{IsAfter}
+use Rattle.wl_check.specs.SessionState.{AfterPieces}
 use Rattle.wl_check.proofs.MergedPiece.{read_mapped}
 use Rattle.wl_check.proofs.PrintedSoFar.{written_more, written_none}
 use Rattle.wl_check.proofs.SessionByPiece.{take_mapped, take_more}
@@ -38,7 +38,7 @@ pieces-preserved g c =
     let more : take k ps ++ lent ∷ [] ≡ take (k + 1) ps =
     ap (λ (x : Piece). take k ps ++ x ∷ []) same ∙ sym (take_more ps k p is) ∙ ap (λ n. take n ps) (sym (add-one k)) in
     record {
-      after = subst (λ (qs : List Piece). IsAfter c.args.limit.bytes c.args.tables.now qs c.judge.new.self) more
+      after = subst (λ (qs : List Piece). AfterPieces c.args.limit.bytes c.args.tables.now qs c.judge.new.self) more
           (c.in_ok-judge.ensures.after (take k ps) c.pieces.invariant.after);
       text = written_more c.args.limit.bytes c.args.tables.now c.args.output c.pieces.journal.sink.output (take k ps)
           (take (k + 1) ps) lent c.pieces.journal.sink.text.items c.judge.new.journal.sink.text.items

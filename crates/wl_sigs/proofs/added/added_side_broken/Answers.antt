@@ -6,7 +6,7 @@ use Rattle.wl_sigs.specs.Side.{Side}
 use Rattle.wl_sigs.specs.Joined.{first_place}
 use Rattle.wl_sigs.specs.Rules.{is_name}
 use Rattle.wl_sigs.specs.Broken.{Broken, earlier, broken_at, is_first, message_rule}
-use Rattle.wl_sigs.specs.Extending.{added_rule, behind_names, lesser}
+use Rattle.wl_sigs.specs.Extending.{added_rule, behind_own_messages, lesser}
 use Rattle.wl_sigs.specs.FirstBroken.{written_of}
 use Rattle.wl_sigs.specs.Places.{place_in}
 use Rattle.wl_sigs.specs.Tables.{messages_of}
@@ -23,7 +23,7 @@ loop-index-preserved g c =
     let side = c.args.side in
     let m = c.index-messages-index.result in
     let n = length (messages_of side i) in
-    let all = behind_names i more in
+    let all = behind_own_messages i more in
     let first = first_place (map (λ n. n.name) (written_of side all)) in
     let rule = added_rule c.args.known.now.interfaces.now place ended c.args.here i more side in
     let names : c.in_ok-names.names.items ≡ map (λ n. n.name) (written_of side all) =

@@ -7,23 +7,23 @@ use Rattle.wl_recording.specs.Piece.{Piece}
 use Rattle.wl_sigs.specs.Tables.{Interface}
 use Rattle.wl_check.specs.declared.inspector.Inspector.{Inspector}
 use Rattle.wl_check.specs.declared.scanning.Scanner.{Scanner}
-use Rattle.wl_check.specs.SessionState.{IsAfter}
+use Rattle.wl_check.specs.SessionState.{AfterPieces}
 use Rattle.wl_check.specs.Printed.{piece_of, AreOwnLines}
 use Rattle.wl_check.proofs.PrintedSoFar.{own_lines}
 use Rattle.wl_check.proofs.Undone.{none_overwritten}
 use Rattle.wl_check.proofs.inspector.Inspector.pass.Goals as goal
 
 abbrev with_scanner : {A : Type 0} (i : Inspector A) (s : Scanner A)
-    → ∥ ((ps : List Piece) × IsAfter i.limit.bytes i.tables.now ps s) ∥₁ → Inspector A
+    → ∥ ((ps : List Piece) × AfterPieces i.limit.bytes i.tables.now ps s) ∥₁ → Inspector A
 with_scanner i s begun =
     record { tables = i.tables; limit = i.limit; scanner = s; lines = i.lines; begun = begun }
 
 -- two proofs that the scanner is after some pieces are the same
 same_inspector : {A : Type 0} (i : Inspector A) (s : Scanner A)
-    (begun : ∥ ((ps : List Piece) × IsAfter i.limit.bytes i.tables.now ps s) ∥₁) → s ≡ i.scanner
+    (begun : ∥ ((ps : List Piece) × AfterPieces i.limit.bytes i.tables.now ps s) ∥₁) → s ≡ i.scanner
     → with_scanner i s begun ≡ i
 same_inspector {A = A} i s begun same =
-    subst (λ (t : Scanner A). (b : ∥ ((ps : List Piece) × IsAfter i.limit.bytes i.tables.now ps t) ∥₁)
+    subst (λ (t : Scanner A). (b : ∥ ((ps : List Piece) × AfterPieces i.limit.bytes i.tables.now ps t) ∥₁)
     → with_scanner i t b ≡ i) (sym same) (λ b. ap (with_scanner i i.scanner) (∥∥₁_prop b i.begun)) begun
 
 always : {X E P : Type 0} (r : Result X E) → P → OnErr r P
@@ -44,7 +44,7 @@ pub invariant_of-self : goal.invariant_of-self
 invariant_of-self g c = record {
   begun = ∥∥₁_map c.args.self.now.begun (λ x. (
     x.0,
-    subst (IsAfter c.args.self.now.limit.bytes c.args.self.now.tables.now x.0)
+    subst (AfterPieces c.args.self.now.limit.bytes c.args.self.now.tables.now x.0)
         (sym (c.in_err-judge.ensures.err (none_overwritten c.new-overwritten.result.items
         c.args.self.now.scanner.state.progress.known.held c.new-overwritten.ensures.items))) x.1,
   ));
@@ -63,9 +63,9 @@ returns-clause-ok g c limit tables ps h =
     let n = c.args.self.now.limit.bytes in
     let t = c.args.self.now.tables.now in
     let p = piece_of c.args.direction c.args.bytes.now c.args.tokens in
-    let own : IsAfter n t ps c.args.self.now.scanner =
-    subst (λ (m : ℕ). IsAfter m t ps c.args.self.now.scanner) (sym h.limit_is)
-    (subst (λ (u : List Interface). IsAfter limit u ps c.args.self.now.scanner) (sym h.tables_are) h.after)
+    let own : AfterPieces n t ps c.args.self.now.scanner =
+    subst (λ (m : ℕ). AfterPieces m t ps c.args.self.now.scanner) (sym h.limit_is)
+    (subst (λ (u : List Interface). AfterPieces limit u ps c.args.self.now.scanner) (sym h.tables_are) h.after)
     in
     let after = c.in_ok-judge.ensures.after ps own in
     let lines = own_lines n t ps p c.new-text.result.items c.judge.new.journal.sink.text.items
@@ -73,8 +73,8 @@ returns-clause-ok g c limit tables ps h =
       record {
         limit_is = h.limit_is;
         tables_are = h.tables_are;
-        after = subst (λ (m : ℕ). IsAfter m tables (ps ++ p ∷ []) c.judge.new.self) h.limit_is
-            (subst (λ (u : List Interface). IsAfter n u (ps ++ p ∷ []) c.judge.new.self) h.tables_are
+        after = subst (λ (m : ℕ). AfterPieces m tables (ps ++ p ∷ []) c.judge.new.self) h.limit_is
+            (subst (λ (u : List Interface). AfterPieces n u (ps ++ p ∷ []) c.judge.new.self) h.tables_are
             after);
       },
       subst (λ (m : ℕ). AreOwnLines m tables ps p c.judge.new.journal.sink.text.items) h.limit_is
