@@ -66,7 +66,13 @@ fill = sed 's|@UP@|$(call from,$(1),$(PREFIX))|; s|@LIBDIR@|$(call from,$(PREFIX
 run_with = sed 's|^libraries=.*|libraries=$(1)|; s|^inspector=.*|inspector=$(2)|; \
 	s|^version=.*|version=$(VERSION)|' c/libwayland/waywire-run > $(3) && chmod 755 $(3)
 
-all: $(archive) $(shared) $(inspect) $(wayland) $(run)
+# The typed calls for the core, which a tool makes from the core's XML. Those for Rust are part of its package.
+typed_c = include/waywire-core.h
+typed_rust = rust/waywire/src/wayland.rs
+typed_from = protocols/core/core.xml protocols/core/core.tables \
+	$(addprefix tools/,stubs-from-xml protocol.py rust_stubs.py table_text.py valid_tables.py)
+
+all: $(archive) $(shared) $(inspect) $(wayland) $(run) $(typed_rust)
 
 # What UNPROVED=1 allows: a library that is not proved, and packages with what was not proved from nothing.
 ifeq ($(UNPROVED),)
@@ -91,6 +97,13 @@ include/waywire-version.h: $(numbered) Makefile
 		'#define WAYWIRE_VERSION_MAJOR $(MAJOR)' \
 		'#define WAYWIRE_VERSION_MINOR $(word 2,$(numbers))' \
 		'#define WAYWIRE_VERSION_PATCH $(word 3,$(numbers))' > $@
+
+$(typed_c): $(typed_from)
+	tools/stubs-from-xml --prefix waywire_ $< > $@
+
+$(typed_rust): $(typed_from)
+	tools/stubs-from-xml --rust --comment 'Typed calls for the core protocol, wayland.xml without data transfer.' \
+		$< > $@
 
 # The calls on top of the exports.
 calls = $(patsubst c/lib/%.c,out/c/lib/%.o,$(wildcard c/lib/*.c))
@@ -252,7 +265,7 @@ check: all
 	tests/check-c --short
 
 clean:
-	rm -rf out/c out/dist out/deb out/*.tar.gz out/*.deb include/waywire-version.h
+	rm -rf out/c out/dist out/deb out/*.tar.gz out/*.deb include/waywire-version.h $(typed_c) $(typed_rust)
 
 .PHONY: all again install dist deb check clean
 .DELETE_ON_ERROR:

@@ -207,8 +207,8 @@ def copy_of_what_make_reads(room):
     """A copy of what the library for C is made of, and of what is installed with it, without what was built."""
     copy = f"{room}/copy"
     of_crates = [f"crates/{it}" for it in crates.lowest_first(crates.read(), proved_archive.LIBRARY)]
-    hide = shutil.ignore_patterns("out", "must-fail")
-    for it in ("c", "include", "tools", "docs", "examples", "rust/waywire", *of_crates):
+    hide = shutil.ignore_patterns("out", "must-fail", "waywire-core.h", "waywire-version.h", "wayland.rs")
+    for it in ("c", "include", "tools", "docs", "examples", "protocols", "rust/waywire", *of_crates):
         shutil.copytree(f"{TOP}/{it}", f"{copy}/{it}", ignore=hide)
     for it in ("Makefile", "LICENSE", "HANDLES", "crates.txt", "crates/program_arguments/src/job.rt"):
         os.makedirs(os.path.dirname(f"{copy}/{it}"), exist_ok=True)

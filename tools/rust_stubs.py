@@ -378,10 +378,18 @@ class Module:
                 self.handlers(interface, side, messages)
         self.say("}")
 
+    def opcodes_of_core(self):
+        """The opcodes of the core by side, for programs that send without typed calls."""
+        for side, writer in (("request", "a client"), ("event", "a server")):
+            names = [word(it.name) for it in self.interfaces if (it.requests if side == "request" else it.events)]
+            self.say("", f"/// The opcodes of the core interfaces' {side}s, which {writer} writes, by name.",
+                     f"pub mod {side} {{",
+                     *(f"    #[doc(inline)]\n    pub use super::{it}::{side} as {it};" for it in names), "}")
+
     def text(self, comments=()):
-        usual = ("// Made by stubs-from-xml --rust, which says what each item is.",
-                 f"//! Typed calls for the protocol {self.protocol.name}, over the package waywire.")
-        self.say(*([f"//! {it}".rstrip() for it in comments] or usual))
+        usual = [f"Typed calls for the protocol {self.protocol.name}, over the package waywire."]
+        self.say("// Made by stubs-from-xml --rust, which says what each item is.",
+                 *(f"//! {it}".rstrip() for it in comments or usual))
         if self.protocol.copyright:
             self.say("//!", "//! ```text", *(f"//! {it}".rstrip() for it in self.protocol.copyright), "//! ```")
         self.say("", "#![allow(dead_code)]",
@@ -393,4 +401,6 @@ class Module:
             self.lines[-1] = self.lines[-1].removesuffix("\\") + '";'
         for it in self.interfaces:
             self.interface(it)
+        if not self.tables:
+            self.opcodes_of_core()
         return "\n".join(self.lines) + "\n"

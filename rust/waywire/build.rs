@@ -6,15 +6,24 @@
 //! package can be checked and documented, and linking fails.
 //!
 //! It also makes the modules of the examples from the protocols' files, with the installed tool. Without the file
-//! of wlr-data-control, which is rarely installed, the compositor is built without data-control.
+//! of wlr-data-control, which is rarely installed, the compositor is built without data-control. The module of the
+//! core is part of an installed package; in the repository `make` makes it.
 
 use std::env;
 use std::fs;
 use std::iter;
 use std::path::{Path, PathBuf};
-use std::process::Command;
+use std::process::{self, Command};
 
 fn main() {
+    println!("cargo:rerun-if-changed=src/wayland.rs");
+    if !Path::new("src/wayland.rs").exists() {
+        eprintln!(
+            "src/wayland.rs is missing: `make` at the top of the repository makes it; to make it alone, \
+            `make rust/waywire/src/wayland.rs` needs only Python"
+        );
+        process::exit(1);
+    }
     for variable in
         ["WAYWIRE_DIR", "PKG_CONFIG_PATH", "DOCS_RS", "PROTOCOLS", "WAYLAND_XML", "DATA_CONTROL"]
     {

@@ -16,7 +16,7 @@ class Pages(unittest.TestCase):
 
     FOLDERS = ("", "crates", "docs", "tests/rattle", "tools")
     # Files that a command makes, and words in the place of a name.
-    MADE = re.compile(r"(^|/)out/|^include/waywire-version\.h$")
+    MADE = re.compile(r"(^|/)out/|^(include/)?waywire-(core|version)\.h$|(^|/)src/wayland\.rs$")
     STANDS_FOR = re.compile(r"[A-Z]{3,}")
     PATH = re.compile(r"(\./)?\.?[a-z][\w.*+-]*(/[\w.*+-]+)+/?", re.ASCII)
     FILE = re.compile(r"[\w-]+\.(antt|c|edit|h|md|py|rattle|rec|rt|run|scenes|svg|tables|txt)", re.ASCII)

@@ -1,6 +1,7 @@
 """The crates as crates.txt lists them, their contracts and their definitions."""
 
 import glob
+import modulefinder
 import os
 import re
 import shutil
@@ -10,7 +11,7 @@ import tempfile
 import textwrap
 import unittest
 
-from checks import TOOLS, TOP, module_of, need, read
+from checks import TOOLS, TOP, make, module_of, need, read
 import core_lists
 import crates
 import protocol
@@ -71,6 +72,8 @@ class Made(unittest.TestCase):
 
     CORE = module_of("tools/dev/core-files").FILES
     OTHERS = {"docs/crates.svg": "draw-crates", "docs/CONTRACTS.md": "dev/contracts", "tests/c/session.out": "session.c"}
+    # What `make` makes of the core, and git ignores.
+    TYPED = ("include/waywire-core.h", "rust/waywire/src/wayland.rs")
 
     def test_of_the_core(self):
         ran = subprocess.run([f"{TOOLS}/dev/core-files", "--check"], capture_output=True, text=True)
@@ -88,6 +91,20 @@ class Made(unittest.TestCase):
                 self.assertEqual(file.read(), read("protocols/core/core.tables"))
         self.assertEqual((ran.stdout, ran.returncode), ("", 1))
         self.assertRegex(ran.stderr, r"\Atables-from-xml: .*core\.xml.*\n\Z")
+
+    def test_typed_calls(self):
+        """`make` makes those of the core, and makes them anew if the core or a file of the tool changes."""
+        need("make")
+        self.assertTrue(make(*self.TYPED))
+        finder = modulefinder.ModuleFinder([TOOLS, *sys.path])
+        finder.run_script(f"{TOOLS}/stubs-from-xml")
+        files = [os.path.relpath(it.__file__, TOP) for it in finder.modules.values() if it.__file__]
+        changes = [it for it in files if it.startswith("tools/")]
+        self.assertIn("tools/rust_stubs.py", changes)
+        for target in self.TYPED:
+            for changed in ("README.md", "protocols/core/core.xml", "protocols/core/core.tables", *changes):
+                ran = subprocess.run(["make", "-q", "-W", changed, target], cwd=TOP, check=False)
+                self.assertEqual(ran.returncode, int(changed != "README.md"), f"{target}, {changed}")
 
     def test_first_lines(self):
         made = dict.fromkeys((*self.CORE, *core_lists.WHOLE), "core-files|stubs-from-xml")

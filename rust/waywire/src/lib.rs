@@ -182,11 +182,9 @@ mod client;
 mod connection;
 mod decoded;
 mod error;
-pub mod event;
 mod inspector;
 mod owned;
 mod report;
-pub mod request;
 mod server;
 pub mod socket;
 #[allow(unsafe_code)]
@@ -211,3 +209,5 @@ pub use report::{Event, Incoming, Message, Named, ProtocolError, Replaced, Reque
 pub use server::Server;
 pub use tables::{ArgKind, Destroys, Interface, Object, Signature, Tables};
 pub use typed::{EventHandler, Handle, Readable, RequestHandler};
+#[doc(inline)]
+pub use wayland::{event, request};
