@@ -11,7 +11,7 @@ import tempfile
 import textwrap
 import unittest
 
-from checks import TOOLS, TOP, make, module_of, need, read
+from checks import TOOLS, TOP, make, module_of, need, read, run
 import core_lists
 import crates
 import protocol
@@ -67,11 +67,10 @@ class Crates(unittest.TestCase):
 
 class Made(unittest.TestCase):
     """The files of the repository that a tool made say so in their first line. Other tests compare those of the
-    protocols (Texts), of the crates (Crates.test_picture) and of the contracts (Contracts), and tests/check-c
-    what the program session prints."""
+    protocols (Texts) and of the crates (Crates.test_picture), and tests/check-c what the program session prints."""
 
     CORE = module_of("tools/dev/core-files").FILES
-    OTHERS = {"docs/crates.svg": "draw-crates", "docs/CONTRACTS.md": "dev/contracts", "tests/c/session.out": "session.c"}
+    OTHERS = {"docs/crates.svg": "draw-crates", "tests/c/session.out": "session.c"}
     # What `make` makes of the core, and git ignores.
     TYPED = ("include/waywire-core.h", "rust/waywire/src/wayland.rs")
 
@@ -211,7 +210,7 @@ class CoreLists(unittest.TestCase):
 
 
 class Contracts(unittest.TestCase):
-    """docs/CONTRACTS.md, the list of clauses."""
+    """The list of clauses that tools/dev/contracts prints."""
 
     # Each sort of line, of a crate that has them all.
     SOURCE = """
@@ -264,8 +263,16 @@ class Contracts(unittest.TestCase):
     ]
 
     def test_page(self):
-        written = "\n".join(module_of("tools/dev/contracts").page()) + "\n"
-        self.assertEqual(read("docs/CONTRACTS.md"), written, "run tools/dev/contracts >docs/CONTRACTS.md")
+        """The list has each crate with public functions, each export for C, and a call with its clauses."""
+        page = run(["tools/dev/contracts"])
+        kinds = {it.name for it in crates.read().values() if it.kind != "example"}
+        self.assertEqual({*re.findall("(?m)^### `(.*)`$", page)}, kinds - {"wl", "waywire"})
+        sources = "".join(map(read, glob.glob("crates/waywire_c/src/*.rt", root_dir=TOP)))
+        exports = re.findall(r'pub extern "C" fn (\w+)', sources)
+        self.assertGreater(len(exports), 50)
+        self.assertLessEqual({*exports}, {*re.findall("(?m)^- `(.*?)`", page)})
+        clauses = r"Ensures `answer` \(AnswersOrMemory\), `ok` \(after_bind\), `err`"
+        self.assertRegex(page, rf"(?m)^- `Client::bind`: Binds .*\. {clauses}$")
 
     def test_functions(self):
         self.assertEqual(self.lines(self.SOURCE), self.LISTED)
