@@ -1,5 +1,5 @@
 //! Sends messages between a client and a server of wayland-rs in one process, so that the
-//! instructions of a message can be counted: the work of bench/messages/libwayland.c.
+//! instructions of a message can be counted: the work of bench/c/libwayland.c.
 //!
 //!     wayland_rs damage|motion|surface|title BATCH TIMES
 //!
