@@ -93,17 +93,17 @@ class Lint(unittest.TestCase):
 
 
 class FrontPage(unittest.TestCase):
-    """The worked example on the page of the crate `wl` is the program `hello`, and the README shows what the
-    program prints."""
+    """The page of the crate `wl` lists its calls and has the import of the program `hello`, and the README shows
+    what programs print."""
 
-    def test_page_is_the_program(self):
-        with open(f"{TOP}/crates/wl/src/lib.rt", encoding="utf-8") as file:
-            page = [it[len("//!") :].removeprefix(" ") for it in file if it.startswith("//!")]
-        with open(f"{TOP}/crates/hello/src/main.rt", encoding="utf-8") as file:
-            program = file.read()
-        fences = [place for place, line in enumerate(page) if line.startswith("```")]
-        example = "".join(page[fences[0] + 1 : fences[1]])
-        self.assertEqual(program[program.index("ghost use") :], example)
+    def test_import_is_that_of_the_program(self):
+        self.assertIn(self.page().split("```\n")[1], read("crates/hello/src/main.rt"))
+
+    @staticmethod
+    def page():
+        """Returns the comment at the top of the crate `wl`."""
+        lines = read("crates/wl/src/lib.rt").split("\n")
+        return "\n".join(it[len("//!") :].removeprefix(" ") for it in lines if it.startswith("//!"))
 
     # What the library's own crates call, which the page leaves out.
     INNER = {("Args", "new"), ("End", "core"), ("Header", "at_front_of"), ("Header", "from_bytes"),
@@ -111,30 +111,24 @@ class FrontPage(unittest.TestCase):
              ("Recording", "prepare")}
 
     def test_calls(self):
-        """The page lists each call of the types that `wl` exports, with its signature."""
-        page = re.sub("(?m)^//! ?", "", read("crates/wl/src/lib.rt"))
-        calls = page.split("# The calls")[1].split("```text")[1].split("```")[0]
-        listed, owner = {}, ""
-        for text in re.split(r"\n(?=\w| *fn )", calls):
-            name = re.match(r"( *)fn (\w+)", text)
-            if name:
-                owner = owner if name[1] else ""
-                listed[owner, name[2]] = self.plain(text)
-            else:
-                owner = re.match(r"(?:trait )?(\w*)", text)[1]
+        """The page lists each call of the types that `wl` exports, once: behind the name of its type, outside
+        parentheses."""
+        calls = self.page().split("# The calls")[1].split("\n- ", 1)[1].split("\n\n")[0]
+        listed, owner = [], ""
+        for kind, call in re.findall(r"\[`(\w+)`\]|Functions(?=:)|`(\w+)`", re.sub(r"\([^)]*\)", "", calls)):
+            owner = owner if call else kind
+            listed += [(owner, call)] * bool(call)
         exported = module_of("tools/dev/contracts").exports(f"{TOP}/crates/wl/src/lib.rt")[1]
-        wanted = {}
-        for path in glob.glob(f"{TOP}/crates/wl_*/src/*.rt"):
-            wanted.update(self.signatures(path, exported))
+        paths = glob.glob(f"{TOP}/crates/wl_*/src/*.rt")
         self.maxDiff = None
-        self.assertEqual(dict(sorted(listed.items())), dict(sorted(wanted.items())))
+        self.assertEqual(sorted(listed), sorted(it for path in paths for it in self.calls(path, exported)))
 
-    def signatures(self, path, exported):
-        """Returns the signatures of a file that are public and of these types, or of these names."""
-        contracts, found, owner = module_of("tools/dev/contracts"), {}, None
+    def calls(self, path, exported):
+        """Yields the calls of a file that are public and of these types, or of these names: type and name."""
+        contracts, owner = module_of("tools/dev/contracts"), None
         with open(path, encoding="utf-8") as file:
             lines = file.read().split("\n")
-        for at, line in enumerate(lines):
+        for line in lines:
             if contracts.OWNER.match(line):
                 owner = None if line.endswith("{}") else contracts.owner_of(line)
             elif line == "}":
@@ -143,15 +137,8 @@ class FrontPage(unittest.TestCase):
             if not start or not contracts.is_listed(start, owner, []):
                 continue
             name = owner.name if owner else "", start[3]
-            if (name[0] or name[1]) not in exported or name in self.INNER:
-                continue
-            text = re.split(r"\n *(?:ensures|requires|where|//|\{)|\{\n|;\n", "\n".join(lines[at : at + 12]))[0]
-            found[name] = self.plain(text)
-        return found
-
-    def plain(self, signature):
-        text = " ".join(signature.split()).removesuffix(" {")
-        return re.sub(r"^(?:pub |final )*", "", text).replace("( ", "(").replace(", )", ")")
+            if (name[0] or name[1]) in exported and name not in self.INNER:
+                yield name
 
     def test_readme_shows_what_is_stored(self):
         with open(f"{TOP}/README.md", encoding="utf-8") as file:

@@ -325,8 +325,8 @@ class Columns(unittest.TestCase):
     """The lines in src/ and specs/ of the crates have at most 100 columns."""
 
     # What cannot be broken: one string; the import of one name; what `rt fmt` makes one line of; a
-    # line of a recording in a text. The page of `wl` has a program behind `//! `, laid out as it is
-    # in its own crate (FrontPage).
+    # line of a recording in a text. The page of `wl` has an import behind `//! `, laid out as it is
+    # in a program (FrontPage).
     whole = re.compile(
         r'\s*b?".*"[,;)]*|(ghost )?use \S+\.\{[^,]*\};?|#\[tactic\(.*\)\]|[<>] [0-9a-f]+'
     )

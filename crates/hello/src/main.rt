@@ -1,5 +1,5 @@
 //! A client and a server in one process, with a buffer in place of a socket. The page of the crate
-//! `wl` has the same text, with an explanation.
+//! `wl` explains it.
 #![tactic(auto)]
 
 ghost use Rattle.std.specs.Prelude.{◌≤◌, length};
