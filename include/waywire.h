@@ -85,8 +85,8 @@ typedef enum waywire_status {
 	WAYWIRE_STALE = 2,           /* the target, or the object, is not live */
 	WAYWIRE_NO_SUCH_MESSAGE = 3, /* its interface has no such message, or another call writes it */
 	WAYWIRE_TOO_OLD = 4,         /* the message is newer than its target */
-	WAYWIRE_WRONG_ARGS = 5,      /* the argument at `place` does not fit the signature */
-	WAYWIRE_BAD_OBJECT = 6,      /* the object at `place` is not live, or has another interface */
+	WAYWIRE_WRONG_ARGS = 5,      /* the argument at `index` does not fit the signature */
+	WAYWIRE_BAD_OBJECT = 6,      /* the object at `index` is not live, or has another interface */
 	WAYWIRE_BAD_BIND = 7,        /* no global of this name, interface and version was announced */
 	WAYWIRE_TOO_LONG = 8,        /* the message is longer than the end's limit */
 	WAYWIRE_FULL = 9,            /* the outbox has no room for it: take, and send again */
@@ -354,14 +354,14 @@ typedef struct waywire_report {
 	uint32_t spelling;
 	const char *text;
 	size_t text_length;
-	size_t place;
+	size_t place; /* the index of the argument at fault, from 0 */
 	uint64_t offset;
 	/* The live object whose id the event's new object has taken over; id 0 if there is none, and always in a
 	 * server's report. That object is gone, and no later report names it: free what `replaced_user` points
 	 * to. It can be the event's target; then `user` is the same pointer. waywire_client_made says which
 	 * objects can be replaced. */
 	waywire_object replaced;
-	/* The place of the target's interface in the tables and, below, the target's version, as they were before
+	/* The index of the target's interface in the tables and, below, the target's version, as they were before
 	 * the message, even if it ended the target; version 0 if there is no target. */
 	uint16_t interface;
 	bool forgotten; /* whether it is wl_registry.global, and the client does not remember the global */
@@ -373,7 +373,7 @@ typedef struct waywire_report {
 
 /* ---- tables */
 
-/* The interfaces, each at its place, with the signatures of their messages. */
+/* The interfaces, each at its index, with the signatures of their messages. */
 typedef struct waywire_tables waywire_tables;
 
 /* Makes the tables of the core protocol (wayland.xml without data transfer). They take some 19 KB: make
@@ -393,16 +393,16 @@ void waywire_tables_free(waywire_tables *tables);
 waywire_status waywire_tables_read(const waywire_tables *tables, const void *text, size_t length,
 	waywire_tables **more, size_t *line, uint32_t *rule);
 
-/* The place of the interface of this name, which ends with a NUL. WAYWIRE_NOT_FOUND. */
+/* The index of the interface of this name, which ends with a NUL. WAYWIRE_NOT_FOUND. */
 waywire_status waywire_tables_interface(const waywire_tables *tables, const char *name,
 	uint16_t *interface);
 
-/* The name of the interface at a place, valid until the tables are freed. It does not end with a NUL.
+/* The name of the interface at an index, valid until the tables are freed. It does not end with a NUL.
  * WAYWIRE_NOT_FOUND past the tables. */
 waywire_status waywire_tables_name(const waywire_tables *tables, uint16_t interface,
 	const char **name, size_t *length);
 
-/* The newest version of the interface at a place. WAYWIRE_NOT_FOUND past the tables. */
+/* The newest version of the interface at an index. WAYWIRE_NOT_FOUND past the tables. */
 waywire_status waywire_tables_version(const waywire_tables *tables, uint16_t interface,
 	uint32_t *version);
 
@@ -423,7 +423,7 @@ typedef enum waywire_destroys {
 typedef struct waywire_message {
 	uint32_t since;    /* the version of its interface that introduced it */
 	uint32_t destroys; /* a waywire_destroys */
-	size_t destroyed;  /* with WAYWIRE_DESTROYS_ARG: the place of that argument; else 0 */
+	size_t destroyed;  /* with WAYWIRE_DESTROYS_ARG: the index of that argument; else 0 */
 	size_t arg_count;
 } waywire_message;
 
@@ -435,7 +435,7 @@ typedef struct waywire_message {
 typedef struct waywire_kind {
 	uint32_t kind; /* a waywire_arg_kind */
 	bool nullable; /* whether the null string or the null object is allowed */
-	uint16_t interface; /* for an object: the place of its interface, or WAYWIRE_ANY_INTERFACE */
+	uint16_t interface; /* for an object: the index of its interface, or WAYWIRE_ANY_INTERFACE */
 } waywire_kind;
 
 /* The message of an interface with this opcode: a request or an event, depending on the sender. Its name is
@@ -444,10 +444,10 @@ typedef struct waywire_kind {
 waywire_status waywire_tables_message(const waywire_tables *tables, uint16_t interface,
 	waywire_sender sender, uint16_t opcode, waywire_message *message, const char **name, size_t *length);
 
-/* The kind of the argument at a place of a message, counted from 0. WAYWIRE_NOT_FOUND as above, or past its
+/* The kind of the argument at an index of a message, counted from 0. WAYWIRE_NOT_FOUND as above, or past its
  * arguments. */
 waywire_status waywire_tables_kind(const waywire_tables *tables, uint16_t interface,
-	waywire_sender sender, uint16_t opcode, size_t place, waywire_kind *kind);
+	waywire_sender sender, uint16_t opcode, size_t index, waywire_kind *kind);
 
 /* One message, decoded by its signature. */
 typedef struct waywire_decoded {
@@ -457,9 +457,9 @@ typedef struct waywire_decoded {
 	const char *name;  /* the message's name, which does not end with a NUL, valid until the tables are freed */
 	size_t name_length;
 	size_t arg_count;  /* how many arguments `args` has: all, or those before the one at fault */
-	size_t place;      /* with WAYWIRE_FAULT_BAD_ARGUMENT: the argument at fault, counted from 0 */
+	size_t place;      /* with WAYWIRE_FAULT_BAD_ARGUMENT: the index of the argument at fault, from 0 */
 	uint32_t spelling; /* with the same: how it is malformed, as in a report */
-	/* For each argument that is an object or a new one, the place in the tables of the interface that the
+	/* For each argument that is an object or a new one, the index in the tables of the interface that the
 	 * signature names; for the new object of wl_registry.bind, that of the interface that the bytes name.
 	 * WAYWIRE_ANY_INTERFACE if none is named or the tables lack it, and for every other argument. */
 	uint16_t interfaces[WAYWIRE_MAX_ARGS];
@@ -517,9 +517,9 @@ static inline bool waywire_dispatch(const waywire_tables *tables, const waywire_
 	} else if (report->kind < WAYWIRE_DELETED || report->kind > WAYWIRE_ERROR) {
 		return false;
 	}
-	for (size_t it = 0; it < count; it++)
-		if (strlen(listeners[it].interface) == length && !memcmp(listeners[it].interface, name, length))
-			return listeners[it].dispatch(listeners[it].calls, data, report);
+	for (size_t i = 0; i < count; i++)
+		if (strlen(listeners[i].interface) == length && !memcmp(listeners[i].interface, name, length))
+			return listeners[i].dispatch(listeners[i].calls, data, report);
 	return false;
 }
 
@@ -648,10 +648,10 @@ waywire_status waywire_end_take_waiting_tokens(waywire_end *end, uint32_t *token
  * events of wl_display and wl_registry (the calls of a server below).
  * Statuses, in the order in which they are tested: WAYWIRE_BAD_VALUE, WAYWIRE_FAILED, WAYWIRE_STALE,
  * WAYWIRE_NO_SUCH_MESSAGE, WAYWIRE_TOO_OLD, WAYWIRE_WRONG_ARGS, WAYWIRE_BAD_OBJECT, WAYWIRE_TOO_LONG,
- * WAYWIRE_FULL, WAYWIRE_NO_IDS, WAYWIRE_NO_MEMORY. `made` and `place` may be null; `place` is written with
+ * WAYWIRE_FULL, WAYWIRE_NO_IDS, WAYWIRE_NO_MEMORY. `made` and `index` may be null; `index` is written with
  * WAYWIRE_WRONG_ARGS and WAYWIRE_BAD_OBJECT, counted from 0. */
 waywire_status waywire_end_send(waywire_end *end, waywire_object target, uint16_t opcode,
-	const waywire_arg *args, size_t arg_count, waywire_object *made, size_t *place);
+	const waywire_arg *args, size_t arg_count, waywire_object *made, size_t *index);
 
 /* Reads the next message if it is whole: a client an event, a server a request. If it is not, `report` says
  * WAYWIRE_NOTHING. waywire_report says how long the report is valid.
@@ -695,7 +695,7 @@ waywire_status waywire_client_bind_unannounced(waywire_client client, waywire_ob
 	const char *interface, uint32_t version, waywire_object *bound);
 
 /* Reads a text and appends it to the client's own tables, as waywire_tables_read does and with its statuses, and
- * gives the client the resulting tables. Interfaces keep their places and messages their opcodes, so objects and
+ * gives the client the resulting tables. Interfaces keep their indices and messages their opcodes, so objects and
  * globals do not change. A global that was announced before its interface was in the tables stays forgotten:
  * waywire_client_bind_unannounced binds it. WAYWIRE_FIRST_SERVER_OBJECT if the text has an event by which the
  * server makes an object (`N`), and the client's tables have none: such a client has no table for those objects.
@@ -721,7 +721,7 @@ waywire_status waywire_client_made(waywire_client client, waywire_object *made);
 waywire_status waywire_server_new(const waywire_tables *tables, const waywire_sizes *sizes,
 	waywire_server *server);
 
-/* Adds a global of an interface, given by its place in the tables, and writes the global's name to `name`, which
+/* Adds a global of an interface, given by its index in the tables, and writes the global's name to `name`, which
  * may be null. waywire_server_announce writes it to the registries. WAYWIRE_FAILED, WAYWIRE_BAD_GLOBAL,
  * WAYWIRE_TOO_MANY_GLOBALS, WAYWIRE_NO_MEMORY. */
 waywire_status waywire_server_add_global(waywire_server server, uint16_t interface,
@@ -796,7 +796,7 @@ typedef struct waywire_judgement {
 	size_t left_to_server, left_to_client; /* bytes that belong to no judged message */
 	size_t index;      /* the number of the broken message among those of its sender, from 1 */
 	size_t offset;     /* where it begins in the bytes of its sender */
-	size_t place;      /* the argument at fault, counted from 0 */
+	size_t place;      /* the index of the argument at fault, from 0 */
 	uint32_t fault;    /* the rule: one of WAYWIRE_FAULT_.. */
 	uint32_t spelling; /* with WAYWIRE_FAULT_BAD_ARGUMENT: how it is malformed, as in a report */
 	uint32_t sender;   /* a waywire_sender */
@@ -832,7 +832,7 @@ uint64_t waywire_inspector_judged(const waywire_inspector *inspector);
 typedef struct waywire_known {
 	uint64_t birth;     /* the number of the message that made the object; 0 for wl_display */
 	uint32_t version;
-	uint16_t interface; /* its place in the tables; WAYWIRE_ANY_INTERFACE if nothing is known of the id */
+	uint16_t interface; /* its index in the tables; WAYWIRE_ANY_INTERFACE if nothing is known of the id */
 	bool is_known;
 	bool is_ending;     /* it was destroyed, and its id is not free yet */
 } waywire_known;

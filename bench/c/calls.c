@@ -34,9 +34,9 @@ static void down(void)
 
 static waywire_object make(waywire_object target, uint16_t opcode)
 {
-	waywire_arg place = waywire_new();
+	waywire_arg arg = waywire_new();
 	waywire_object made;
-	MUST(!waywire_end_send(client.end, target, opcode, &place, 1, &made, NULL));
+	MUST(!waywire_end_send(client.end, target, opcode, &arg, 1, &made, NULL));
 	return made;
 }
 
@@ -76,7 +76,7 @@ static void open_ends(void)
 	request();
 	MUST(!waywire_server_announce(server, NULL));
 	down();
-	for (int each = 0; each < 3; each++)
+	for (int i = 0; i < 3; i++)
 		event();
 	MUST(!waywire_client_bind(client, registry, 1, "wl_compositor", 6, &compositor));
 	MUST(!waywire_client_bind(client, registry, 2, "wl_seat", 9, &seat));
@@ -87,7 +87,7 @@ static void open_ends(void)
 	MUST(!waywire_end_send(client.end, shell, WAYWIRE_WL_SHELL_REQUEST_GET_SHELL_SURFACE, args, 2,
 		&shell_surface, NULL));
 	up();
-	for (int each = 0; each < 6; each++)
+	for (int i = 0; i < 6; i++)
 		request();
 }
 
@@ -107,8 +107,8 @@ static void send_motion(void)
 
 static void send_surface(void)
 {
-	waywire_object it = make(compositor, WAYWIRE_WL_COMPOSITOR_REQUEST_CREATE_SURFACE);
-	MUST(!waywire_end_send(client.end, it, WAYWIRE_WL_SURFACE_REQUEST_DESTROY, NULL, 0, NULL, NULL));
+	waywire_object made = make(compositor, WAYWIRE_WL_COMPOSITOR_REQUEST_CREATE_SURFACE);
+	MUST(!waywire_end_send(client.end, made, WAYWIRE_WL_SURFACE_REQUEST_DESTROY, NULL, 0, NULL, NULL));
 }
 
 static void send_title(void)
@@ -142,15 +142,15 @@ int main(int argc, char **argv)
 	long batch = atol(argv[2]), times = atol(argv[3]);
 	open_ends();
 	for (long round = 0; round < times; round++) {
-		for (long each = 0; each < batch; each++)
+		for (long i = 0; i < batch; i++)
 			cases[at].send();
 		if (cases[at].requests)
 			up();
-		for (long each = 0; each < batch * cases[at].requests; each++)
+		for (long i = 0; i < batch * cases[at].requests; i++)
 			request();
 		if (cases[at].events)
 			down();
-		for (long each = 0; each < batch * cases[at].events; each++)
+		for (long i = 0; i < batch * cases[at].events; i++)
 			event();
 	}
 	waywire_end_free(client.end);

@@ -229,13 +229,13 @@ static bool exchange(struct ends *ends, const char *name, uint64_t count, const 
 {
     uint64_t requests = requests_read, events = events_read;
     if (strcmp(name, "motion") == 0) {
-        for (uint64_t place = 0; place < count; place++)
-            wl_pointer_send_motion(server_pointer, (uint32_t)place, 256, 512);
+        for (uint64_t i = 0; i < count; i++)
+            wl_pointer_send_motion(server_pointer, (uint32_t)i, 256, 512);
         to_client(ends);
         return events_read - events == count;
     }
     bool makes = strcmp(name, "surface") == 0;
-    for (uint64_t place = 0; place < count; place++) {
+    for (uint64_t i = 0; i < count; i++) {
         if (makes)
             wl_surface_destroy(wl_compositor_create_surface(compositor));
         else if (strcmp(name, "title") == 0)
@@ -265,13 +265,13 @@ int main(int count, char **words)
     title[TITLE] = 0;
     struct ends ends;
     open_ends(&ends);
-    for (uint64_t place = 0; place < objects; place++) {
+    for (uint64_t i = 0; i < objects; i++) {
         wl_compositor_create_surface(compositor);
-        if (place % 100 == 99)
+        if (i % 100 == 99)
             to_server(&ends);
     }
     to_server(&ends);
-    for (uint64_t place = 0; place < times; place++)
+    for (uint64_t i = 0; i < times; i++)
         if (!exchange(&ends, name, batch, title))
             return 1;
     return 0;

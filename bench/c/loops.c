@@ -65,10 +65,10 @@ static void damage(int time)
 
 static void region(int time)
 {
-	struct wl_region *it = wl_compositor_create_region(compositor);
-	wl_region_add(it, 0, 0, 10, 10);
-	wl_surface_set_input_region(surface, it);
-	wl_region_destroy(it);
+	struct wl_region *input_region = wl_compositor_create_region(compositor);
+	wl_region_add(input_region, 0, 0, 10, 10);
+	wl_surface_set_input_region(surface, input_region);
+	wl_region_destroy(input_region);
 	if (time % BEFORE_A_ROUND_TRIP == 0)
 		roundtrip(time);
 }

@@ -56,9 +56,9 @@ int main(int words, char **word)
 	if (wl_display_roundtrip(display) < 0)
 		return 4;
 	double begin = now();
-	for (long each = 1; each <= count; each++) {
+	for (long i = 1; i <= count; i++) {
 		wl_surface_damage(surface, 0, 0, 1, 1);
-		if (each % 100 == 0)
+		if (i % 100 == 0)
 			flush(display);
 	}
 	if (wl_display_roundtrip(display) < 0)

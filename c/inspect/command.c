@@ -40,9 +40,9 @@ void take_signals(sigset_t *before)
 	sigemptyset(&blocked);
 	sigaddset(&blocked, SIGCHLD);
 	action.sa_sigaction = on_stop;
-	for (size_t each = 0; each < sizeof stopping / sizeof *stopping; each++) {
-		sigaction(stopping[each], &action, NULL);
-		sigaddset(&blocked, stopping[each]);
+	for (size_t i = 0; i < sizeof stopping / sizeof *stopping; i++) {
+		sigaction(stopping[i], &action, NULL);
+		sigaddset(&blocked, stopping[i]);
 	}
 	sigprocmask(SIG_BLOCK, &blocked, before);
 	sigset_t while_printing = *before;

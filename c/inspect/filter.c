@@ -14,16 +14,16 @@ static bool is_pattern(struct name name)
 static bool matches(struct name pattern, struct name name)
 {
 	size_t at = 0, star = pattern.length, again = 0;
-	for (size_t each = 0; each < name.length;) {
+	for (size_t i = 0; i < name.length;) {
 		if (at < pattern.length && pattern.bytes[at] == '*') {
 			star = at++;
-			again = each;
-		} else if (at < pattern.length && (pattern.bytes[at] == '?' || pattern.bytes[at] == name.bytes[each])) {
+			again = i;
+		} else if (at < pattern.length && (pattern.bytes[at] == '?' || pattern.bytes[at] == name.bytes[i])) {
 			at++;
-			each++;
+			i++;
 		} else if (star < pattern.length) {
 			at = star + 1; /* the star stands for one character more */
-			each = ++again;
+			i = ++again;
 		} else
 			return false;
 	}
@@ -63,15 +63,15 @@ static size_t add_named(struct filter *filter, const waywire_tables *tables, str
 {
 	size_t count = 0;
 	struct name name;
-	for (uint16_t place = 0; !waywire_tables_name(tables, place, &name.bytes, &name.length); place++) {
-		struct asked all = { place, message ? ANY_SENDER : ANY_PART, 0 };
+	for (uint16_t index = 0; !waywire_tables_name(tables, index, &name.bytes, &name.length); index++) {
+		struct asked all = { index, message ? ANY_SENDER : ANY_PART, 0 };
 		if (!matches(interface, name))
 			continue;
 		count++;
 		if (!message || (message->length == 1 && *message->bytes == '*'))
 			add(filter, &all);
 		else
-			add_messages(filter, tables, place, *message);
+			add_messages(filter, tables, index, *message);
 		if (!is_pattern(interface))
 			break; /* of equal names the first counts */
 	}
@@ -118,8 +118,8 @@ static bool names(const struct asked *asked, const struct message *message)
 {
 	if (asked->from != ANY_PART)
 		return false;
-	for (size_t place = 0; place < message->arg_count; place++)
-		if (message->args[place].object.name.bytes && message->args[place].object.interface == asked->interface)
+	for (size_t i = 0; i < message->arg_count; i++)
+		if (message->args[i].object.name.bytes && message->args[i].object.interface == asked->interface)
 			return true;
 	return false;
 }
@@ -127,9 +127,9 @@ static bool names(const struct asked *asked, const struct message *message)
 bool is_shown(const struct options *options, const struct message *message)
 {
 	bool is_wanted = !options->only.count;
-	for (size_t each = 0; each < options->only.count; each++)
-		is_wanted |= is_for(&options->only.asked[each], message) || names(&options->only.asked[each], message);
-	for (size_t each = 0; each < options->except.count; each++)
-		is_wanted &= !is_for(&options->except.asked[each], message);
+	for (size_t i = 0; i < options->only.count; i++)
+		is_wanted |= is_for(&options->only.asked[i], message) || names(&options->only.asked[i], message);
+	for (size_t i = 0; i < options->except.count; i++)
+		is_wanted &= !is_for(&options->except.asked[i], message);
 	return is_wanted;
 }

@@ -68,11 +68,11 @@ uint32_t announced_version(const struct follower *follower, const struct message
 	return waywire_inspector_announced(follower->inspector, bind->args[0].value.u, bind->bound);
 }
 
-static void read_argument(const struct follower *follower, struct message *message, size_t place,
+static void read_argument(const struct follower *follower, struct message *message, size_t index,
 	const waywire_decoded *decoded)
 {
-	struct argument *argument = &message->args[place];
-	*argument = (struct argument){ .value = decoded->args[place] };
+	struct argument *argument = &message->args[index];
+	*argument = (struct argument){ .value = decoded->args[index] };
 	if (argument->value.kind == WAYWIRE_NEW_BY_SERVER)
 		argument->value.kind = WAYWIRE_NEW;
 	switch (argument->value.kind) {
@@ -80,10 +80,10 @@ static void read_argument(const struct follower *follower, struct message *messa
 		argument->object = object_of(follower, argument->value.object.id);
 		break;
 	case WAYWIRE_BOUND:
-		message->bound = decoded->interfaces[place];
+		message->bound = decoded->interfaces[index];
 		/* fall through */
 	case WAYWIRE_NEW:
-		argument->object = new_object(follower, message, &argument->value, decoded->interfaces[place]);
+		argument->object = new_object(follower, message, &argument->value, decoded->interfaces[index]);
 		break;
 	case WAYWIRE_FD:
 		message->descriptor_count++;
@@ -106,8 +106,8 @@ static void take_apart(const struct follower *follower, struct message *message,
 			&message->signature, &message->name.bytes, &message->name.length)
 		&& message->status != WAYWIRE_FAULT_BAD_SIZE)
 		message->arg_count = decoded.arg_count;
-	for (size_t place = 0; place < message->arg_count; place++)
-		read_argument(follower, message, place, &decoded);
+	for (size_t i = 0; i < message->arg_count; i++)
+		read_argument(follower, message, i, &decoded);
 }
 
 /* What the message makes, destroys and frees. */
@@ -115,9 +115,9 @@ static void read_changes(const struct follower *follower, struct message *messag
 {
 	if (!followed->is_read)
 		return;
-	for (size_t place = 0; followed->made && place < message->arg_count; place++)
-		if (message->args[place].value.kind == WAYWIRE_NEW || message->args[place].value.kind == WAYWIRE_BOUND)
-			message->made = message->args[place].object;
+	for (size_t i = 0; followed->made && i < message->arg_count; i++)
+		if (message->args[i].value.kind == WAYWIRE_NEW || message->args[i].value.kind == WAYWIRE_BOUND)
+			message->made = message->args[i].object;
 	if (followed->destroyed)
 		message->destroyed = object_of(follower, followed->destroyed);
 	if (followed->deleted > DISPLAY_ID && followed->deleted < WAYWIRE_FIRST_SERVER_ID

@@ -7,7 +7,7 @@
 #include <stdlib.h>
 #include <waywire.h>
 
-/* The places of a session's two sockets, and of the way that begins at each. */
+/* The indices of a session's two sockets, and of the way that begins at each. */
 enum { CLIENT = WAYWIRE_FROM_CLIENT, COMPOSITOR = WAYWIRE_FROM_SERVER };
 
 #define DISPLAY_ID 1
@@ -21,7 +21,7 @@ struct object {
 	uint32_t id;
 	uint32_t version;
 	uint64_t birth;      /* the number of the message that made it; 0 for wl_display, and if it is not known */
-	uint16_t interface;  /* its place in the tables; WAYWIRE_ANY_INTERFACE if they lack it */
+	uint16_t interface;  /* its index in the tables; WAYWIRE_ANY_INTERFACE if they lack it */
 	uint8_t state;       /* ending: it was destroyed, and its id is not free yet */
 	struct name name;    /* its interface's */
 };
@@ -62,7 +62,7 @@ struct message {
 	waywire_status status;    /* of decoding it */
 	size_t arg_count;
 	struct argument args[WAYWIRE_MAX_ARGS];
-	uint16_t bound;           /* of wl_registry.bind: the place of the interface */
+	uint16_t bound;           /* of wl_registry.bind: the index of the interface */
 	struct object made, destroyed, freed; /* with id 0 if there is none */
 	size_t descriptor_count;
 	uint64_t answers;          /* the number of the message that it answers; 0 if there is none */

@@ -33,8 +33,8 @@ struct history *history_new(void)
 
 void history_free(struct history *history)
 {
-	for (size_t each = 0; history && each < KEPT; each++)
-		text_free(&history->kept[each].line);
+	for (size_t i = 0; history && i < KEPT; i++)
+		text_free(&history->kept[i].line);
 	free(history);
 }
 
@@ -52,8 +52,8 @@ void history_note(struct history *history, const struct message *message, const 
 	past->object_count = 1;
 	if (message->freed.id)
 		past->objects[past->object_count++] = (struct concerned){ message->freed.id, message->freed.birth };
-	for (size_t place = 0; place < message->arg_count; place++) {
-		const struct object *object = &message->args[place].object;
+	for (size_t i = 0; i < message->arg_count; i++) {
+		const struct object *object = &message->args[i].object;
 		if (object->id)
 			past->objects[past->object_count++] = (struct concerned){ object->id, object->birth };
 	}
@@ -64,8 +64,8 @@ static bool concerns(const struct past *past, const struct object *object)
 	/* An error for wl_display is about any request. */
 	if (object->id == DISPLAY_ID)
 		return past->from == CLIENT;
-	for (size_t each = 0; each < past->object_count; each++) {
-		const struct concerned *its = &past->objects[each];
+	for (size_t i = 0; i < past->object_count; i++) {
+		const struct concerned *its = &past->objects[i];
 		if (its->id == object->id && (object->state == UNKNOWN || its->birth == object->birth))
 			return true;
 	}

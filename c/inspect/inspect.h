@@ -128,13 +128,13 @@ void source_take(struct source *source, struct text *taken);
 bool installed_protocols(struct text *made, const struct source *sources, size_t source_count,
 	const waywire_tables *core, bool is_verbose);
 
-/* The name that the line at a place declares or extends; empty if it does neither. */
+/* The name that the line at this index declares or extends; empty if it does neither. */
 struct name source_names(const struct source *source, size_t at);
 
 /* Whether a text declares an interface; an extension does not. */
 bool source_declares(const struct source *source, struct name name);
 
-/* The line after the one at a place. */
+/* The line after the one at this index. */
 size_t source_next_line(const struct source *source, size_t at);
 
 /* The paths of the files with this end in the folder of the installed texts, in the order of their names, to be freed.

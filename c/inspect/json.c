@@ -148,9 +148,9 @@ static void put_value_names(struct text *text, const struct meaning *meaning, ui
 	uint32_t rest;
 	size_t count = names_of_value(meaning, value, names, &rest);
 	text_add(text, "[");
-	for (size_t each = 0; each < count; each++) {
-		text_add(text, each ? "," : "");
-		put_string(text, names[each].bytes, names[each].length);
+	for (size_t i = 0; i < count; i++) {
+		text_add(text, i ? "," : "");
+		put_string(text, names[i].bytes, names[i].length);
 	}
 	text_add(text, "]");
 }
@@ -178,14 +178,14 @@ static void put_numbers(struct text *text, const struct argument *argument)
 	if (!has_numbers(argument))
 		return;
 	text_add(text, ",\"numbers\":[");
-	for (size_t each = 0; each < count; each++)
-		text_format(text, each ? ",%" PRIu32 : "%" PRIu32, number_at(&argument->value, each));
+	for (size_t i = 0; i < count; i++)
+		text_format(text, i ? ",%" PRIu32 : "%" PRIu32, number_at(&argument->value, i));
 	text_add(text, "]");
 	if (!begin_names(text, argument))
 		return;
-	for (size_t each = 0; each < count; each++) {
-		text_add(text, each ? "," : "[");
-		put_value_names(text, &argument->meaning, number_at(&argument->value, each));
+	for (size_t i = 0; i < count; i++) {
+		text_add(text, i ? "," : "[");
+		put_value_names(text, &argument->meaning, number_at(&argument->value, i));
 	}
 	text_add(text, count ? "]" : "[]");
 }
@@ -243,9 +243,9 @@ static void put_argument(struct text *text, const struct argument *argument)
 static void put_arguments(struct text *text, const struct message *message)
 {
 	text_add(text, ",\"arguments\":[");
-	for (size_t place = 0; place < message->arg_count; place++) {
-		text_add(text, place ? "," : "");
-		put_argument(text, &message->args[place]);
+	for (size_t i = 0; i < message->arg_count; i++) {
+		text_add(text, i ? "," : "");
+		put_argument(text, &message->args[i]);
 	}
 	text_add(text, "]");
 }
@@ -280,9 +280,9 @@ static void put_before(struct text *text, const struct shown *shown, const struc
 	struct before before[MOST_BEFORE];
 	size_t count = history_before(shown->history, object, before);
 	text_add(text, ",\"before\":[");
-	for (size_t each = 0; each < count; each++) {
-		text_format(text, "%s{\"number\":%" PRIu64, each ? "," : "", before[each].number);
-		put_text(text, "text", before[each].line);
+	for (size_t i = 0; i < count; i++) {
+		text_format(text, "%s{\"number\":%" PRIu64, i ? "," : "", before[i].number);
+		put_text(text, "text", before[i].line);
 		text_add(text, "}");
 	}
 	text_add(text, "]");

@@ -8,7 +8,7 @@
 
 #define LEAST_ROOM 16
 
-/* A number that differs from run to run, so that nobody can choose keys that share one place. */
+/* A number that differs from run to run, so that nobody can choose keys that share one slot. */
 static uint64_t seed(void)
 {
 	static uint64_t made;
@@ -18,7 +18,7 @@ static uint64_t seed(void)
 	return made;
 }
 
-static size_t first_place(const struct keyed *keyed, uint64_t key)
+static size_t first_slot(const struct keyed *keyed, uint64_t key)
 {
 	key ^= seed();
 	key = (key ^ key >> 30) * 0xbf58476d1ce4e5b9u;
@@ -26,30 +26,30 @@ static size_t first_place(const struct keyed *keyed, uint64_t key)
 	return (size_t)(key ^ key >> 31) & (keyed->room - 1);
 }
 
-/* The place of a key, or the free one where it would be. */
-static size_t place_of(const struct keyed *keyed, uint64_t key)
+/* The slot of a key, or the free one where it would be. */
+static size_t slot_of(const struct keyed *keyed, uint64_t key)
 {
-	size_t place = first_place(keyed, key);
-	while (keyed->places[place].value && keyed->places[place].key != key)
-		place = (place + 1) & (keyed->room - 1);
-	return place;
+	size_t slot = first_slot(keyed, key);
+	while (keyed->slots[slot].value && keyed->slots[slot].key != key)
+		slot = (slot + 1) & (keyed->room - 1);
+	return slot;
 }
 
 void *keyed_find(const struct keyed *keyed, uint64_t key)
 {
-	return keyed->room ? keyed->places[place_of(keyed, key)].value : NULL;
+	return keyed->room ? keyed->slots[slot_of(keyed, key)].value : NULL;
 }
 
 static bool grow(struct keyed *keyed)
 {
 	struct keyed larger = { NULL, keyed->room ? 2 * keyed->room : LEAST_ROOM, keyed->count };
-	larger.places = calloc(larger.room, sizeof *larger.places);
-	if (!larger.places)
+	larger.slots = calloc(larger.room, sizeof *larger.slots);
+	if (!larger.slots)
 		return false;
-	for (size_t each = 0; each < keyed->room; each++)
-		if (keyed->places[each].value)
-			larger.places[place_of(&larger, keyed->places[each].key)] = keyed->places[each];
-	free(keyed->places);
+	for (size_t i = 0; i < keyed->room; i++)
+		if (keyed->slots[i].value)
+			larger.slots[slot_of(&larger, keyed->slots[i].key)] = keyed->slots[i];
+	free(keyed->slots);
 	*keyed = larger;
 	return true;
 }
@@ -58,31 +58,31 @@ bool keyed_put(struct keyed *keyed, uint64_t key, void *value)
 {
 	if (2 * keyed->count >= keyed->room && !grow(keyed))
 		return false;
-	struct keyed_place *place = &keyed->places[place_of(keyed, key)];
-	keyed->count += !place->value;
-	*place = (struct keyed_place){ key, value };
+	struct keyed_slot *slot = &keyed->slots[slot_of(keyed, key)];
+	keyed->count += !slot->value;
+	*slot = (struct keyed_slot){ key, value };
 	return true;
 }
 
 void keyed_drop(struct keyed *keyed, uint64_t key)
 {
-	size_t free_place = keyed->room ? place_of(keyed, key) : 0, last = keyed->room - 1;
-	if (!keyed->room || !keyed->places[free_place].value)
+	size_t free_slot = keyed->room ? slot_of(keyed, key) : 0, last = keyed->room - 1;
+	if (!keyed->room || !keyed->slots[free_slot].value)
 		return;
 	keyed->count--;
-	/* Moves the following entries up, unless one would come before the place where its search begins. */
-	for (size_t each = (free_place + 1) & last; keyed->places[each].value; each = (each + 1) & last) {
-		size_t first = first_place(keyed, keyed->places[each].key);
-		if (((each - first) & last) < ((each - free_place) & last))
+	/* Moves the following entries up, unless one would come before the slot where its search begins. */
+	for (size_t i = (free_slot + 1) & last; keyed->slots[i].value; i = (i + 1) & last) {
+		size_t first = first_slot(keyed, keyed->slots[i].key);
+		if (((i - first) & last) < ((i - free_slot) & last))
 			continue;
-		keyed->places[free_place] = keyed->places[each];
-		free_place = each;
+		keyed->slots[free_slot] = keyed->slots[i];
+		free_slot = i;
 	}
-	keyed->places[free_place].value = NULL;
+	keyed->slots[free_slot].value = NULL;
 }
 
 void keyed_free(struct keyed *keyed)
 {
-	free(keyed->places);
+	free(keyed->slots);
 	*keyed = (struct keyed){ NULL, 0, 0 };
 }

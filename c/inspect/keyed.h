@@ -6,14 +6,14 @@
 #include <stddef.h>
 #include <stdint.h>
 
-struct keyed_place {
+struct keyed_slot {
 	uint64_t key;
-	void *value; /* null if the place is free */
+	void *value; /* null if the slot is free */
 };
 
 /* Its memory grows with the largest number of keys that it had at one time, not with the values of the keys. */
 struct keyed {
-	struct keyed_place *places;
+	struct keyed_slot *slots;
 	size_t room, count; /* the room is a power of two, or 0 */
 };
 

@@ -72,9 +72,9 @@ void put_message(struct text *text, const struct message *message)
 		text_format(text, ": opcode %u, %zu bytes", message->opcode, message->size);
 		return;
 	}
-	for (size_t place = 0; place < message->arg_count; place++) {
-		text_add(text, place ? ", " : "");
-		put_printed_argument(text, &message->args[place]);
+	for (size_t i = 0; i < message->arg_count; i++) {
+		text_add(text, i ? ", " : "");
+		put_printed_argument(text, &message->args[i]);
 	}
 	if (message->status)
 		text_add(text, message->arg_count ? ", .." : "..");

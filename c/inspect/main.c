@@ -206,10 +206,10 @@ static void read_options(struct later *later, int count, char **words)
 
 static void apply_later(const struct later *later, const struct known *known)
 {
-	for (size_t each = 0; each < later->only_count; each++)
-		filter_read(&options.only, known->tables, "only", later->only[each]);
-	for (size_t each = 0; each < later->except_count; each++)
-		filter_read(&options.except, known->tables, "except", later->except[each]);
+	for (size_t i = 0; i < later->only_count; i++)
+		filter_read(&options.only, known->tables, "only", later->only[i]);
+	for (size_t i = 0; i < later->except_count; i++)
+		filter_read(&options.except, known->tables, "except", later->except[i]);
 	if (options.output)
 		print_to(options.output);
 	options.colour = colour_of(later->colour) && !options.json;

@@ -19,7 +19,7 @@ struct lines {
 static struct lines given, installed;
 static bool is_wanted, is_installed_read;
 
-/* The line of a message, by its interface's place, its sender and its opcode. */
+/* The line of a message, by its interface's index, its sender and its opcode. */
 static struct kept {
 	uint64_t key; /* 0 if nothing is kept */
 	const char *names;
@@ -34,14 +34,14 @@ static int by_bytes(const void *one, const void *other)
 
 static void sort_lines(struct lines *lines)
 {
-	for (size_t each = 0; each < lines->bytes.length; each++)
-		lines->count += lines->bytes.bytes[each] == '\n';
+	for (size_t i = 0; i < lines->bytes.length; i++)
+		lines->count += lines->bytes.bytes[i] == '\n';
 	lines->sorted = calloc(lines->count + 1, sizeof *lines->sorted);
 	if (!lines->sorted)
 		lines->count = 0;
 	char *at = lines->bytes.bytes, *end = at + lines->bytes.length;
-	for (size_t each = 0; each < lines->count; each++) {
-		lines->sorted[each] = at;
+	for (size_t i = 0; i < lines->count; i++) {
+		lines->sorted[i] = at;
 		at = memchr(at, '\n', (size_t)(end - at));
 		*at++ = 0;
 	}
@@ -67,9 +67,9 @@ static void add_xml(struct lines *lines, const struct options *options)
 	find_tool(tool, sizeof tool, "tables-from-xml");
 	words[count++] = tool;
 	words[count++] = "--names";
-	for (size_t each = 0; each < options->table_count; each++)
-		if (is_xml(options->tables[each]))
-			words[count++] = options->tables[each];
+	for (size_t i = 0; i < options->table_count; i++)
+		if (is_xml(options->tables[i]))
+			words[count++] = options->tables[i];
 	if (count > 2 && run_to_end(words, &lines->bytes, false))
 		notice("%s has failed: arguments have no names", tool);
 	free(words);
@@ -80,8 +80,8 @@ void names_read(const struct options *options)
 	char path[PATH_MAX];
 	is_wanted = true;
 	add_xml(&given, options);
-	for (size_t each = 0; each < options->table_count; each++) {
-		const char *name = options->tables[each], *end = strrchr(name, '.');
+	for (size_t i = 0; i < options->table_count; i++) {
+		const char *name = options->tables[i], *end = strrchr(name, '.');
 		if (end && !strcmp(end, ".tables")
 			&& snprintf(path, sizeof path, "%.*s.names", (int)(end - name), name) < (int)sizeof path)
 			add_file(&given, path);
@@ -98,9 +98,9 @@ static void read_installed(void)
 	find_core_names(path, sizeof path);
 	add_file(&installed, path);
 	char **paths = installed_files(".names", &count);
-	for (size_t each = 0; each < count; each++) {
-		add_file(&installed, paths[each]);
-		free(paths[each]);
+	for (size_t i = 0; i < count; i++) {
+		add_file(&installed, paths[i]);
+		free(paths[i]);
 	}
 	free(paths);
 	sort_lines(&installed);
@@ -212,8 +212,8 @@ void name_arguments(struct message *message)
 	if (!is_wanted || !message->name.bytes || !message->target.name.bytes)
 		return;
 	const char *names = names_of(message);
-	for (size_t place = 0; names && place < message->arg_count; place++) {
-		struct argument *argument = &message->args[place];
+	for (size_t i = 0; names && i < message->arg_count; i++) {
+		struct argument *argument = &message->args[i];
 		size_t length = strcspn(names, " ");
 		const char *colon = memchr(names, ':', length);
 		argument->name = (struct name){ names, colon ? (size_t)(colon - names) : length };

@@ -15,12 +15,13 @@
 
 static void put_known_objects(struct text *text, const struct follower *follower, uint32_t first, size_t count)
 {
-	for (size_t each = 0; each < count && text->length < MOST_OF_OBJECTS; each++) {
-		struct object it = object_of(follower, first + (uint32_t)each);
-		if (it.state == UNKNOWN || !it.name.bytes || it.id == DISPLAY_ID)
+	for (size_t i = 0; i < count && text->length < MOST_OF_OBJECTS; i++) {
+		struct object object = object_of(follower, first + (uint32_t)i);
+		if (object.state == UNKNOWN || !object.name.bytes || object.id == DISPLAY_ID)
 			continue;
-		text_format(text, "# %s %" PRIu32 " %" PRIu32 " ", it.state == LIVE ? "object" : "ending", it.id, it.version);
-		text_put_name(text, it.name);
+		text_format(text, "# %s %" PRIu32 " %" PRIu32 " ", object.state == LIVE ? "object" : "ending",
+			object.id, object.version);
+		text_put_name(text, object.name);
 		text_add(text, "\n");
 	}
 }
@@ -68,10 +69,10 @@ static bool read_object(const char *comment, struct reopened *object, char *name
 /* The id of an object is one of the used ids. */
 static void note_id(struct part *part, uint32_t id)
 {
-	size_t place = id < WAYWIRE_FIRST_SERVER_ID ? id : id - WAYWIRE_FIRST_SERVER_ID;
+	size_t index = id < WAYWIRE_FIRST_SERVER_ID ? id : id - WAYWIRE_FIRST_SERVER_ID;
 	size_t *ids = id < WAYWIRE_FIRST_SERVER_ID ? &part->client_ids : &part->server_ids;
-	if (place < MOST_IDS && place >= *ids)
-		*ids = place + 1;
+	if (index < MOST_IDS && index >= *ids)
+		*ids = index + 1;
 }
 
 static void take_ids(void *to, const char *comment)

@@ -56,8 +56,8 @@ static const char *colour_of(const struct object *object)
 {
 	static const char *const colours[] = { "\033[33m", "\033[35m", "\033[36m", "\033[93m", "\033[95m", "\033[96m" };
 	unsigned sum = 0;
-	for (size_t each = 0; each < object->name.length; each++)
-		sum = sum * 31 + (unsigned char)object->name.bytes[each];
+	for (size_t i = 0; i < object->name.length; i++)
+		sum = sum * 31 + (unsigned char)object->name.bytes[i];
 	return colours[sum % (sizeof colours / sizeof *colours)];
 }
 
@@ -125,12 +125,12 @@ static void print_before(const struct shown *shown, double seconds, const struct
 		put_object(&words, object);
 		text_add(&words, ":");
 	}
-	for (size_t each = 0; each < count; each++) {
-		if (!each)
+	for (size_t i = 0; i < count; i++) {
+		if (!i)
 			print_words(shown, seconds, &words, false);
 		words.length = 0;
-		text_format(&words, "  %c message %" PRIu64 ": ", before[each].from == CLIENT ? '>' : '<', before[each].index);
-		text_put(&words, before[each].line->bytes, before[each].line->length);
+		text_format(&words, "  %c message %" PRIu64 ": ", before[i].from == CLIENT ? '>' : '<', before[i].index);
+		text_put(&words, before[i].line->bytes, before[i].line->length);
 		print_words(shown, seconds, &words, false);
 	}
 	text_free(&words);

@@ -52,8 +52,8 @@ size_t names_of_value(const struct meaning *meaning, uint32_t value, struct name
 /* Whether an argument is an array of 32-bit numbers. */
 bool has_numbers(const struct argument *argument);
 
-/* The number at a place of such an array. */
-uint32_t number_at(const waywire_arg *array, size_t place);
+/* The number at an index of such an array. */
+uint32_t number_at(const waywire_arg *array, size_t index);
 
 /* Puts the names of an argument's value, and the contents of a short array. */
 void put_meaning(struct text *text, const struct argument *argument);
@@ -64,7 +64,7 @@ void put_line_with_names(struct text *text, const struct message *message, const
 /* Which rule a message breaks: F1 is 1. */
 struct fault {
 	unsigned number;
-	size_t place;      /* of an argument */
+	size_t index;      /* of an argument */
 	uint32_t spelling;
 };
 
@@ -88,7 +88,7 @@ struct counted {
 struct stats {
 	struct counted *counted;
 	size_t count;
-	struct keyed places; /* places of the counts, by their names */
+	struct keyed numbers; /* index in `counted` plus 1, by the names */
 };
 
 /* Counts a message. If memory runs out, it is not counted. */

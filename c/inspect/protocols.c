@@ -29,7 +29,7 @@ struct protocol {
 struct declared {
 	struct name name;
 	uint32_t version;
-	size_t protocol; /* its place, or IN_TABLES */
+	size_t protocol; /* its index, or IN_TABLES */
 };
 #define IN_TABLES SIZE_MAX
 
@@ -71,17 +71,17 @@ static void add_folder(struct search *search, const char *folder, unsigned depth
 {
 	struct dirent **found = NULL;
 	int count = scandir(folder, &found, NULL, alphasort);
-	for (int each = 0; each < count; each++) {
+	for (int i = 0; i < count; i++) {
 		char path[PATH_MAX];
-		const char *name = found[each]->d_name;
+		const char *name = found[i]->d_name;
 		int length = snprintf(path, sizeof path, "%s/%s", folder, name);
 		if (*name != '.' && length < (int)sizeof path) {
 			if (is_xml(path))
 				add_protocol(search, path);
-			else if (depth < MOST_DEPTH && found[each]->d_type != DT_REG)
+			else if (depth < MOST_DEPTH && found[i]->d_type != DT_REG)
 				add_folder(search, path, depth + 1);
 		}
-		free(found[each]);
+		free(found[i]);
 	}
 	free(found);
 }
@@ -93,9 +93,9 @@ static void add_installed(struct search *search)
 	if (!data)
 		fail("out of memory");
 	while ((at = strsep(&left, ":")))
-		for (size_t each = 0; *at == '/' && each < sizeof folders / sizeof *folders; each++) {
+		for (size_t i = 0; *at == '/' && i < sizeof folders / sizeof *folders; i++) {
 			char path[PATH_MAX];
-			if (snprintf(path, sizeof path, "%s/%s", at, folders[each]) < (int)sizeof path)
+			if (snprintf(path, sizeof path, "%s/%s", at, folders[i]) < (int)sizeof path)
 				add_folder(search, path, 1);
 		}
 	free(data);
@@ -149,21 +149,21 @@ static bool is_malformed(const struct protocol *protocol)
 {
 	static const char *const words[] = { "<interface", "<request", "<event" };
 	const char *end;
-	for (size_t each = 0; each < sizeof words / sizeof *words; each++)
-		for (const char *at = protocol->text.bytes; (at = next_tag(at, words[each], &end));)
+	for (size_t i = 0; i < sizeof words / sizeof *words; i++)
+		for (const char *at = protocol->text.bytes; (at = next_tag(at, words[i], &end));)
 			if (!can_be_in_tables(attribute(at, end, "name")))
 				return true;
 	return false;
 }
 
-static void declare_protocol(struct search *search, size_t place)
+static void declare_protocol(struct search *search, size_t index)
 {
-	struct protocol *protocol = &search->protocols[place];
+	struct protocol *protocol = &search->protocols[index];
 	const char *at = protocol->text.bytes, *end;
 	while ((at = next_tag(at, "<interface", &end))) {
 		struct name name = attribute(at, end, "name"), version = attribute(at, end, "version");
 		if (name.bytes && version.bytes)
-			declare(search, name, (uint32_t)strtoul(version.bytes, NULL, 10), place);
+			declare(search, name, (uint32_t)strtoul(version.bytes, NULL, 10), index);
 	}
 }
 
@@ -183,8 +183,8 @@ static void declare_core(struct search *search, const waywire_tables *core)
 {
 	struct name name;
 	uint32_t version;
-	for (uint16_t each = 0; !waywire_tables_name(core, each, &name.bytes, &name.length); each++)
-		if (!waywire_tables_version(core, each, &version))
+	for (uint16_t i = 0; !waywire_tables_name(core, i, &name.bytes, &name.length); i++)
+		if (!waywire_tables_version(core, i, &version))
 			declare(search, name, version, IN_TABLES);
 }
 
@@ -194,14 +194,15 @@ static void declare_core(struct search *search, const waywire_tables *core)
 static void compare_versions(struct search *search)
 {
 	const struct declared *end = search->declared + search->declared_count;
-	for (const struct declared *it = search->declared; it < end; it++) {
-		struct protocol *protocol = it->protocol == IN_TABLES ? NULL : &search->protocols[it->protocol];
+	for (const struct declared *declared = search->declared; declared < end; declared++) {
+		bool is_in_tables = declared->protocol == IN_TABLES;
+		struct protocol *protocol = is_in_tables ? NULL : &search->protocols[declared->protocol];
 		bool is_known = false;
 		for (const struct declared *other = search->declared; protocol && other < end; other++) {
-			if (!is_same_name(it->name, other->name))
+			if (!is_same_name(declared->name, other->name))
 				continue;
-			is_known |= other->protocol == IN_TABLES && other->version >= it->version;
-			protocol->is_older |= other->version > it->version;
+			is_known |= other->protocol == IN_TABLES && other->version >= declared->version;
+			protocol->is_older |= other->version > declared->version;
 		}
 		if (protocol)
 			protocol->is_new |= !is_known;
@@ -211,25 +212,25 @@ static void compare_versions(struct search *search)
 /* Chooses the XML to convert, and reports it. */
 static void choose(struct search *search)
 {
-	for (size_t each = 0; each < search->protocol_count; each++) {
-		struct protocol *it = &search->protocols[each];
-		if (!it->is_new || it->is_older)
+	for (size_t i = 0; i < search->protocol_count; i++) {
+		struct protocol *protocol = &search->protocols[i];
+		if (!protocol->is_new || protocol->is_older)
 			continue;
-		it->is_wanted = !is_malformed(it);
-		search->wanted_count += it->is_wanted;
+		protocol->is_wanted = !is_malformed(protocol);
+		search->wanted_count += protocol->is_wanted;
 		if (search->is_verbose)
-			notice(it->is_wanted ? "%s is read: it has what no table has"
-				: "%s is passed over: it has a name that no table can have", it->path);
+			notice(protocol->is_wanted ? "%s is read: it has what no table has"
+				: "%s is passed over: it has a name that no table can have", protocol->path);
 	}
 }
 
 /* Whether no interface of a text is converted. */
 static bool stands_beside(const struct search *search, const struct source *source)
 {
-	for (size_t each = 0; each < search->declared_count; each++) {
-		const struct declared *it = &search->declared[each];
-		if (it->protocol != IN_TABLES && search->protocols[it->protocol].is_wanted
-			&& source_declares(source, it->name))
+	for (size_t i = 0; i < search->declared_count; i++) {
+		const struct declared *declared = &search->declared[i];
+		if (declared->protocol != IN_TABLES && search->protocols[declared->protocol].is_wanted
+			&& source_declares(source, declared->name))
 			return false;
 	}
 	return true;
@@ -250,8 +251,8 @@ static bool names_one_of(const struct protocol *protocol, const struct source *s
 /* Whether the converted XML names interfaces of a text. */
 static bool is_named(const struct search *search, const struct source *source)
 {
-	for (size_t each = 0; each < search->protocol_count; each++)
-		if (search->protocols[each].is_wanted && names_one_of(&search->protocols[each], source))
+	for (size_t i = 0; i < search->protocol_count; i++)
+		if (search->protocols[i].is_wanted && names_one_of(&search->protocols[i], source))
 			return stands_beside(search, source);
 	return false;
 }
@@ -293,24 +294,24 @@ static bool convert_wanted(const struct search *search, const struct source *sou
 	add_word(&words, tool);
 	add_word(&words, "--whole");
 	add_word(&words, "--pass-over");
-	for (size_t each = 0; each < search->protocol_count; each++)
-		if (search->protocols[each].is_wanted)
-			add_origin(&words, search->protocols[each].path);
-	for (size_t each = 0; each < source_count; each++)
-		if (is_named(search, &sources[each])) {
+	for (size_t i = 0; i < search->protocol_count; i++)
+		if (search->protocols[i].is_wanted)
+			add_origin(&words, search->protocols[i].path);
+	for (size_t i = 0; i < source_count; i++)
+		if (is_named(search, &sources[i])) {
 			add_word(&words, "--with");
-			add_word(&words, sources[each].path);
+			add_word(&words, sources[i].path);
 		}
 	add_word(&words, "--");
-	for (size_t each = 0; each < search->protocol_count; each++)
-		if (search->protocols[each].is_wanted)
-			add_word(&words, search->protocols[each].path);
+	for (size_t i = 0; i < search->protocol_count; i++)
+		if (search->protocols[i].is_wanted)
+			add_word(&words, search->protocols[i].path);
 	add_word(&words, NULL);
 	bool is_made = !run_to_end(words.of, made, !search->is_verbose);
 	if (!is_made && search->is_verbose)
 		notice("%s has failed: no installed XML is known", tool);
-	for (size_t each = 0; each < words.count; each++)
-		free(words.of[each]);
+	for (size_t i = 0; i < words.count; i++)
+		free(words.of[i]);
 	free(words.of);
 	return is_made;
 }
@@ -321,16 +322,16 @@ bool installed_protocols(struct text *made, const struct source *sources, size_t
 	struct search search = { .is_verbose = is_verbose };
 	add_installed(&search);
 	declare_core(&search, core);
-	for (size_t each = 0; each < source_count; each++)
-		declare_source(&search, &sources[each]);
-	for (size_t each = 0; each < search.protocol_count; each++)
-		declare_protocol(&search, each);
+	for (size_t i = 0; i < source_count; i++)
+		declare_source(&search, &sources[i]);
+	for (size_t i = 0; i < search.protocol_count; i++)
+		declare_protocol(&search, i);
 	compare_versions(&search);
 	choose(&search);
 	bool is_made = search.wanted_count && convert_wanted(&search, sources, source_count, made);
-	for (size_t each = 0; each < search.protocol_count; each++) {
-		free(search.protocols[each].path);
-		text_free(&search.protocols[each].text);
+	for (size_t i = 0; i < search.protocol_count; i++) {
+		free(search.protocols[i].path);
+		text_free(&search.protocols[i].text);
 	}
 	free(search.protocols);
 	free(search.declared);

@@ -70,10 +70,10 @@ static void find_pairs(struct role *role, const waywire_tables *tables, uint16_t
 	struct name name;
 	if (waywire_tables_name(tables, interface, &name.bytes, &name.length))
 		return;
-	for (size_t each = 0; each < PAIR_COUNT; each++) {
-		if (!is_name(name, pairs[each].interface))
+	for (size_t i = 0; i < PAIR_COUNT; i++) {
+		if (!is_name(name, pairs[i].interface))
 			continue;
-		role->pairs = role->pairs ? role->pairs : &pairs[each];
+		role->pairs = role->pairs ? role->pairs : &pairs[i];
 		role->pair_count++;
 	}
 }
@@ -205,11 +205,11 @@ static uint64_t answer(struct questions *questions, const struct message *messag
 static uint64_t answer_last(struct questions *questions, const struct message *message, uint64_t key)
 {
 	struct question *question = keyed_find(&questions->open, key);
-	for (struct question *it = question ? question->before : NULL; it;) {
-		struct question *before = it->before;
-		if (it->kind == question->kind)
-			close_question(questions, it);
-		it = before;
+	for (struct question *earlier = question ? question->before : NULL; earlier;) {
+		struct question *before = earlier->before;
+		if (earlier->kind == question->kind)
+			close_question(questions, earlier);
+		earlier = before;
 	}
 	return answer(questions, message, key);
 }
@@ -245,8 +245,8 @@ static uint64_t serial_key(const struct message *message)
 static void note_icon(struct questions *questions, const struct message *message)
 {
 	static char is_icon;
-	size_t place = is_called(message, "set_cursor") ? 1 : is_called(message, "start_drag") ? 2 : 0;
-	const struct object *icon = place && place < message->arg_count ? &message->args[place].object : NULL;
+	size_t index = is_called(message, "set_cursor") ? 1 : is_called(message, "start_drag") ? 2 : 0;
+	const struct object *icon = index && index < message->arg_count ? &message->args[index].object : NULL;
 	if (!icon || !icon->id || icon->state != LIVE || !is_name(icon->name, "wl_surface"))
 		return;
 	if (keyed_put(&questions->icons, icon->id, &is_icon))
@@ -262,8 +262,8 @@ static uint64_t note_request(struct questions *questions, const waywire_tables *
 		return answer(questions, message, serial_key(message));
 	if (role.has_ack && is_called(message, "ack_configure"))
 		return answer_last(questions, message, serial_key(message));
-	for (size_t each = 0; each < role.pair_count; each++)
-		if (role.pairs[each].request && is_called(message, role.pairs[each].request))
+	for (size_t i = 0; i < role.pair_count; i++)
+		if (role.pairs[i].request && is_called(message, role.pairs[i].request))
 			ask(questions, message, message->target.id);
 	if (!message->made.id)
 		return 0;
@@ -282,8 +282,8 @@ static uint64_t note_event(struct questions *questions, const waywire_tables *ta
 	if (has_serial && message->target.state == LIVE && serial_key(message))
 		ask(questions, message, serial_key(message));
 	bool is_answer = message->destroyed.id;
-	for (size_t each = 0; each < (role.pairs ? 3 : 0) && role.pairs->answers[each]; each++)
-		is_answer |= is_called(message, role.pairs->answers[each]);
+	for (size_t i = 0; i < (role.pairs ? 3 : 0) && role.pairs->answers[i]; i++)
+		is_answer |= is_called(message, role.pairs->answers[i]);
 	return is_answer ? answer(questions, message, message->target.id) : 0;
 }
 
@@ -313,9 +313,9 @@ const struct question **questions_open(const struct questions *questions, size_t
 	const struct keyed *open = &questions->open;
 	const struct question **made = open->count ? malloc(open->count * sizeof *made) : NULL;
 	*count = 0;
-	for (size_t each = 0; made && each < open->room; each++)
-		if (open->places[each].value)
-			made[(*count)++] = open->places[each].value;
+	for (size_t i = 0; made && i < open->room; i++)
+		if (open->slots[i].value)
+			made[(*count)++] = open->slots[i].value;
 	if (made)
 		qsort(made, *count, sizeof *made, by_number);
 	return made;
@@ -328,8 +328,8 @@ const struct question_kind *questions_syncs(const struct questions *questions)
 
 static void free_values(struct keyed *keyed)
 {
-	for (size_t each = 0; each < keyed->room; each++)
-		free(keyed->places[each].value);
+	for (size_t i = 0; i < keyed->room; i++)
+		free(keyed->slots[i].value);
 	keyed_free(keyed);
 }
 

@@ -22,9 +22,9 @@ char *tables_beside(struct options *options)
 	size_t lengths[] = { strlen(options->read), without_number(options->read) };
 	if (options->table_count || options->no_tables)
 		return NULL;
-	for (size_t each = 0; each < 2; each++) {
+	for (size_t i = 0; i < 2; i++) {
 		char *path;
-		if (asprintf(&path, "%.*s.tables", (int)lengths[each], options->read) < 0)
+		if (asprintf(&path, "%.*s.tables", (int)lengths[i], options->read) < 0)
 			fail("out of memory");
 		if (!access(path, R_OK)) {
 			options->tables[options->table_count++] = path;

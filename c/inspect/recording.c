@@ -33,11 +33,11 @@ static void find_name(struct client *client)
 		client->name[0] = 0;
 	fclose(file);
 	client->name[strcspn(client->name, "\n")] = 0;
-	for (char *it = client->name; *it;) {
-		size_t size = shown_character((unsigned char *)it, strlen(it));
+	for (char *character = client->name; *character;) {
+		size_t size = shown_character((unsigned char *)character, strlen(character));
 		if (!size)
-			*it = '?';
-		it += size ? size : 1;
+			*character = '?';
+		character += size ? size : 1;
 	}
 }
 
@@ -242,9 +242,9 @@ static size_t lines_of(char *text, const struct recorded *piece)
 	char *at = text + sprintf(text, "# %.6f\n", piece->seconds);
 	*at++ = piece->from == CLIENT ? '>' : '<';
 	*at++ = ' ';
-	for (size_t each = 0; each < piece->length; each++) {
-		*at++ = digits[piece->bytes[each] >> 4];
-		*at++ = digits[piece->bytes[each] & 15];
+	for (size_t i = 0; i < piece->length; i++) {
+		*at++ = digits[piece->bytes[i] >> 4];
+		*at++ = digits[piece->bytes[i] & 15];
 	}
 	if (piece->descriptor_count)
 		at += sprintf(at, " +%zu", piece->descriptor_count);

@@ -19,8 +19,8 @@ struct building {
 
 static void put_word(struct building *message, uint32_t word)
 {
-	for (int each = 0; each < 4; each++)
-		message->bytes[message->length++] = (unsigned char)(word >> 8 * each);
+	for (int i = 0; i < 4; i++)
+		message->bytes[message->length++] = (unsigned char)(word >> 8 * i);
 }
 
 static void put_string(struct building *message, const char *string, size_t length)
@@ -90,7 +90,7 @@ void reopen_begin(struct reopening *reopening, struct follower *follower, size_t
 	*reopening = (struct reopening){ follower, next, next + 1 };
 	/* The library accepts an id only after as many messages as there are ids before it. Messages without an
 	 * id change nothing. */
-	for (size_t each = 0; each < (most > next ? most : next) + 2; each++)
+	for (size_t i = 0; i < (most > next ? most : next) + 2; i++)
 		give_delete_id(reopening, 0);
 	struct building message = begun(DISPLAY_ID);
 	put_word(&message, reopening->registry);
@@ -142,8 +142,9 @@ static bool put_arguments(struct building *message, const waywire_tables *tables
 	uint32_t new_id)
 {
 	waywire_kind kind;
-	for (size_t place = 0; place < found->arg_count; place++)
-		if (waywire_tables_kind(tables, found->interface, (waywire_sender)found->from, found->opcode, place, &kind)
+	for (size_t i = 0; i < found->arg_count; i++)
+		if (waywire_tables_kind(tables, found->interface, (waywire_sender)found->from, found->opcode, i,
+				&kind)
 			|| !put_argument(message, &kind, new_id))
 			return false;
 	return true;
@@ -169,8 +170,8 @@ static bool find_ending(const waywire_tables *tables, uint16_t interface, uint32
 static bool makes(const waywire_tables *tables, const struct found *found, uint16_t interface)
 {
 	waywire_kind kind;
-	for (size_t place = 0; place < found->arg_count; place++)
-		if (!waywire_tables_kind(tables, found->interface, WAYWIRE_FROM_SERVER, found->opcode, place, &kind)
+	for (size_t i = 0; i < found->arg_count; i++)
+		if (!waywire_tables_kind(tables, found->interface, WAYWIRE_FROM_SERVER, found->opcode, i, &kind)
 			&& kind.kind == WAYWIRE_NEW_BY_SERVER && kind.interface == interface)
 			return true;
 	return false;
@@ -182,11 +183,11 @@ static bool find_making(const waywire_tables *tables, uint16_t interface, uint32
 	waywire_message message;
 	const char *name;
 	size_t length;
-	for (uint16_t each = 0; !waywire_tables_name(tables, each, &name, &length); each++)
-		for (uint16_t opcode = 0; !waywire_tables_message(tables, each, WAYWIRE_FROM_SERVER, opcode, &message, NULL,
-				NULL); opcode++) {
+	for (uint16_t other = 0; !waywire_tables_name(tables, other, &name, &length); other++)
+		for (uint16_t opcode = 0; !waywire_tables_message(tables, other, WAYWIRE_FROM_SERVER, opcode, &message,
+				NULL, NULL); opcode++) {
 			struct building tried = { .length = 0 };
-			*found = (struct found){ each, opcode, COMPOSITOR, message.arg_count };
+			*found = (struct found){ other, opcode, COMPOSITOR, message.arg_count };
 			if (message.since <= version && makes(tables, found, interface)
 				&& put_arguments(&tried, tables, found, 1))
 				return true;

@@ -173,8 +173,8 @@ static int wait_for_any(struct run *run)
 	run->polled[0] = (struct pollfd){ is_closed ? -1 : waywire_listening_socket_fd(run->listener), POLLIN, 0 };
 	run->is_later = run->is_full;
 	run->is_full = false;
-	for (struct session *it = run->sessions; it; it = it->next, count += 2)
-		run->is_later |= session_wants(it, run->polled + count);
+	for (struct session *session = run->sessions; session; session = session->next, count += 2)
+		run->is_later |= session_wants(session, run->polled + count);
 	int milliseconds = patience(run);
 	struct timespec time = { milliseconds / 1000, milliseconds % 1000 * 1000000L };
 	return ppoll(run->polled, (nfds_t)count, milliseconds < 0 ? NULL : &time,
@@ -186,8 +186,8 @@ static void step(struct run *run)
 {
 	bool has_client = run->polled[0].revents;
 	const struct pollfd *polled = run->polled + 1;
-	for (struct session *it = run->sessions; it; it = it->next, polled += 2)
-		session_step(it, &run->shared, polled);
+	for (struct session *session = run->sessions; session; session = session->next, polled += 2)
+		session_step(session, &run->shared, polled);
 	end_sessions(run, false);
 	if (has_client)
 		accept_client(run);

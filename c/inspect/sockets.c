@@ -53,8 +53,8 @@ waywire_listening_socket *listen_in_runtime_folder(void)
 	waywire_listening_socket *made = NULL;
 	char name[64];
 	errno = EADDRINUSE;
-	for (int each = 0; !made && errno == EADDRINUSE && each < NAMES; each++) {
-		snprintf(name, sizeof name, each ? "waywire-%ld-%d" : "waywire-%ld", (long)getpid(), each);
+	for (int i = 0; !made && errno == EADDRINUSE && i < NAMES; i++) {
+		snprintf(name, sizeof name, i ? "waywire-%ld-%d" : "waywire-%ld", (long)getpid(), i);
 		made = waywire_socket_listen(name);
 	}
 	if (!made && errno == ENAMETOOLONG)

@@ -20,19 +20,18 @@ static uint64_t key_of(const struct message *message)
 		+ (uint64_t)message->from;
 }
 
-/* The place of the counts of a message; null if memory runs out. Other names of the same key have the next one. */
+/* The counts of a message; null if memory runs out. Other names of the same key have the next one. */
 static struct counted *counted_at(struct stats *stats, const struct message *message)
 {
 	uint64_t key = key_of(message);
-	/* A place is stored as its number plus 1. */
-	for (uintptr_t place; (place = (uintptr_t)keyed_find(&stats->places, key)); key++)
-		if (is_of(&stats->counted[place - 1], message))
-			return &stats->counted[place - 1];
+	for (uintptr_t number; (number = (uintptr_t)keyed_find(&stats->numbers, key)); key++)
+		if (is_of(&stats->counted[number - 1], message))
+			return &stats->counted[number - 1];
 	struct counted *counted = room_for_one(stats->counted, stats->count, sizeof *counted);
 	if (!counted)
 		return NULL;
 	stats->counted = counted;
-	if (!keyed_put(&stats->places, key, (void *)(uintptr_t)(stats->count + 1)))
+	if (!keyed_put(&stats->numbers, key, (void *)(uintptr_t)(stats->count + 1)))
 		return NULL;
 	counted += stats->count++;
 	*counted = (struct counted){ message->target.name, message->name, message->from, 0, 0, 0 };
@@ -57,13 +56,13 @@ static int most_first(const void *one, const void *other)
 	return first->from - second->from;
 }
 
-static void put_counted(struct text *text, const struct counted *it)
+static void put_counted(struct text *text, const struct counted *counted)
 {
-	text_format(text, "%10" PRIu64 " %10" PRIu64 " %11" PRIu64 "  %s ", it->count, it->bytes, it->descriptors,
-		it->from == CLIENT ? "->" : "<-");
-	text_put_name(text, it->interface);
+	text_format(text, "%10" PRIu64 " %10" PRIu64 " %11" PRIu64 "  %s ", counted->count, counted->bytes,
+		counted->descriptors, counted->from == CLIENT ? "->" : "<-");
+	text_put_name(text, counted->interface);
 	text_add(text, ".");
-	text_put_name(text, it->message);
+	text_put_name(text, counted->message);
 	text_add(text, "\n");
 }
 
@@ -72,8 +71,8 @@ static void count_open(struct stats *open, const struct follower *follower, wayw
 {
 	uint32_t first = maker == WAYWIRE_FROM_SERVER ? WAYWIRE_FIRST_SERVER_ID : 0;
 	size_t count = waywire_inspector_id_count(follower->inspector, maker);
-	for (size_t each = 0; each < count; each++) {
-		struct message as_if = { .target = object_of(follower, first + (uint32_t)each) };
+	for (size_t i = 0; i < count; i++) {
+		struct message as_if = { .target = object_of(follower, first + (uint32_t)i) };
 		struct counted *counted = as_if.target.state == LIVE ? counted_at(open, &as_if) : NULL;
 		if (counted)
 			counted->count++;
@@ -88,10 +87,10 @@ static void put_open(struct text *text, const struct follower *follower)
 	if (open.count)
 		qsort(open.counted, open.count, sizeof *open.counted, most_first);
 	text_add(text, "objects left open\n");
-	for (size_t each = 0; each < open.count; each++) {
-		const struct counted *it = &open.counted[each];
-		text_format(text, "%10" PRIu64 "  ", it->count);
-		text_put_name(text, it->interface);
+	for (size_t i = 0; i < open.count; i++) {
+		const struct counted *counted = &open.counted[i];
+		text_format(text, "%10" PRIu64 "  ", counted->count);
+		text_put_name(text, counted->interface);
 		text_add(text, "\n");
 	}
 	stats_free(&open);
@@ -123,8 +122,8 @@ void stats_put(struct text *text, const struct stats *stats, const struct follow
 	if (stats->count)
 		qsort(stats->counted, stats->count, sizeof *stats->counted, most_first);
 	text_add(text, "  messages      bytes descriptors\n");
-	for (size_t each = 0; each < stats->count; each++)
-		put_counted(text, &stats->counted[each]);
+	for (size_t i = 0; i < stats->count; i++)
+		put_counted(text, &stats->counted[i]);
 	put_trips(text, questions_syncs(questions));
 	put_unanswered(text, questions, until);
 	put_open(text, follower);
@@ -133,6 +132,6 @@ void stats_put(struct text *text, const struct stats *stats, const struct follow
 void stats_free(struct stats *stats)
 {
 	free(stats->counted);
-	keyed_free(&stats->places);
+	keyed_free(&stats->numbers);
 	*stats = (struct stats){ 0 };
 }

@@ -18,9 +18,9 @@ static waywire_status read_joined(const waywire_tables *core, const struct sourc
 	waywire_tables **tables, size_t *line, uint32_t *rule)
 {
 	struct text joined = { NULL, 0, 0 };
-	for (size_t each = 0; each < sources->count; each++)
-		if (sources->of[each].bytes)
-			text_put(&joined, sources->of[each].bytes, sources->of[each].length);
+	for (size_t i = 0; i < sources->count; i++)
+		if (sources->of[i].bytes)
+			text_put(&joined, sources->of[i].bytes, sources->of[i].length);
 	waywire_status status = waywire_tables_read(core, joined.bytes ? joined.bytes : "", joined.length, tables,
 		line, rule);
 	text_free(&joined);
@@ -47,8 +47,8 @@ static void leave_out(struct source *source, const char *why)
 /* Leaves out the first installed text without which the tables are valid. False if there is none. */
 static bool leave_out_another(const waywire_tables *core, struct sources *sources, const char *why)
 {
-	for (size_t each = 0; each < sources->count; each++) {
-		struct source *source = &sources->of[each];
+	for (size_t i = 0; i < sources->count; i++) {
+		struct source *source = &sources->of[i];
 		char *bytes = source->bytes;
 		waywire_tables *tables;
 		if (source->is_given || !bytes)
@@ -109,8 +109,8 @@ static void note(struct known *known, const struct source *source)
 	const char *end = strrchr(name, '.');
 	size_t length = end && end > name ? (size_t)(end - name) : strlen(name);
 	text_add(&known->names, " ");
-	for (size_t each = 0; each < length; each++)
-		text_add(&known->names, (unsigned char)name[each] <= ' ' ? "_" : (char[]){ name[each], 0 });
+	for (size_t i = 0; i < length; i++)
+		text_add(&known->names, (unsigned char)name[i] <= ' ' ? "_" : (char[]){ name[i], 0 });
 	text_format(&known->joined, "# From ");
 	text_put_quoted(&known->joined, source->path, strlen(source->path));
 	text_add(&known->joined, ".\n");
@@ -132,40 +132,40 @@ static char **installed_texts(size_t *count)
 /* Reads the installed texts. */
 static void add_installed(struct sources *sources, char **paths, size_t count)
 {
-	for (size_t each = 0; each < count; each++) {
-		struct source *source = &sources->of[each];
-		source->path = paths[each];
+	for (size_t i = 0; i < count; i++) {
+		struct source *source = &sources->of[i];
+		source->path = paths[i];
 		source_read(source);
 	}
 }
 
 /* Reads what the system's XML has and no text has. It is put after the installed texts. */
-static void add_protocols(struct sources *sources, size_t place, const waywire_tables *core, bool is_verbose)
+static void add_protocols(struct sources *sources, size_t index, const waywire_tables *core, bool is_verbose)
 {
 	static char name[] = "installed-xml";
 	struct text made = { NULL, 0, 0 };
 	if (installed_protocols(&made, sources->of, sources->count, core, is_verbose))
-		source_take(&sources->of[place], &made);
+		source_take(&sources->of[index], &made);
 	else
 		text_free(&made);
-	sources->of[place].path = name;
+	sources->of[index].path = name;
 }
 
 /* Removes from each text the interfaces that a later text declares, unless the later one is installed. */
 static void take_out_what_is_replaced(struct sources *sources, size_t first)
 {
 	for (size_t other = first; other < sources->count; other++)
-		for (size_t each = 0; each < other && sources->of[other].bytes; each++)
-			if (sources->of[each].bytes && !sources->of[each].is_given)
-				source_without(&sources->of[each], &sources->of[other]);
+		for (size_t i = 0; i < other && sources->of[other].bytes; i++)
+			if (sources->of[i].bytes && !sources->of[i].is_given)
+				source_without(&sources->of[i], &sources->of[other]);
 }
 
 static void free_sources(struct sources *sources, char **paths, size_t count)
 {
-	for (size_t each = 0; each < sources->count; each++)
-		free(sources->of[each].bytes);
-	for (size_t each = 0; each < count; each++)
-		free(paths[each]);
+	for (size_t i = 0; i < sources->count; i++)
+		free(sources->of[i].bytes);
+	for (size_t i = 0; i < count; i++)
+		free(paths[i]);
 	free(paths);
 	free(sources->of);
 }
@@ -179,9 +179,9 @@ void known_read(struct known *known, const struct options *options)
 	if (!sources.of || waywire_tables_core(&core))
 		fail("out of memory");
 	add_installed(&sources, paths, count);
-	for (size_t each = 0; each < given; each++) {
-		struct source *source = &sources.of[count + 1 + each];
-		*source = (struct source){ .path = options->tables[each], .is_given = true };
+	for (size_t i = 0; i < given; i++) {
+		struct source *source = &sources.of[count + 1 + i];
+		*source = (struct source){ .path = options->tables[i], .is_given = true };
 		source_read(source);
 	}
 	if (!options->no_tables)
@@ -191,8 +191,8 @@ void known_read(struct known *known, const struct options *options)
 	waywire_tables_free(core);
 	text_add(&known->names, "core");
 	text_add(&known->joined, "# The table texts that waywire-inspect read, joined.\n");
-	for (size_t each = 0; each < sources.count; each++)
-		note(known, &sources.of[each]);
+	for (size_t i = 0; i < sources.count; i++)
+		note(known, &sources.of[i]);
 	free_sources(&sources, paths, count);
 }
 

@@ -55,8 +55,8 @@ void text_format(struct text *text, const char *format, ...)
 void text_hex(struct text *text, const unsigned char *bytes, size_t length)
 {
 	static const char digits[] = "0123456789abcdef";
-	for (size_t each = 0; each < length; each++) {
-		char both[] = { digits[bytes[each] >> 4], digits[bytes[each] & 15] };
+	for (size_t i = 0; i < length; i++) {
+		char both[] = { digits[bytes[i] >> 4], digits[bytes[i] & 15] };
 		text_put(text, both, sizeof both);
 	}
 }
@@ -85,9 +85,9 @@ bool is_same_name(struct name one, struct name other)
 	return one.length == other.length && !memcmp(one.bytes, other.bytes, one.length);
 }
 
-int digit_value(char it)
+int digit_value(char digit)
 {
-	return it >= '0' && it <= '9' ? it - '0' : it >= 'a' && it <= 'f' ? it - 'a' + 10 : -1;
+	return digit >= '0' && digit <= '9' ? digit - '0' : digit >= 'a' && digit <= 'f' ? digit - 'a' + 10 : -1;
 }
 
 void *room_for_one(void *array, size_t count, size_t size)
@@ -108,10 +108,10 @@ size_t character_length(const unsigned char *bytes, size_t length, uint32_t *cha
 	if (!size || size > length)
 		return 0;
 	uint32_t read = size == 1 ? first : first & (0x7fu >> size);
-	for (size_t each = 1; each < size; each++) {
-		if (bytes[each] >> 6 != 2)
+	for (size_t i = 1; i < size; i++) {
+		if (bytes[i] >> 6 != 2)
 			return 0;
-		read = read << 6 | (bytes[each] & 0x3f);
+		read = read << 6 | (bytes[i] & 0x3f);
 	}
 	if (read < least[size] || read > 0x10ffff || (read >= 0xd800 && read < 0xe000))
 		return 0;
@@ -121,11 +121,12 @@ size_t character_length(const unsigned char *bytes, size_t length, uint32_t *cha
 
 size_t shown_character(const unsigned char *bytes, size_t length)
 {
-	uint32_t it;
-	size_t size = character_length(bytes, length, &it);
-	bool is_control = size && (it < ' ' || (it > '~' && it < 0xa0));
-	bool is_turning = size && ((it >= 0x2028 && it <= 0x202e) || (it >= 0x2066 && it <= 0x2069)
-		|| it == 0x200e || it == 0x200f || it == 0xfeff);
+	uint32_t character;
+	size_t size = character_length(bytes, length, &character);
+	bool is_control = size && (character < ' ' || (character > '~' && character < 0xa0));
+	bool is_turning = size && ((character >= 0x2028 && character <= 0x202e)
+		|| (character >= 0x2066 && character <= 0x2069)
+		|| character == 0x200e || character == 0x200f || character == 0xfeff);
 	return is_control || is_turning ? 0 : size;
 }
 

@@ -40,7 +40,7 @@ bool is_name(struct name name, const char *wanted);
 bool is_same_name(struct name one, struct name other);
 
 /* The value of a hexadecimal digit, with letters in lower case; -1 for any other character. */
-int digit_value(char it);
+int digit_value(char digit);
 
 /* Makes room in an array of so many elements for one more: the room doubles if it is full. Null if memory runs
  * out: then the array is as before. */

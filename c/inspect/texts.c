@@ -145,8 +145,8 @@ void source_take(struct source *source, struct text *taken)
 	if (!source->bytes)
 		fail("out of memory");
 	source->lines = 0;
-	for (size_t each = 0; each < text.length; each++)
-		source->lines += text.bytes[each] == '\n';
+	for (size_t i = 0; i < text.length; i++)
+		source->lines += text.bytes[i] == '\n';
 }
 
 /* ---- what a text declares */
@@ -214,11 +214,11 @@ char **installed_files(const char *end, size_t *count)
 	if (entries < 0)
 		return NULL;
 	char **paths = calloc((size_t)entries + 1, sizeof *paths);
-	for (int each = 0; each < entries; each++) {
-		const char *name = found[each]->d_name;
+	for (int i = 0; i < entries; i++) {
+		const char *name = found[i]->d_name;
 		if (!paths || (ends_with(name, end) && asprintf(&paths[(*count)++], "%s/%s", folder, name) < 0))
 			fail("out of memory");
-		free(found[each]);
+		free(found[i]);
 	}
 	free(found);
 	return paths;

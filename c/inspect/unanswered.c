@@ -55,14 +55,15 @@ static void add_open(struct groups *groups, const struct questions *questions)
 	const struct question **open = questions_open(questions, &count);
 	if (open)
 		qsort(open, count, sizeof *open, by_group);
-	for (size_t each = 0; each < count; each++) {
-		const struct question *it = open[each];
+	for (size_t i = 0; i < count; i++) {
+		const struct question *question = open[i];
 		struct group *last = groups->count ? &groups->groups[groups->count - 1] : NULL;
-		bool is_whole = is_mute(it->kind);
-		if (last && last->kind == it->kind && (is_whole || last->id == it->id))
+		bool is_whole = is_mute(question->kind);
+		if (last && last->kind == question->kind && (is_whole || last->id == question->id))
 			last->count++;
 		else
-			add_group(groups, &(struct group){ it->kind, is_whole ? 0 : it->id, 1, it->number, it->seconds });
+			add_group(groups, &(struct group){ question->kind, is_whole ? 0 : question->id, 1,
+				question->number, question->seconds });
 	}
 	free(open);
 }
@@ -71,8 +72,8 @@ static void add_open(struct groups *groups, const struct questions *questions)
  * destroyed. */
 static void add_mute(struct groups *groups, const struct questions *questions)
 {
-	for (size_t each = 0; each < questions->kinds.room; each++) {
-		const struct question_kind *kind = questions->kinds.places[each].value;
+	for (size_t i = 0; i < questions->kinds.room; i++) {
+		const struct question_kind *kind = questions->kinds.slots[i].value;
 		if (kind && is_mute(kind) && !kind->open)
 			add_group(groups, &(struct group){ kind, 0, 0, 0, kind->first });
 	}
@@ -120,12 +121,12 @@ void unanswered_put(struct text *text, const struct questions *questions, double
 	add_mute(&groups, questions);
 	if (groups.count)
 		qsort(groups.groups, groups.count, sizeof *groups.groups, by_wait);
-	for (size_t each = 0; each < groups.count; each++) {
-		const struct group *it = &groups.groups[each];
-		bool is_long = least <= 0 || (it->seconds >= 0 && until - it->seconds >= least);
+	for (size_t i = 0; i < groups.count; i++) {
+		const struct group *group = &groups.groups[i];
+		bool is_long = least <= 0 || (group->seconds >= 0 && until - group->seconds >= least);
 		count += is_long;
 		if (is_long && count <= most)
-			put_group(text, it, until);
+			put_group(text, group, until);
 	}
 	if (count > most)
 		text_format(text, "and %zu more that were not answered\n", count - most);
@@ -138,8 +139,8 @@ void print_unanswered(const struct shown *shown, const struct questions *questio
 	if (shown->options->json) {
 		size_t count;
 		const struct question **open = questions_open(questions, &count);
-		for (size_t each = 0; each < count; each++)
-			json_unanswered(shown, open[each], until);
+		for (size_t i = 0; i < count; i++)
+			json_unanswered(shown, open[i], until);
 		free(open);
 		return;
 	}

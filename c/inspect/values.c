@@ -55,17 +55,17 @@ static void put_names(struct text *text, const struct meaning *meaning, uint32_t
 	struct name names[MOST_NAMES];
 	uint32_t rest;
 	size_t count = names_of_value(meaning, value, names, &rest);
-	for (size_t each = 0; each < count; each++) {
-		text_add(text, each ? "|" : " ");
-		text_put(text, names[each].bytes, names[each].length);
+	for (size_t i = 0; i < count; i++) {
+		text_add(text, i ? "|" : " ");
+		text_put(text, names[i].bytes, names[i].length);
 	}
 	if (count && rest)
 		text_format(text, "|0x%" PRIx32, rest);
 }
 
-uint32_t number_at(const waywire_arg *array, size_t place)
+uint32_t number_at(const waywire_arg *array, size_t index)
 {
-	const unsigned char *bytes = (const unsigned char *)array->bytes + 4 * place;
+	const unsigned char *bytes = (const unsigned char *)array->bytes + 4 * index;
 	return bytes[0] | (uint32_t)bytes[1] << 8 | (uint32_t)bytes[2] << 16 | (uint32_t)bytes[3] << 24;
 }
 
@@ -82,9 +82,9 @@ static void put_contents(struct text *text, const struct argument *argument)
 	text_add(text, " {");
 	if (!has_numbers(argument))
 		text_hex(text, (const unsigned char *)argument->value.bytes, length);
-	for (size_t each = 0; has_numbers(argument) && each < count && each < MOST_NUMBERS; each++) {
-		uint32_t number = number_at(&argument->value, each);
-		text_format(text, each ? ", %" PRIu32 : "%" PRIu32, number);
+	for (size_t i = 0; has_numbers(argument) && i < count && i < MOST_NUMBERS; i++) {
+		uint32_t number = number_at(&argument->value, i);
+		text_format(text, i ? ", %" PRIu32 : "%" PRIu32, number);
 		put_names(text, &argument->meaning, number);
 	}
 	text_add(text, has_numbers(argument) && count > MOST_NUMBERS ? ", ..}" : "}");
@@ -103,15 +103,15 @@ void put_meaning(struct text *text, const struct argument *argument)
 /* Whether there is anything to put after an argument of a message. */
 static bool has_meaning(const struct message *message)
 {
-	for (size_t place = 0; place < message->arg_count; place++) {
-		const struct argument *argument = &message->args[place];
+	for (size_t i = 0; i < message->arg_count; i++) {
+		const struct argument *argument = &message->args[i];
 		if (argument->value.kind == WAYWIRE_ARRAY ? argument->value.length > 0 : argument->meaning.entries != NULL)
 			return true;
 	}
 	return false;
 }
 
-/* Puts this part of a line, if the line has it at a place. Returns its end; 0 if the line has something else there. */
+/* Puts this part of a line, if the line has it at `at`. Returns its end; 0 if the line has something else there. */
 static size_t put_part(struct text *text, const struct text *line, size_t at, const struct text *part)
 {
 	if (!part->length || part->length > line->length - at || memcmp(line->bytes + at, part->bytes, part->length))
@@ -128,10 +128,10 @@ void put_line_with_names(struct text *text, const struct message *message, const
 		put_front_of_message(&part, message);
 		at = put_part(text, line, 0, &part);
 	}
-	for (size_t place = 0; at && place < message->arg_count; place++) {
-		const struct argument *argument = &message->args[place];
+	for (size_t i = 0; at && i < message->arg_count; i++) {
+		const struct argument *argument = &message->args[i];
 		part.length = 0;
-		text_add(&part, place ? ", " : "");
+		text_add(&part, i ? ", " : "");
 		put_printed_argument(&part, argument);
 		at = put_part(text, line, at, &part);
 		if (at)

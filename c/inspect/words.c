@@ -40,26 +40,26 @@ static void put_unknown_message(struct text *text, const struct message *message
 		message->target.version, kind_of(message), message->signature.since);
 }
 
-/* Puts an argument's place, counted from 0 as in a verdict. */
-static void put_place(struct text *text, size_t place)
+/* Puts an argument's index, from 0 as in a verdict. */
+static void put_index(struct text *text, size_t index)
 {
-	text_format(text, "argument %zu: ", place);
+	text_format(text, "argument %zu: ", index);
 }
 
-/* The argument at a place; one of no object where it was not read. */
-static struct object object_at(const struct message *message, size_t place)
+/* The argument at an index; one of no object if it was not read. */
+static struct object object_at(const struct message *message, size_t index)
 {
-	return place < message->arg_count ? message->args[place].object : (struct object){ 0 };
+	return index < message->arg_count ? message->args[index].object : (struct object){ 0 };
 }
 
 static void put_bad_object(struct text *text, const struct follower *follower, const struct message *message,
-	size_t place)
+	size_t index)
 {
-	struct object object = object_at(message, place);
+	struct object object = object_at(message, index);
 	waywire_kind kind;
 	const char *name;
 	size_t length;
-	put_place(text, place);
+	put_index(text, index);
 	if (object.state != LIVE) {
 		put_gone(text, &object);
 		return;
@@ -67,17 +67,17 @@ static void put_bad_object(struct text *text, const struct follower *follower, c
 	put_object(text, &object);
 	text_add(text, " is given");
 	if (!waywire_tables_kind(follower->tables, message->target.interface, (waywire_sender)message->from,
-			message->opcode, place, &kind)
+			message->opcode, index, &kind)
 		&& !waywire_tables_name(follower->tables, kind.interface, &name, &length))
 		text_format(text, ", and a %.*s is wanted", (int)length, name);
 }
 
 static void put_bad_new_id(struct text *text, const struct follower *follower, const struct message *message,
-	size_t place)
+	size_t index)
 {
-	uint32_t id = object_at(message, place).id;
+	uint32_t id = object_at(message, index).id;
 	struct object old = object_of(follower, id);
-	put_place(text, place);
+	put_index(text, index);
 	if (!id)
 		text_add(text, "a new id is not 0");
 	else if (old.state == LIVE) {
@@ -119,11 +119,11 @@ void put_fault(struct text *text, const struct follower *follower, const struct 
 	case 2: put_gone(text, &message->target); break;
 	case 3: put_unknown_message(text, message); break;
 	case 4:
-		put_place(text, fault->place);
+		put_index(text, fault->index);
 		text_add(text, waywire_strspelling(fault->spelling));
 		break;
-	case 5: put_bad_object(text, follower, message, fault->place); break;
-	case 6: put_bad_new_id(text, follower, message, fault->place); break;
+	case 5: put_bad_object(text, follower, message, fault->index); break;
+	case 6: put_bad_new_id(text, follower, message, fault->index); break;
 	case 7: text_add(text, "bytes stand behind its last argument"); break;
 	case 8:
 		text_format(text, "it needs %zu file descriptors, and fewer came", message->descriptor_count);
@@ -140,8 +140,8 @@ struct object object_at_fault(const struct follower *follower, const struct mess
 	struct object object = { 0 };
 	switch (fault->number) {
 	case 2: object = message->target; break;
-	case 5: object = object_at(message, fault->place); break;
-	case 6: object = object_of(follower, object_at(message, fault->place).id); break;
+	case 5: object = object_at(message, fault->index); break;
+	case 6: object = object_of(follower, object_at(message, fault->index).id); break;
 	default: break;
 	}
 	return object.id == DISPLAY_ID ? (struct object){ 0 } : object;

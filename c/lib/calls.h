@@ -26,7 +26,7 @@ struct waywire_tables {
 };
 
 /* A layout that the exports have too. */
-#define SAME(name, it) typedef char same_##name[(it) ? 1 : -1]
+#define SAME(name, holds) typedef char same_##name[(holds) ? 1 : -1]
 
 /* So the compiler may put a function into its callers, although the code can be moved in memory. */
 #define HIDDEN __attribute__((visibility("hidden")))

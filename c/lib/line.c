@@ -41,10 +41,10 @@ static void put_number(struct text *text, const char *format, ...)
 static void put_string(struct text *text, const char *bytes, size_t length)
 {
 	put_words(text, "\"");
-	for (size_t place = 0; place < length; place++) {
-		unsigned char byte = (unsigned char)bytes[place];
+	for (size_t i = 0; i < length; i++) {
+		unsigned char byte = (unsigned char)bytes[i];
 		if (byte >= ' ' && byte <= '~' && byte != '"' && byte != '\\')
-			put(text, &bytes[place], 1);
+			put(text, &bytes[i], 1);
 		else
 			put_number(text, "\\x%02x", byte);
 	}
@@ -130,12 +130,12 @@ static void put_head(struct text *text, const waywire_tables *tables, waywire_se
 static void put_args(struct text *text, const waywire_tables *tables, waywire_sender sender,
 	const waywire_report *report)
 {
-	for (size_t place = 0; place < report->arg_count; place++) {
+	for (size_t i = 0; i < report->arg_count; i++) {
 		waywire_kind kind;
-		if (waywire_tables_kind(tables, report->interface, sender, (uint16_t)report->opcode, place, &kind))
+		if (waywire_tables_kind(tables, report->interface, sender, (uint16_t)report->opcode, i, &kind))
 			kind.interface = WAYWIRE_ANY_INTERFACE;
-		put_words(text, place ? ", " : "");
-		put_arg(text, tables, kind.interface, &report->args[place]);
+		put_words(text, i ? ", " : "");
+		put_arg(text, tables, kind.interface, &report->args[i]);
 	}
 }
 

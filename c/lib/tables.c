@@ -15,7 +15,7 @@ uint32_t waywire_c_tables_version(struct handle, uint16_t interface, uint32_t *v
 uint32_t waywire_c_tables_message(struct handle, uint16_t interface, uint32_t sender,
 	uint16_t opcode, waywire_message *message, const void **name, size_t *length);
 uint32_t waywire_c_tables_kind(struct handle, uint16_t interface, uint32_t sender,
-	uint16_t opcode, size_t place, waywire_kind *kind);
+	uint16_t opcode, size_t index, waywire_kind *kind);
 uint32_t waywire_c_tables_decode(struct handle, uint16_t interface, uint32_t version,
 	uint32_t sender, const void *bytes, size_t length, waywire_decoded *, waywire_arg *args,
 	size_t arg_count);
@@ -223,11 +223,11 @@ waywire_status waywire_tables_message(const waywire_tables *tables, uint16_t int
 }
 
 waywire_status waywire_tables_kind(const waywire_tables *tables, uint16_t interface,
-	waywire_sender sender, uint16_t opcode, size_t place, waywire_kind *kind)
+	waywire_sender sender, uint16_t opcode, size_t index, waywire_kind *kind)
 {
 	if (!tables || !kind)
 		return WAYWIRE_NULL;
-	return waywire_c_tables_kind(tables->handle, interface, sender, opcode, place, kind);
+	return waywire_c_tables_kind(tables->handle, interface, sender, opcode, index, kind);
 }
 
 /* The interface of a decoded argument, and who makes it if it is new. */
@@ -254,11 +254,11 @@ waywire_status waywire_tables_decode(const waywire_tables *tables, uint16_t inte
 		decoded->args, WAYWIRE_MAX_ARGS);
 	if (status == WAYWIRE_BAD_VALUE || status == WAYWIRE_NOT_FOUND)
 		return status;
-	for (size_t place = 0; place < decoded->arg_count; place++) {
-		waywire_arg *arg = &decoded->args[place];
+	for (size_t i = 0; i < decoded->arg_count; i++) {
+		waywire_arg *arg = &decoded->args[i];
 		waywire_kind kind;
-		waywire_c_tables_kind(tables->handle, interface, sender, decoded->opcode, place, &kind);
-		decoded->interfaces[place] = decoded_interface(tables, &kind, arg);
+		waywire_c_tables_kind(tables->handle, interface, sender, decoded->opcode, i, &kind);
+		decoded->interfaces[i] = decoded_interface(tables, &kind, arg);
 	}
 	return status;
 }

@@ -1,12 +1,12 @@
 /* The caller's pointers: how one is set. */
 #include "users.h"
 
-/* Makes room for the pointer at a place. */
-static waywire_status reach(struct user_range *range, size_t place)
+/* Makes room for the pointer at an index. */
+static waywire_status reach(struct user_range *range, size_t index)
 {
-	if (place < range->count)
+	if (index < range->count)
 		return WAYWIRE_OK;
-	size_t count = place < 2 * range->count ? 2 * range->count : place + 1;
+	size_t count = index < 2 * range->count ? 2 * range->count : index + 1;
 	struct user *more = realloc(range->at, count * sizeof *more);
 	if (!more)
 		return WAYWIRE_NO_MEMORY;
@@ -16,13 +16,13 @@ static waywire_status reach(struct user_range *range, size_t place)
 	return WAYWIRE_OK;
 }
 
-static waywire_status set_in(struct user_range *range, size_t place, uint64_t birth,
+static waywire_status set_in(struct user_range *range, size_t index, uint64_t birth,
 	void *pointer)
 {
-	waywire_status status = pointer ? reach(range, place) : WAYWIRE_OK;
-	if (!status && place < range->count) {
-		range->at[place].birth = birth;
-		range->at[place].pointer = pointer;
+	waywire_status status = pointer ? reach(range, index) : WAYWIRE_OK;
+	if (!status && index < range->count) {
+		range->at[index].birth = birth;
+		range->at[index].pointer = pointer;
 	}
 	return status;
 }

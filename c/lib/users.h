@@ -23,11 +23,11 @@ struct users {
 	struct user_range of_client, of_server;
 };
 
-static inline void *user_in(const struct user_range *range, uint32_t place, uint64_t birth)
+static inline void *user_in(const struct user_range *range, uint32_t index, uint64_t birth)
 {
-	if (place >= range->count || range->at[place].birth != birth)
+	if (index >= range->count || range->at[index].birth != birth)
 		return NULL;
-	return range->at[place].pointer;
+	return range->at[index].pointer;
 }
 
 /* The pointer of an object; null if it has none. Every report asks for it. */

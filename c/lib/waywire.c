@@ -25,7 +25,7 @@ void waywire_c_end_goes(const struct handle *, size_t bytes, size_t tokens,
 void waywire_c_end_take(struct handle *, void *bytes, size_t length, uint32_t *tokens,
 	size_t token_count, waywire_amounts *taken);
 void waywire_c_end_peek(const struct handle *, waywire_part *parts, size_t *tokens);
-uint32_t waywire_c_end_token_to_go(const struct handle *, size_t place, uint32_t *token);
+uint32_t waywire_c_end_token_to_go(const struct handle *, size_t index, uint32_t *token);
 void waywire_c_end_sent(struct handle *, size_t bytes, waywire_amounts *taken);
 void waywire_c_end_space(const struct handle *, waywire_part *parts);
 bool waywire_c_end_received(struct handle *, size_t bytes, const uint32_t *tokens,
@@ -33,7 +33,7 @@ bool waywire_c_end_received(struct handle *, size_t bytes, const uint32_t *token
 void waywire_c_end_take_waiting_tokens(struct handle *, uint32_t *tokens,
 	size_t token_count, size_t *taken);
 uint32_t waywire_c_end_send(struct handle *, waywire_object target, uint16_t opcode,
-	const waywire_arg *args, size_t arg_count, waywire_object *made, size_t *place);
+	const waywire_arg *args, size_t arg_count, waywire_object *made, size_t *index);
 uint32_t waywire_c_end_next(struct handle *, waywire_report *, waywire_arg *args,
 	size_t arg_count);
 
@@ -113,9 +113,9 @@ static waywire_status copy_args(const waywire_arg *args, size_t count, waywire_a
 {
 	if (count && !args)
 		return WAYWIRE_NULL;
-	for (size_t place = 0; place < count; place++) {
-		waywire_arg *copy = &copies[place];
-		*copy = args[place];
+	for (size_t i = 0; i < count; i++) {
+		waywire_arg *copy = &copies[i];
+		*copy = args[i];
 		if (!has_bytes(copy)) {
 			copy->bytes = nowhere;
 			copy->length = 0;
@@ -329,8 +329,8 @@ waywire_status waywire_end_peek(const waywire_end *end, waywire_part parts[2], u
 	if (status)
 		return status;
 	waywire_c_end_peek(&end->handle, parts, token_count);
-	for (size_t place = 0; place < *token_count && place < room; place++)
-		waywire_c_end_token_to_go(&end->handle, place, &tokens[place]);
+	for (size_t i = 0; i < *token_count && i < room; i++)
+		waywire_c_end_token_to_go(&end->handle, i, &tokens[i]);
 	return WAYWIRE_OK;
 }
 
@@ -378,7 +378,7 @@ waywire_status waywire_end_take_waiting_tokens(waywire_end *end, uint32_t *token
 }
 
 waywire_status waywire_end_send(waywire_end *end, waywire_object target, uint16_t opcode,
-	const waywire_arg *args, size_t arg_count, waywire_object *made, size_t *place)
+	const waywire_arg *args, size_t arg_count, waywire_object *made, size_t *index)
 {
 	waywire_arg copies[MAX_GIVEN];
 	waywire_object object;
@@ -397,8 +397,8 @@ waywire_status waywire_end_send(waywire_end *end, waywire_object target, uint16_
 		&object, &refused);
 	if (!status && made)
 		*made = object;
-	if (place && (status == WAYWIRE_WRONG_ARGS || status == WAYWIRE_BAD_OBJECT))
-		*place = refused;
+	if (index && (status == WAYWIRE_WRONG_ARGS || status == WAYWIRE_BAD_OBJECT))
+		*index = refused;
 	return status;
 }
 

@@ -125,12 +125,12 @@ EXPORT struct wl_display *wl_display_connect(const char *name)
 static void let_go_of_all(struct wl_display *display)
 {
 	const waywire_end *end = display->client.end;
-	waywire_object it = { 0, 0 };
-	while (!waywire_end_object_after(end, it.id, &it)) {
+	waywire_object object = { 0, 0 };
+	while (!waywire_end_object_after(end, object.id, &object)) {
 		struct wl_proxy *proxy = NULL;
 		/* The pointer of a dead object of the server may be invalid. */
-		if (it.id < WAYWIRE_FIRST_SERVER_ID || !waywire_end_live(end, it, NULL, NULL))
-			proxy = waywire_end_user(end, it);
+		if (object.id < WAYWIRE_FIRST_SERVER_ID || !waywire_end_live(end, object, NULL, NULL))
+			proxy = waywire_end_user(end, object);
 		if (proxy)
 			let_go(proxy);
 	}
@@ -204,7 +204,7 @@ EXPORT void wl_display_set_max_buffer_size(struct wl_display *display, size_t mo
 void close_descriptors(const waywire_report *report)
 {
 	int error = errno;
-	for (size_t each = 0; each < report->token_count; each++)
-		close((int)report->tokens[each]);
+	for (size_t i = 0; i < report->token_count; i++)
+		close((int)report->tokens[i]);
 	errno = error;
 }

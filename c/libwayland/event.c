@@ -43,18 +43,18 @@ static struct event *new_event(struct wl_proxy *proxy, const struct signature *s
 }
 
 /* Whether an argument is a proxy, or null. */
-static bool is_object(const struct event *event, size_t place)
+static bool is_object(const struct event *event, size_t index)
 {
-	return event->signature.letters[place] == 'o' || event->signature.letters[place] == 'n';
+	return event->signature.letters[index] == 'o' || event->signature.letters[index] == 'n';
 }
 
 static void free_event(struct event *event)
 {
-	for (size_t place = 0; place < event->signature.count; place++) {
-		union wl_argument *arg = &event->args[place];
-		if (event->signature.letters[place] == 'h' && !event->was_delivered)
+	for (size_t i = 0; i < event->signature.count; i++) {
+		union wl_argument *arg = &event->args[i];
+		if (event->signature.letters[i] == 'h' && !event->was_delivered)
 			close(arg->h);
-		if (is_object(event, place) && arg->o)
+		if (is_object(event, i) && arg->o)
 			release_proxy((struct wl_proxy *)arg->o);
 	}
 	release_proxy(event->proxy);
@@ -64,14 +64,14 @@ static void free_event(struct event *event)
 /* Makes null the arguments whose proxies the program has destroyed since they were read. */
 static void drop_destroyed(struct event *event)
 {
-	for (size_t place = 0; place < event->signature.count; place++) {
-		if (!is_object(event, place))
+	for (size_t i = 0; i < event->signature.count; i++) {
+		if (!is_object(event, i))
 			continue;
-		struct wl_proxy *proxy = (struct wl_proxy *)event->args[place].o;
+		struct wl_proxy *proxy = (struct wl_proxy *)event->args[i].o;
 		if (!proxy || !proxy->is_destroyed)
 			continue;
 		release_proxy(proxy);
-		event->args[place].o = NULL;
+		event->args[i].o = NULL;
 	}
 }
 
@@ -79,9 +79,9 @@ static void drop_destroyed(struct event *event)
  * event names it. */
 static void destroy_made(const struct event *event)
 {
-	for (size_t place = 0; place < event->signature.count; place++) {
-		struct wl_proxy *made = (struct wl_proxy *)event->args[place].o;
-		if (event->signature.letters[place] != 'n' || !made || made->is_shown)
+	for (size_t i = 0; i < event->signature.count; i++) {
+		struct wl_proxy *made = (struct wl_proxy *)event->args[i].o;
+		if (event->signature.letters[i] != 'n' || !made || made->is_shown)
 			continue;
 		int own = 2 + made->is_held; /* the program's, this event's and the client's */
 		if (made->references == own)
@@ -92,9 +92,9 @@ static void destroy_made(const struct event *event)
 /* Remembers that the program sees the proxies of an event. */
 static void show_proxies(const struct event *event)
 {
-	for (size_t place = 0; place < event->signature.count; place++)
-		if (is_object(event, place) && event->args[place].o)
-			((struct wl_proxy *)event->args[place].o)->is_shown = true;
+	for (size_t i = 0; i < event->signature.count; i++)
+		if (is_object(event, i) && event->args[i].o)
+			((struct wl_proxy *)event->args[i].o)->is_shown = true;
 }
 
 /* The last events come first: each is gone before the one that made what it names. */
@@ -155,8 +155,8 @@ struct sizes {
 };
 
 /* Reads the signature of the event that a report is for. False if the interface of its proxy has no such event,
- * or one with other arguments, because the tables were made from another struct. The tables allow null in more
- * places. */
+ * or one with other arguments, because the tables were made from another struct. The tables allow null for more
+ * arguments. */
 static bool read_event(const struct wl_proxy *proxy, const waywire_report *report,
 	struct signature *signature, struct sizes *sizes)
 {
@@ -166,10 +166,10 @@ static bool read_event(const struct wl_proxy *proxy, const waywire_report *repor
 		|| !read_signature(signature, interface->events[report->opcode].signature)
 		|| signature->count != report->arg_count)
 		return false;
-	for (size_t place = 0; place < signature->count; place++) {
-		const waywire_arg *arg = &report->args[place];
-		if (!is_of_letter(arg, signature->letters[place])
-			|| (is_null(arg) && !signature->nullable[place]))
+	for (size_t i = 0; i < signature->count; i++) {
+		const waywire_arg *arg = &report->args[i];
+		if (!is_of_letter(arg, signature->letters[i])
+			|| (is_null(arg) && !signature->nullable[i]))
 			return false;
 		if (arg->kind == WAYWIRE_ARRAY)
 			sizes->arrays += sizeof(struct wl_array);
@@ -256,11 +256,11 @@ static void limit_fixes(struct event *event)
 }
 
 /* Makes the proxy of a new object. False with errno. */
-static bool make_new(struct event *event, size_t place, waywire_object object)
+static bool make_new(struct event *event, size_t index, waywire_object object)
 {
 	struct wl_proxy *maker = event->proxy;
 	const struct wl_interface **types = event->message->types;
-	const struct wl_interface *interface = types ? types[place] : NULL;
+	const struct wl_interface *interface = types ? types[index] : NULL;
 	if (!interface || !agrees_with_tables(maker->display, interface)) {
 		errno = EINVAL;
 		return false;
@@ -269,7 +269,7 @@ static bool make_new(struct event *event, size_t place, waywire_object object)
 	if (!made)
 		return false;
 	give_object(made, object);
-	event->args[place].o = referenced(made);
+	event->args[index].o = referenced(made);
 	return true;
 }
 
@@ -279,7 +279,7 @@ static struct event *copy_message(struct wl_proxy *proxy, const waywire_report *
 {
 	struct signature signature;
 	struct sizes sizes;
-	size_t new_place = WAYWIRE_MAX_ARGS;
+	size_t new_index = WAYWIRE_MAX_ARGS;
 	if (!read_event(proxy, report, &signature, &sizes)) {
 		log_line("%s@%u: event %u is none of its interface, or has a wrong null\n",
 			proxy->object.interface->name, proxy->object.id, report->opcode);
@@ -295,17 +295,17 @@ static struct event *copy_message(struct wl_proxy *proxy, const waywire_report *
 	}
 	union wl_argument *end = event->args + signature.count;
 	struct behind behind = { (void *)end, (char *)end + sizes.arrays };
-	for (size_t place = 0; place < signature.count; place++) {
-		const waywire_arg *arg = &report->args[place];
-		copy_argument(proxy->display, arg, signature.letters[place], &behind,
-			&event->args[place]);
+	for (size_t i = 0; i < signature.count; i++) {
+		const waywire_arg *arg = &report->args[i];
+		copy_argument(proxy->display, arg, signature.letters[i], &behind,
+			&event->args[i]);
 		if (arg->kind == WAYWIRE_NEW)
-			new_place = place;
+			new_index = i;
 	}
 	limit_fixes(event);
 	/* Last, since this ends the report. */
-	if (new_place < WAYWIRE_MAX_ARGS
-		&& !make_new(event, new_place, report->args[new_place].object)) {
+	if (new_index < WAYWIRE_MAX_ARGS
+		&& !make_new(event, new_index, report->args[new_index].object)) {
 		free_event(event);
 		return NULL;
 	}
@@ -489,11 +489,11 @@ static void call_listener(void (*function)(void), void *data, const struct event
 	word v[WAYWIRE_MAX_ARGS] = { 0 };
 	size_t count = event->signature.count;
 	void *proxy = event->proxy;
-	for (size_t place = 0; place < count; place++) {
-		const union wl_argument *arg = &event->args[place];
-		char letter = event->signature.letters[place];
-		bool is_pointer = letter == 's' || letter == 'a' || is_object(event, place);
-		v[place] = is_pointer ? (word)arg->s : arg->u;
+	for (size_t i = 0; i < count; i++) {
+		const union wl_argument *arg = &event->args[i];
+		char letter = event->signature.letters[i];
+		bool is_pointer = letter == 's' || letter == 'a' || is_object(event, i);
+		v[i] = is_pointer ? (word)arg->s : arg->u;
 	}
 	if (count <= 4)
 		((call_4 *)function)(data, proxy, v[0], v[1], v[2], v[3]);

@@ -57,12 +57,12 @@ static void print_fixed(FILE *line, wl_fixed_t number)
 		fprintf(line, "%d.%08d", whole, parts * 390625);
 }
 
-static void print_new(FILE *line, const struct printed_message *printed, size_t place)
+static void print_new(FILE *line, const struct printed_message *printed, size_t index)
 {
 	const struct wl_interface **types = printed->message->types;
-	const struct wl_object *object = printed->is_request ? NULL : printed->args[place].o;
+	const struct wl_object *object = printed->is_request ? NULL : printed->args[index].o;
 	uint32_t id = object ? object->id : printed->made;
-	fprintf(line, "new id %s@", types && types[place] ? types[place]->name : "[unknown]");
+	fprintf(line, "new id %s@", types && types[index] ? types[index]->name : "[unknown]");
 	if (id)
 		fprintf(line, "%u", id);
 	else
@@ -94,9 +94,9 @@ static void print_array(FILE *line, const struct wl_array *array)
 }
 
 static void print_argument(FILE *line, const struct printed_message *printed, char letter,
-	size_t place)
+	size_t index)
 {
-	const union wl_argument *arg = &printed->args[place];
+	const union wl_argument *arg = &printed->args[index];
 	switch (letter) {
 	case 'i':
 		fprintf(line, "%d", arg->i);
@@ -114,7 +114,7 @@ static void print_argument(FILE *line, const struct printed_message *printed, ch
 		print_object(line, arg->o);
 		break;
 	case 'n':
-		print_new(line, printed, place);
+		print_new(line, printed, index);
 		break;
 	case 'a':
 		print_array(line, arg->a);
@@ -127,14 +127,14 @@ static void print_argument(FILE *line, const struct printed_message *printed, ch
 
 static void print_arguments(FILE *line, const struct printed_message *printed)
 {
-	size_t place = 0;
+	size_t index = 0;
 	for (const char *letter = printed->message->signature; *letter; letter++) {
 		if (!strchr("iufsonah", *letter))
 			continue;
-		if (place)
+		if (index)
 			fputs(", ", line);
-		print_argument(line, printed, *letter, place);
-		place++;
+		print_argument(line, printed, *letter, index);
+		index++;
 	}
 }
 

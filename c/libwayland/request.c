@@ -20,7 +20,7 @@ struct request {
 	struct signature signature;
 	union wl_argument *args;
 	struct wl_proxy *made; /* the proxy of the object that it makes; null if it makes none */
-	size_t new_place;      /* the argument that is the new object */
+	size_t new_index;      /* the argument that is the new object */
 	bool is_bind;
 };
 
@@ -105,9 +105,9 @@ static bool find_new(struct request *request)
 {
 	if (!request->signature.has_new)
 		return false;
-	for (size_t place = 0; place < request->signature.count; place++)
-		if (request->signature.letters[place] == 'n') {
-			request->new_place = place;
+	for (size_t i = 0; i < request->signature.count; i++)
+		if (request->signature.letters[i] == 'n') {
+			request->new_index = i;
 			return true;
 		}
 	return false;
@@ -119,7 +119,7 @@ static const char *name_of_new(const struct request *request)
 	const struct wl_interface **types = request->message->types;
 	if (request->is_bind)
 		return request->args[BIND_INTERFACE].s;
-	return types && types[request->new_place] ? types[request->new_place]->name : NULL;
+	return types && types[request->new_index] ? types[request->new_index]->name : NULL;
 }
 
 /* Whether an object can be made whose interface is that of the proxy. */
@@ -147,9 +147,9 @@ static int duplicate(int descriptor)
 
 static void close_duplicates(const waywire_arg *args, size_t count)
 {
-	for (size_t place = 0; place < count; place++)
-		if (args[place].kind == WAYWIRE_FD)
-			close((int)args[place].u);
+	for (size_t i = 0; i < count; i++)
+		if (args[i].kind == WAYWIRE_FD)
+			close((int)args[i].u);
 }
 
 static waywire_arg object_argument(const struct wl_object *object)
@@ -202,11 +202,11 @@ static int convert_argument(char letter, bool nullable, const union wl_argument 
 static int convert(const struct request *request, waywire_arg out[WAYWIRE_MAX_ARGS])
 {
 	const struct signature *signature = &request->signature;
-	for (size_t place = 0; place < signature->count; place++) {
-		int error = convert_argument(signature->letters[place], signature->nullable[place],
-			&request->args[place], &out[place]);
+	for (size_t i = 0; i < signature->count; i++) {
+		int error = convert_argument(signature->letters[i], signature->nullable[i],
+			&request->args[i], &out[i]);
 		if (error) {
-			close_duplicates(out, place);
+			close_duplicates(out, i);
 			return error;
 		}
 	}
@@ -254,11 +254,11 @@ static void print_request(const struct request *request, const waywire_arg *args
 	union wl_argument printed_args[WAYWIRE_MAX_ARGS];
 	struct printed_message printed = { &request->proxy->object, request->message, printed_args,
 		made, true, false };
-	for (size_t place = 0; place < request->signature.count; place++)
-		if (request->signature.letters[place] == 'h')
-			printed_args[place].h = (int32_t)args[place].u;
+	for (size_t i = 0; i < request->signature.count; i++)
+		if (request->signature.letters[i] == 'h')
+			printed_args[i].h = (int32_t)args[i].u;
 		else
-			printed_args[place] = request->args[place];
+			printed_args[i] = request->args[i];
 	print_message(&printed);
 }
 
@@ -302,11 +302,11 @@ static bool find_made(struct request *request, const struct wl_interface *interf
 	if (!request->message)
 		return refuse(request, EINVAL, "its interface has none, or a malformed one");
 	if (!interface) { /* the program has called wl_proxy_create */
-		request->made = (struct wl_proxy *)args[request->new_place].o;
+		request->made = (struct wl_proxy *)args[request->new_index].o;
 		return request->made || refuse(request, EINVAL, "its new object is null");
 	}
 	if (request->made)
-		args[request->new_place].o = &request->made->object;
+		args[request->new_index].o = &request->made->object;
 	return request->made;
 }
 
@@ -331,9 +331,9 @@ static struct wl_proxy *make_request(struct request *request, const struct wl_in
 static void read_arguments(const struct signature *signature, union wl_argument *args,
 	va_list given)
 {
-	for (size_t place = 0; place < signature->count; place++) {
-		union wl_argument *arg = &args[place];
-		switch (signature->letters[place]) {
+	for (size_t i = 0; i < signature->count; i++) {
+		union wl_argument *arg = &args[i];
+		switch (signature->letters[i]) {
 		case 'i':
 		case 'f':
 		case 'h':

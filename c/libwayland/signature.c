@@ -21,9 +21,9 @@ static const uint8_t classes[UCHAR_MAX + 1] = {
 	['?'] = QUESTION,
 };
 
-static bool is_digit(char it)
+static bool is_digit(char letter)
 {
-	return it >= '0' && it <= '9';
+	return letter >= '0' && letter <= '9';
 }
 
 /* The text after the number at the front of a signature; null if the number is above UINT32_MAX. */

@@ -21,7 +21,7 @@
 #define MOST_NAME 256
 #define MOST_MESSAGES 256
 
-/* The places of interfaces in all tables. */
+/* The indices of interfaces in all tables. */
 #define REGISTRY 1
 #define CALLBACK 2
 #define FIXES 18
@@ -57,15 +57,15 @@ static bool show_struct(struct shown_message *shown, const struct wl_message *me
 		|| !read_signature(&signature, message->signature))
 		return false;
 	shown->count = signature.count;
-	for (size_t place = 0; place < signature.count; place++) {
-		struct shown_argument *arg = &shown->args[place];
-		char letter = signature.letters[place];
+	for (size_t i = 0; i < signature.count; i++) {
+		struct shown_argument *arg = &shown->args[i];
+		char letter = signature.letters[i];
 		bool is_object = letter == 'o' || letter == 'n';
 		const struct wl_interface *type = NULL;
 		if (is_object && !message->types)
 			return false;
 		if (is_object)
-			type = message->types[place];
+			type = message->types[i];
 		if (type && !is_name(type->name))
 			return false;
 		if (letter == 'n' && sender == WAYWIRE_FROM_SERVER)
@@ -101,10 +101,10 @@ static bool show_tables(struct shown_message *shown, const waywire_tables *table
 			NULL))
 		return false;
 	shown->count = message.arg_count;
-	for (size_t place = 0; place < message.arg_count; place++) {
-		struct shown_argument *arg = &shown->args[place];
+	for (size_t i = 0; i < message.arg_count; i++) {
+		struct shown_argument *arg = &shown->args[i];
 		waywire_kind kind;
-		waywire_tables_kind(tables, interface, sender, (uint16_t)opcode, place, &kind);
+		waywire_tables_kind(tables, interface, sender, (uint16_t)opcode, i, &kind);
 		arg->letter = letter_of(kind.kind);
 		arg->interface = NULL;
 		arg->length = 0;
@@ -119,8 +119,8 @@ static bool are_same(const struct shown_message *one, const struct shown_message
 {
 	if (one->count != other->count)
 		return false;
-	for (size_t place = 0; place < one->count; place++) {
-		const struct shown_argument *a = &one->args[place], *b = &other->args[place];
+	for (size_t i = 0; i < one->count; i++) {
+		const struct shown_argument *a = &one->args[i], *b = &other->args[i];
 		if (a->letter != b->letter || a->length != b->length
 			|| (a->length && memcmp(a->interface, b->interface, a->length)))
 			return false;
@@ -164,9 +164,9 @@ static bool is_well_formed(const struct wl_interface *interface)
 }
 
 /* wl_display, wl_registry, wl_callback and wl_fixes stay as they are in all tables. */
-static bool is_fixed(uint16_t place)
+static bool is_fixed(uint16_t index)
 {
-	return place <= CALLBACK || place == FIXES;
+	return index <= CALLBACK || index == FIXES;
 }
 
 /* Whether a message of a struct is that of the tables. The interface and version of a bind are
@@ -197,15 +197,15 @@ static size_t count_in_tables(const waywire_tables *tables, uint16_t interface,
 
 /* The first message of a struct that differs from the tables; its count if there is none. Messages
  * that the tables do not have differ too, unless the interface is fixed. */
-static size_t first_that_differs(const waywire_tables *tables, uint16_t interface,
-	waywire_sender sender, const struct wl_interface *it)
+static size_t first_that_differs(const waywire_tables *tables, uint16_t index,
+	waywire_sender sender, const struct wl_interface *interface)
 {
-	size_t count, opcode = 0, known = count_in_tables(tables, interface, sender);
-	const struct wl_message *messages = messages_of(it, sender, &count);
+	size_t count, opcode = 0, known = count_in_tables(tables, index, sender);
+	const struct wl_message *messages = messages_of(interface, sender, &count);
 	while (opcode < count) {
-		if (opcode == known && is_fixed(interface))
+		if (opcode == known && is_fixed(index))
 			return count;
-		if (!is_in_tables(tables, interface, sender, opcode, &messages[opcode]))
+		if (!is_in_tables(tables, index, sender, opcode, &messages[opcode]))
 			break;
 		opcode++;
 	}
@@ -214,15 +214,15 @@ static size_t first_that_differs(const waywire_tables *tables, uint16_t interfac
 
 static bool agrees(const waywire_tables *tables, const struct wl_interface *interface)
 {
-	uint16_t place;
+	uint16_t index;
 	if (!is_well_formed(interface))
 		return false;
-	if (waywire_tables_interface(tables, interface->name, &place)) {
+	if (waywire_tables_interface(tables, interface->name, &index)) {
 		log_line("%s: the interface is not known\n", interface->name);
 		return false;
 	}
 	for (int sender = 0; sender < 2; sender++) {
-		size_t count, differs = first_that_differs(tables, place, sender, interface);
+		size_t count, differs = first_that_differs(tables, index, sender, interface);
 		const struct wl_message *messages = messages_of(interface, sender, &count);
 		if (differs == count)
 			continue;
@@ -321,8 +321,8 @@ static void add_message(struct text *text, waywire_sender sender, size_t opcode,
 	show_struct(&shown, message, sender);
 	snprintf(name, sizeof name, "%s m%zu", sender ? "event" : "request", opcode);
 	add(text, name);
-	for (size_t place = 0; place < shown.count; place++)
-		add_argument(text, &shown.args[place]);
+	for (size_t i = 0; i < shown.count; i++)
+		add_argument(text, &shown.args[i]);
 	add(text, "\n");
 }
 
@@ -352,8 +352,8 @@ struct growth {
 /* Lists an interface, unless it is listed or known. False with errno. */
 static bool reach(struct growth *growth, const struct wl_interface *interface)
 {
-	for (size_t each = 0; each < growth->count; each++)
-		if (growth->reached[each].interface == interface)
+	for (size_t i = 0; i < growth->count; i++)
+		if (growth->reached[i].interface == interface)
 			return true;
 	if (is_known(growth->display, interface))
 		return true;
@@ -375,13 +375,13 @@ static bool reach_named(struct growth *growth, const struct wl_interface *interf
 	for (int sender = 0; sender < 2; sender++) {
 		size_t count;
 		const struct wl_message *messages = messages_of(interface, sender, &count);
-		for (const struct wl_message *it = messages; it < messages + count; it++) {
+		for (const struct wl_message *message = messages; message < messages + count; message++) {
 			struct signature signature;
-			read_signature(&signature, it->signature);
-			for (size_t place = 0; it->types && place < signature.count; place++) {
-				char letter = signature.letters[place];
+			read_signature(&signature, message->signature);
+			for (size_t i = 0; message->types && i < signature.count; i++) {
+				char letter = signature.letters[i];
 				bool is_object = letter == 'o' || letter == 'n';
-				if (is_object && it->types[place] && !reach(growth, it->types[place]))
+				if (is_object && message->types[i] && !reach(growth, message->types[i]))
 					return false;
 			}
 		}
@@ -394,13 +394,13 @@ static bool reach_all(struct growth *growth, const struct wl_interface *interfac
 {
 	if (!reach(growth, interface))
 		return false;
-	for (size_t each = 0; each < growth->count; each++) {
-		const struct wl_interface *it = growth->reached[each].interface;
-		if (!is_well_formed(it)) {
+	for (size_t i = 0; i < growth->count; i++) {
+		const struct wl_interface *reached = growth->reached[i].interface;
+		if (!is_well_formed(reached)) {
 			errno = EINVAL;
 			return false;
 		}
-		if (!reach_named(growth, it))
+		if (!reach_named(growth, reached))
 			return false;
 	}
 	return true;
@@ -434,17 +434,17 @@ struct known_messages {
 static bool count_known(const struct growth *growth, const struct wl_interface *interface,
 	struct known_messages *known)
 {
-	uint16_t place;
-	if (waywire_tables_interface(growth->tables, interface->name, &place))
+	uint16_t index;
+	if (waywire_tables_interface(growth->tables, interface->name, &index))
 		return true;
 	known->is_new = false;
-	if (is_fixed(place))
+	if (is_fixed(index))
 		return false;
 	for (int sender = 0; sender < 2; sender++) {
 		size_t count;
 		messages_of(interface, sender, &count);
-		known->counts[sender] = count_in_tables(growth->tables, place, sender);
-		size_t differs = first_that_differs(growth->tables, place, sender, interface);
+		known->counts[sender] = count_in_tables(growth->tables, index, sender);
+		size_t differs = first_that_differs(growth->tables, index, sender, interface);
 		if (differs < count && differs < known->counts[sender])
 			return false;
 	}
@@ -452,12 +452,12 @@ static bool count_known(const struct growth *growth, const struct wl_interface *
 }
 
 /* Counts also those of the structs of this name that were written before. False if they differ. */
-static bool count_written(const struct growth *growth, size_t place, struct known_messages *known)
+static bool count_written(const struct growth *growth, size_t index, struct known_messages *known)
 {
-	const struct wl_interface *interface = growth->reached[place].interface;
-	for (size_t each = 0; each < place; each++) {
-		const struct wl_interface *other = growth->reached[each].interface;
-		if (!growth->reached[each].is_written || strcmp(other->name, interface->name))
+	const struct wl_interface *interface = growth->reached[index].interface;
+	for (size_t i = 0; i < index; i++) {
+		const struct wl_interface *other = growth->reached[i].interface;
+		if (!growth->reached[i].is_written || strcmp(other->name, interface->name))
 			continue;
 		if (!have_same(interface, other))
 			return false;
@@ -474,13 +474,13 @@ static bool count_written(const struct growth *growth, size_t place, struct know
 
 /* Writes what the tables and the text lack of a struct. One that contradicts them is left out: it
  * is refused once the program makes an object of it. */
-static void write_interface(struct growth *growth, size_t place)
+static void write_interface(struct growth *growth, size_t index)
 {
-	const struct wl_interface *interface = growth->reached[place].interface;
+	const struct wl_interface *interface = growth->reached[index].interface;
 	struct known_messages known = { true, { 0, 0 } };
-	if (!count_known(growth, interface, &known) || !count_written(growth, place, &known))
+	if (!count_known(growth, interface, &known) || !count_written(growth, index, &known))
 		return;
-	growth->reached[place].is_written = true;
+	growth->reached[index].is_written = true;
 	bool is_longer = (size_t)interface->method_count > known.counts[WAYWIRE_FROM_CLIENT]
 		|| (size_t)interface->event_count > known.counts[WAYWIRE_FROM_SERVER];
 	if (!known.is_new && !is_longer)
@@ -501,8 +501,8 @@ static bool write_growth(struct growth *growth, const struct wl_interface *inter
 {
 	if (!reach_all(growth, interface))
 		return false;
-	for (size_t place = 0; place < growth->count; place++)
-		write_interface(growth, place);
+	for (size_t i = 0; i < growth->count; i++)
+		write_interface(growth, i);
 	if (growth->text.has_failed)
 		errno = ENOMEM;
 	return !growth->text.has_failed;
@@ -517,9 +517,9 @@ static void end_growth(struct growth *growth)
 /* Remembers the interfaces that the tables have completely, once they have the text. */
 static void remember_written(const struct growth *growth)
 {
-	for (size_t each = 0; each < growth->count; each++)
-		if (growth->reached[each].is_written)
-			remember(growth->display, growth->reached[each].interface);
+	for (size_t i = 0; i < growth->count; i++)
+		if (growth->reached[i].is_written)
+			remember(growth->display, growth->reached[i].interface);
 }
 
 /* Whether a text was read. If not, sets errno, and says on stderr which line breaks which rule. */
@@ -577,9 +577,9 @@ static void write_versions(struct growth *growth)
 {
 	const char *name;
 	size_t length;
-	uint16_t place = 0;
-	for (; !waywire_tables_name(growth->tables, place, &name, &length); place++)
-		if (!is_fixed(place))
+	uint16_t index = 0;
+	for (; !waywire_tables_name(growth->tables, index, &name, &length); index++)
+		if (!is_fixed(index))
 			add_head(&growth->text, "extend ", name, length);
 }
 

@@ -27,7 +27,7 @@ struct timespec;
  *     i  int        u  uint      f  fixed    s  string    o  object
  *     n  new id     a  array     h  file descriptor
  *
- * A `?` before an `s` or an `o` allows null. `types` has a place for each argument: the interface
+ * A `?` before an `s` or an `o` allows null. `types` has an entry for each argument: the interface
  * of an `o` or `n`, and null for an argument of another kind, or of any interface. */
 struct wl_message {
 	const char *name;
@@ -35,7 +35,7 @@ struct wl_message {
 	const struct wl_interface **types;
 };
 
-/* An interface. Requests are the methods; an opcode is a place in one of the two arrays. */
+/* An interface. Requests are the methods; an opcode is an index in one of the two arrays. */
 struct wl_interface {
 	const char *name;
 	int version;

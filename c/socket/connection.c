@@ -145,11 +145,11 @@ int waywire_connection_fd(const waywire_connection *connection)
 waywire_status waywire_connection_add_global(waywire_connection *connection, const char *interface,
 	uint32_t version, uint32_t *name)
 {
-	uint16_t place;
+	uint16_t index;
 	waywire_status status = waywire_tables_interface(waywire_end_tables(connection->end), interface,
-		&place);
+		&index);
 	if (!status)
-		status = waywire_server_add_global(connection->server, place, version, name);
+		status = waywire_server_add_global(connection->server, index, version, name);
 	return status;
 }
 
@@ -184,8 +184,8 @@ int fail(waywire_connection *connection, int error, const char *text)
 	return ended(connection, error);
 }
 
-/* Whether a fault is one of an argument, whose place its report has. */
-static bool has_place(waywire_status status)
+/* Whether a fault is one of an argument, whose index its report has. */
+static bool is_of_argument(waywire_status status)
 {
 	return status == WAYWIRE_FAULT_BAD_ARGUMENT || status == WAYWIRE_FAULT_BAD_OBJECT
 		|| status == WAYWIRE_FAULT_BAD_NEW_ID;
@@ -194,11 +194,11 @@ static bool has_place(waywire_status status)
 int fail_by_fault(waywire_connection *connection, waywire_status status,
 	const waywire_report *report)
 {
-	char place[48] = "";
-	if (has_place(status))
-		snprintf(place, sizeof place, "argument %zu: ", report->place);
+	char argument[48] = "";
+	if (is_of_argument(status))
+		snprintf(argument, sizeof argument, "argument %zu: ", report->place);
 	snprintf(connection->text, sizeof connection->text,
-		"the message at byte %" PRIu64 ": %s%s%s%s", report->offset, place,
+		"the message at byte %" PRIu64 ": %s%s%s%s", report->offset, argument,
 		waywire_strerror(status), report->spelling ? ": " : "",
 		report->spelling ? waywire_strspelling(report->spelling) : "");
 	connection->failure.kind = WAYWIRE_FAULT;

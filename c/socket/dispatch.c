@@ -7,7 +7,7 @@
 #include <poll.h>
 #include <waywire-core.h>
 
-/* The place of wl_display in all tables. */
+/* The index of wl_display in all tables. */
 #define DISPLAY_INTERFACE 0
 
 /* While messages are read, this many bytes are sent in one go: the size of libwayland's buffer. */
@@ -154,9 +154,9 @@ static bool call(waywire_connection *connection, struct entry *entry, uint16_t i
 		return entry->dispatch(entry->calls, entry->data, report);
 	if (interface >= connection->implemented_count)
 		return false;
-	const struct implemented *it = &connection->implemented[interface];
-	void *data = entry && entry->data ? entry->data : it->data;
-	return it->dispatch && it->dispatch(it->calls, data, report);
+	const struct implemented *calls = &connection->implemented[interface];
+	void *data = entry && entry->data ? entry->data : calls->data;
+	return calls->dispatch && calls->dispatch(calls->calls, data, report);
 }
 
 /* Takes the entry of a report's target out of the report, which gets the data in its place, and

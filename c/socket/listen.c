@@ -43,91 +43,91 @@ static void unlink_quietly(const char *path)
 }
 
 /* Whether the open lock file is still the one at its path: whoever held it may have removed it. */
-static bool has_lock_path(const struct waywire_listening_socket *it)
+static bool has_lock_path(const struct waywire_listening_socket *listening)
 {
 	struct stat open, found;
-	return !fstat(it->lock, &open) && !stat(it->lock_path, &found)
+	return !fstat(listening->lock, &open) && !stat(listening->lock_path, &found)
 		&& open.st_dev == found.st_dev && open.st_ino == found.st_ino;
 }
 
 /* Takes the lock of the path; false with errno, EADDRINUSE if another has it. */
-static bool take_lock(struct waywire_listening_socket *it)
+static bool take_lock(struct waywire_listening_socket *listening)
 {
-	for (int each = 0; each < TRIES; each++) {
-		it->lock = open(it->lock_path, O_RDWR | O_CREAT | O_CLOEXEC, LOCK_MODE);
-		if (it->lock < 0)
+	for (int i = 0; i < TRIES; i++) {
+		listening->lock = open(listening->lock_path, O_RDWR | O_CREAT | O_CLOEXEC, LOCK_MODE);
+		if (listening->lock < 0)
 			return false;
-		if (flock(it->lock, LOCK_EX | LOCK_NB)) {
+		if (flock(listening->lock, LOCK_EX | LOCK_NB)) {
 			if (errno == EWOULDBLOCK)
 				errno = EADDRINUSE;
-			close_quietly(&it->lock);
+			close_quietly(&listening->lock);
 			return false;
 		}
-		if (has_lock_path(it))
+		if (has_lock_path(listening))
 			return true;
-		close_quietly(&it->lock);
+		close_quietly(&listening->lock);
 	}
 	errno = EADDRINUSE;
 	return false;
 }
 
-static void give_lock(struct waywire_listening_socket *it)
+static void give_lock(struct waywire_listening_socket *listening)
 {
-	unlink_quietly(it->lock_path);
-	close_quietly(&it->lock);
+	unlink_quietly(listening->lock_path);
+	close_quietly(&listening->lock);
 }
 
 /* Removes the socket of a server that is gone, whose lock we have. What is no socket stays, and the
  * path cannot be bound. */
-static void remove_stale(const struct waywire_listening_socket *it)
+static void remove_stale(const struct waywire_listening_socket *listening)
 {
 	struct stat found;
-	if (!lstat(it->address.sun_path, &found) && S_ISSOCK(found.st_mode))
-		unlink(it->address.sun_path);
+	if (!lstat(listening->address.sun_path, &found) && S_ISSOCK(found.st_mode))
+		unlink(listening->address.sun_path);
 }
 
 /* Binds the path, whose lock we have, and listens there. */
-static bool bind_path(struct waywire_listening_socket *it)
+static bool bind_path(struct waywire_listening_socket *listening)
 {
-	remove_stale(it);
-	it->fd = socket(AF_UNIX, SOCK_STREAM | SOCK_CLOEXEC | SOCK_NONBLOCK, 0);
-	if (it->fd < 0)
+	remove_stale(listening);
+	listening->fd = socket(AF_UNIX, SOCK_STREAM | SOCK_CLOEXEC | SOCK_NONBLOCK, 0);
+	if (listening->fd < 0)
 		return false;
-	if (!bind(it->fd, (struct sockaddr *)&it->address, sizeof it->address)) {
-		if (!listen(it->fd, BACKLOG))
+	if (!bind(listening->fd, (struct sockaddr *)&listening->address, sizeof listening->address)) {
+		if (!listen(listening->fd, BACKLOG))
 			return true;
-		unlink_quietly(it->address.sun_path);
+		unlink_quietly(listening->address.sun_path);
 	}
-	close_quietly(&it->fd);
+	close_quietly(&listening->fd);
 	return false;
 }
 
 /* Listens under a name; false with errno. */
-static bool listen_at(struct waywire_listening_socket *it, const char *name)
+static bool listen_at(struct waywire_listening_socket *listening, const char *name)
 {
 	if (!*name) {
 		errno = EINVAL;
 		return false;
 	}
-	if (!address_of(&it->address, name))
+	if (!address_of(&listening->address, name))
 		return false;
-	it->name = strlen(it->address.sun_path) - strlen(name);
-	snprintf(it->lock_path, sizeof it->lock_path, "%s.lock", it->address.sun_path);
-	if (!take_lock(it))
+	listening->name = strlen(listening->address.sun_path) - strlen(name);
+	snprintf(listening->lock_path, sizeof listening->lock_path, "%s.lock", listening->address.sun_path);
+	if (!take_lock(listening))
 		return false;
-	if (bind_path(it))
+	if (bind_path(listening))
 		return true;
-	give_lock(it);
+	give_lock(listening);
 	return false;
 }
 
 /* Listens under the first name that is free. */
-static bool listen_at_next(struct waywire_listening_socket *it)
+static bool listen_at_next(struct waywire_listening_socket *listening)
 {
 	for (int number = 1; number <= LAST_NUMBER; number++) {
 		char name[32];
 		snprintf(name, sizeof name, "wayland-%d", number);
-		if (listen_at(it, name))
+		if (listen_at(listening, name))
 			return true;
 	}
 	return false;
@@ -135,14 +135,14 @@ static bool listen_at_next(struct waywire_listening_socket *it)
 
 waywire_listening_socket *waywire_socket_listen(const char *name)
 {
-	struct waywire_listening_socket *it = calloc(1, sizeof *it);
-	if (!it)
+	struct waywire_listening_socket *listening = calloc(1, sizeof *listening);
+	if (!listening)
 		return NULL;
-	it->fd = it->lock = -1;
-	if (name ? listen_at(it, name) : listen_at_next(it))
-		return it;
+	listening->fd = listening->lock = -1;
+	if (name ? listen_at(listening, name) : listen_at_next(listening))
+		return listening;
 	int error = errno;
-	free(it);
+	free(listening);
 	errno = error;
 	return NULL;
 }

@@ -92,10 +92,10 @@ static bool is_left(const waywire_connection *connection, const struct entry *en
 static void sweep(waywire_connection *connection)
 {
 	struct entry left = { .before = &left, .after = &left };
-	struct entry *it = connection->entries.after;
-	while (it != &connection->entries) {
-		struct entry *entry = it;
-		it = it->after;
+	struct entry *next = connection->entries.after;
+	while (next != &connection->entries) {
+		struct entry *entry = next;
+		next = entry->after;
 		if (!is_left(connection, entry))
 			continue;
 		unlink_entry(entry);
@@ -104,9 +104,9 @@ static void sweep(waywire_connection *connection)
 	}
 	connection->sweep_at = FIRST_SWEEP + 2 * connection->entry_count;
 	while (left.after != &left) { /* what destroys data may make and end entries */
-		it = left.after;
-		unlink_entry(it);
-		end_unlinked(it);
+		struct entry *entry = left.after;
+		unlink_entry(entry);
+		end_unlinked(entry);
 	}
 }
 
@@ -185,7 +185,7 @@ void waywire_connection_forget(waywire_connection *connection, waywire_object ob
 		end_entry(connection, entry);
 }
 
-/* Makes room for the listeners at the places before this one. */
+/* Makes room for this number of listeners. */
 static waywire_status reach(waywire_connection *connection, size_t count)
 {
 	if (count <= connection->implemented_count)
@@ -204,21 +204,21 @@ waywire_status waywire_connection_implement(waywire_connection *connection,
 	const waywire_listener *listeners, size_t count, void *data)
 {
 	const waywire_tables *tables = waywire_end_tables(connection->end);
-	size_t places = 0;
-	uint16_t place;
-	for (size_t each = 0; each < count; each++) {
-		waywire_status status = waywire_tables_interface(tables, listeners[each].interface, &place);
+	size_t count_needed = 0;
+	uint16_t index;
+	for (size_t i = 0; i < count; i++) {
+		waywire_status status = waywire_tables_interface(tables, listeners[i].interface, &index);
 		if (status)
 			return status;
-		if (places <= place)
-			places = (size_t)place + 1;
+		if (count_needed <= index)
+			count_needed = (size_t)index + 1;
 	}
-	waywire_status status = reach(connection, places);
-	for (size_t each = 0; !status && each < count; each++) {
-		const waywire_listener *it = &listeners[each];
-		status = waywire_tables_interface(tables, it->interface, &place);
-		connection->implemented[place] = (struct implemented){
-			it->dispatch, it->calls, data };
+	waywire_status status = reach(connection, count_needed);
+	for (size_t i = 0; !status && i < count; i++) {
+		const waywire_listener *listener = &listeners[i];
+		status = waywire_tables_interface(tables, listener->interface, &index);
+		connection->implemented[index] = (struct implemented){
+			listener->dispatch, listener->calls, data };
 	}
 	return status;
 }

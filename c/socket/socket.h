@@ -58,7 +58,7 @@ struct waywire_connection {
 	struct entry entries; /* the head of the ring */
 	size_t entry_count;
 	size_t sweep_at; /* so many entries are looked through for those of objects that are gone */
-	struct implemented *implemented; /* each at the place of its interface */
+	struct implemented *implemented; /* each at the index of its interface */
 	size_t implemented_count;
 
 	bool is_unread;  /* messages may wait in the inbox */

@@ -21,9 +21,9 @@ struct parcel {
 static void begin_parcel(struct parcel *parcel, const waywire_part parts[2])
 {
 	memset(parcel, 0, sizeof *parcel);
-	for (int each = 0; each < 2; each++) {
-		parcel->parts[each].iov_base = parts[each].bytes;
-		parcel->parts[each].iov_len = parts[each].length;
+	for (int i = 0; i < 2; i++) {
+		parcel->parts[i].iov_base = parts[i].bytes;
+		parcel->parts[i].iov_len = parts[i].length;
 	}
 	parcel->message.msg_iov = parcel->parts;
 	parcel->message.msg_iovlen = 2;
@@ -66,11 +66,11 @@ static void close_all(const int *descriptors, size_t count)
 static size_t descriptors_of(struct msghdr *message, int *descriptors)
 {
 	size_t count = 0;
-	for (struct cmsghdr *it = CMSG_FIRSTHDR(message); it; it = CMSG_NXTHDR(message, it)) {
-		if (it->cmsg_level != SOL_SOCKET || it->cmsg_type != SCM_RIGHTS)
+	for (struct cmsghdr *header = CMSG_FIRSTHDR(message); header; header = CMSG_NXTHDR(message, header)) {
+		if (header->cmsg_level != SOL_SOCKET || header->cmsg_type != SCM_RIGHTS)
 			continue;
-		size_t size = it->cmsg_len - CMSG_LEN(0);
-		memcpy(descriptors + count, CMSG_DATA(it), size);
+		size_t size = header->cmsg_len - CMSG_LEN(0);
+		memcpy(descriptors + count, CMSG_DATA(header), size);
 		count += size / sizeof *descriptors;
 	}
 	return count;
@@ -136,8 +136,8 @@ int flush_end(int socket, waywire_end *end, bool *went)
 		}
 		if (!parts[0].length && !parts[1].length)
 			return 0;
-		for (size_t each = 0; each < count; each++)
-			descriptors[each] = (int)tokens[each];
+		for (size_t i = 0; i < count; i++)
+			descriptors[i] = (int)tokens[i];
 		ssize_t sent = waywire_socket_send(socket, parts, descriptors, count);
 		if (sent < 0)
 			return -1;
@@ -178,8 +178,8 @@ ssize_t waywire_socket_fill(int socket, waywire_end *end)
 	ssize_t came = waywire_socket_receive(socket, parts, descriptors, &count);
 	if (came <= 0)
 		return came;
-	for (size_t each = 0; each < count; each++)
-		tokens[each] = (uint32_t)descriptors[each];
+	for (size_t i = 0; i < count; i++)
+		tokens[i] = (uint32_t)descriptors[i];
 	/* It takes in all, since there was room. */
 	waywire_end_received(end, (size_t)came, tokens, count, &fed);
 	return came;

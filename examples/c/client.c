@@ -35,9 +35,9 @@ static bool configured;
 static const char *const types[] = { "text/plain;charset=utf-8", "UTF8_STRING", "text/plain" };
 #define TYPES (sizeof types / sizeof *types)
 
-/* An offer, and the place of its best type; TYPES if it has none. */
+/* An offer, and the index of its best type; TYPES if it has none. */
 struct offer {
-	waywire_wl_data_offer it;
+	waywire_wl_data_offer offer;
 	size_t best;
 };
 
@@ -107,8 +107,8 @@ static waywire_wl_buffer make_buffer(void)
 	uint32_t *pixels = mmap(NULL, (size_t)size, PROT_READ | PROT_WRITE, MAP_SHARED, fd, 0);
 	if (pixels == MAP_FAILED)
 		err(1, "memory");
-	for (size_t each = 0; each < SIDE * SIDE; each++)
-		pixels[each] = COLOUR;
+	for (size_t i = 0; i < SIDE * SIDE; i++)
+		pixels[i] = COLOUR;
 	munmap(pixels, (size_t)size);
 	waywire_wl_shm_pool pool;
 	waywire_wl_buffer buffer;
@@ -154,8 +154,8 @@ static void close_window(void)
 
 static void drop_offer(struct offer *offer)
 {
-	if (offer->it.object.id)
-		must(ww_wl_data_offer_destroy(client, offer->it));
+	if (offer->offer.object.id)
+		must(ww_wl_data_offer_destroy(client, offer->offer));
 	*offer = (struct offer){ .best = TYPES };
 }
 
@@ -164,14 +164,14 @@ static void drop_offer(struct offer *offer)
 static void on_data_offer(void *data, waywire_wl_data_device device, waywire_wl_data_offer made)
 {
 	drop_offer(&pending);
-	pending.it = made;
+	pending.offer = made;
 }
 
 static void on_selection(void *data, waywire_wl_data_device device, waywire_wl_data_offer selected)
 {
 	is_told = true;
 	drop_offer(&selection);
-	if (waywire_object_equal(selected.object, pending.it.object)) {
+	if (waywire_object_equal(selected.object, pending.offer.object)) {
 		selection = pending;
 		pending = (struct offer){ .best = TYPES };
 	}
@@ -186,13 +186,13 @@ static void on_leave(void *data, waywire_wl_data_device device)
 static const struct ww_wl_data_device_events device_events = {
 	.data_offer = on_data_offer, .selection = on_selection, .leave = on_leave };
 
-static void on_offer(void *data, waywire_wl_data_offer it, const char *type)
+static void on_offer(void *data, waywire_wl_data_offer offer, const char *type)
 {
-	if (!waywire_object_equal(it.object, pending.it.object))
+	if (!waywire_object_equal(offer.object, pending.offer.object))
 		return;
-	for (size_t each = 0; each < pending.best; each++)
-		if (!strcmp(type, types[each]))
-			pending.best = each;
+	for (size_t i = 0; i < pending.best; i++)
+		if (!strcmp(type, types[i]))
+			pending.best = i;
 }
 
 static const struct ww_wl_data_offer_events offer_events = { .offer = on_offer };
@@ -238,7 +238,7 @@ static void paste(void)
 		errx(1, "no text is copied");
 	if (pipe2(ends, O_CLOEXEC))
 		err(1, "a pipe");
-	must(ww_wl_data_offer_receive(client, selection.it, types[selection.best], ends[1]));
+	must(ww_wl_data_offer_receive(client, selection.offer, types[selection.best], ends[1]));
 	if (waywire_connection_drain(connection, WAIT))
 		err(1, "the compositor");
 	print_all(ends[0]);

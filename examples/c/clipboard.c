@@ -26,8 +26,8 @@ static void free_source(void *data)
 	struct source *source = data;
 	if (selection == source)
 		select_source(NULL);
-	for (size_t each = 0; each < source->count; each++)
-		free(source->types[each]);
+	for (size_t i = 0; i < source->count; i++)
+		free(source->types[i]);
 	free(source);
 }
 
@@ -75,10 +75,10 @@ void set_selection(struct device *device, waywire_object object)
 /* A device with version 1 of its protocol has no destructor, and goes with its client. */
 static void free_device(void *data)
 {
-	struct device **place = &devices;
-	while (*place != data)
-		place = &(*place)->next;
-	*place = (*place)->next;
+	struct device **link = &devices;
+	while (*link != data)
+		link = &(*link)->next;
+	*link = (*link)->next;
 	free(data);
 }
 
@@ -92,8 +92,8 @@ static waywire_object make_offer(struct device *device)
 		return made;
 	struct offer *offer = new_data(client, made, sizeof *offer, free);
 	offer->source = selection->number;
-	for (size_t each = 0; each < selection->count; each++)
-		may(client, device->protocol->offer(client->server, made, selection->types[each]));
+	for (size_t i = 0; i < selection->count; i++)
+		may(client, device->protocol->offer(client->server, made, selection->types[i]));
 	return made;
 }
 
@@ -122,23 +122,23 @@ static void tell_client(struct client *client)
 	waywire_connection_flush(client->connection);
 	if (waywire_connection_wants_write(client->connection))
 		return;
-	for (struct device *it = devices; it; it = it->next)
-		if (it->client == client && it->told != change
-				&& (!it->protocol->needs_focus || focus == client))
-			tell(it);
+	for (struct device *device = devices; device; device = device->next)
+		if (device->client == client && device->told != change
+				&& (!device->protocol->needs_focus || focus == client))
+			tell(device);
 }
 
 void tell_selection(void)
 {
-	for (struct client *it = clients; it; it = it->next)
-		tell_client(it);
+	for (struct client *client = clients; client; client = client->next)
+		tell_client(client);
 }
 
 void tell_selection_at_focus(struct client *client)
 {
-	for (struct device *it = devices; it; it = it->next)
-		if (it->protocol->needs_focus && it->client == client)
-			tell(it);
+	for (struct device *device = devices; device; device = device->next)
+		if (device->protocol->needs_focus && device->client == client)
+			tell(device);
 }
 
 /* The reader's descriptor goes to the client of the source. If that is not the selection any more,

@@ -69,9 +69,9 @@ static const struct ww_wl_data_source_requests source_requests = { .offer = on_o
 static void on_start_drag(void *data, waywire_wl_data_device device, waywire_wl_data_source source,
 	waywire_wl_surface origin, waywire_wl_surface icon, uint32_t serial)
 {
-	const struct device *it = data;
+	const struct device *at = data;
 	if (source.object.id)
-		must(ww_wl_data_source_send_cancelled(it->client->server, source));
+		must(ww_wl_data_source_send_cancelled(at->client->server, source));
 }
 
 static void on_set_selection(void *data, waywire_wl_data_device device,

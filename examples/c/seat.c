@@ -40,9 +40,9 @@ static void leave(void)
 	struct client *client = focus;
 	if (!client || !is_live(client, focused_surface.object))
 		return;
-	for (size_t each = 0; each < MOST_DEVICES; each++) {
-		waywire_wl_keyboard keyboard = waywire_wl_keyboard_of(client->keyboards[each]);
-		waywire_wl_pointer pointer = waywire_wl_pointer_of(client->pointers[each]);
+	for (size_t i = 0; i < MOST_DEVICES; i++) {
+		waywire_wl_keyboard keyboard = waywire_wl_keyboard_of(client->keyboards[i]);
+		waywire_wl_pointer pointer = waywire_wl_pointer_of(client->pointers[i]);
 		may(client, waywire_wl_keyboard_send_leave(client->server, keyboard, next_serial(),
 			focused_surface));
 		may(client, waywire_wl_pointer_send_leave(client->server, pointer, next_serial(),
@@ -57,11 +57,11 @@ void focus_on(struct client *client)
 	focus = client;
 	focused_surface = client->window.surface;
 	tell_selection_at_focus(client);
-	for (size_t each = 0; each < MOST_DEVICES; each++) {
-		if (is_live(client, client->keyboards[each]))
-			enter_keyboard(client, client->keyboards[each]);
-		if (is_live(client, client->pointers[each]))
-			enter_pointer(client, client->pointers[each]);
+	for (size_t i = 0; i < MOST_DEVICES; i++) {
+		if (is_live(client, client->keyboards[i]))
+			enter_keyboard(client, client->keyboards[i]);
+		if (is_live(client, client->pointers[i]))
+			enter_pointer(client, client->pointers[i]);
 	}
 }
 
@@ -69,9 +69,9 @@ void find_focus(void)
 {
 	if (focus && has_window(focus))
 		return;
-	for (struct client *it = clients; it; it = it->next) {
-		if (has_window(it)) {
-			focus_on(it);
+	for (struct client *client = clients; client; client = client->next) {
+		if (has_window(client)) {
+			focus_on(client);
 			return;
 		}
 	}
@@ -90,9 +90,9 @@ void leave_client(const struct client *client)
 static void keep(const struct client *client, waywire_object devices[MOST_DEVICES],
 	waywire_object object)
 {
-	for (size_t each = 0; each < MOST_DEVICES; each++) {
-		if (!is_live(client, devices[each])) {
-			devices[each] = object;
+	for (size_t i = 0; i < MOST_DEVICES; i++) {
+		if (!is_live(client, devices[i])) {
+			devices[i] = object;
 			return;
 		}
 	}
@@ -148,12 +148,12 @@ void serve_seat(struct client *client)
 
 static void press_key(struct client *client, uint32_t code)
 {
-	for (size_t each = 0; each < MOST_DEVICES; each++) {
-		waywire_wl_keyboard it = waywire_wl_keyboard_of(client->keyboards[each]);
+	for (size_t i = 0; i < MOST_DEVICES; i++) {
+		waywire_wl_keyboard keyboard = waywire_wl_keyboard_of(client->keyboards[i]);
 		uint32_t time = milliseconds();
-		may(client, waywire_wl_keyboard_send_key(client->server, it, next_serial(), time,
+		may(client, waywire_wl_keyboard_send_key(client->server, keyboard, next_serial(), time,
 			code, WAYWIRE_WL_KEYBOARD_KEY_STATE_PRESSED));
-		may(client, waywire_wl_keyboard_send_key(client->server, it, next_serial(), time,
+		may(client, waywire_wl_keyboard_send_key(client->server, keyboard, next_serial(), time,
 			code, WAYWIRE_WL_KEYBOARD_KEY_STATE_RELEASED));
 	}
 }
@@ -161,33 +161,33 @@ static void press_key(struct client *client, uint32_t code)
 static void hold(struct client *client, uint32_t mask)
 {
 	modifiers = mask;
-	for (size_t each = 0; each < MOST_DEVICES; each++)
+	for (size_t i = 0; i < MOST_DEVICES; i++)
 		may(client, waywire_wl_keyboard_send_modifiers(client->server,
-			waywire_wl_keyboard_of(client->keyboards[each]), next_serial(), mask, 0,
+			waywire_wl_keyboard_of(client->keyboards[i]), next_serial(), mask, 0,
 			0, 0));
 }
 
 static void press_button(struct client *client, uint32_t code)
 {
-	for (size_t each = 0; each < MOST_DEVICES; each++) {
-		waywire_wl_pointer it = waywire_wl_pointer_of(client->pointers[each]);
+	for (size_t i = 0; i < MOST_DEVICES; i++) {
+		waywire_wl_pointer pointer = waywire_wl_pointer_of(client->pointers[i]);
 		uint32_t time = milliseconds();
-		may(client, waywire_wl_pointer_send_button(client->server, it, next_serial(), time,
+		may(client, waywire_wl_pointer_send_button(client->server, pointer, next_serial(), time,
 			code, WAYWIRE_WL_POINTER_BUTTON_STATE_PRESSED));
-		may(client, waywire_wl_pointer_send_frame(client->server, it));
-		may(client, waywire_wl_pointer_send_button(client->server, it, next_serial(), time,
+		may(client, waywire_wl_pointer_send_frame(client->server, pointer));
+		may(client, waywire_wl_pointer_send_button(client->server, pointer, next_serial(), time,
 			code, WAYWIRE_WL_POINTER_BUTTON_STATE_RELEASED));
-		may(client, waywire_wl_pointer_send_frame(client->server, it));
+		may(client, waywire_wl_pointer_send_frame(client->server, pointer));
 	}
 }
 
 static void move_to(struct client *client, int32_t x, int32_t y)
 {
-	for (size_t each = 0; each < MOST_DEVICES; each++) {
-		waywire_wl_pointer it = waywire_wl_pointer_of(client->pointers[each]);
-		may(client, waywire_wl_pointer_send_motion(client->server, it, milliseconds(),
+	for (size_t i = 0; i < MOST_DEVICES; i++) {
+		waywire_wl_pointer pointer = waywire_wl_pointer_of(client->pointers[i]);
+		may(client, waywire_wl_pointer_send_motion(client->server, pointer, milliseconds(),
 			x * 256, y * 256));
-		may(client, waywire_wl_pointer_send_frame(client->server, it));
+		may(client, waywire_wl_pointer_send_frame(client->server, pointer));
 	}
 }
 

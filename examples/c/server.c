@@ -176,9 +176,9 @@ static void add_client(int socket)
 	if (!client || !client->connection)
 		err(1, "a client");
 	client->server = waywire_connection_server(client->connection);
-	for (size_t each = 0; each < sizeof globals / sizeof *globals; each++)
-		must(waywire_connection_add_global(client->connection, globals[each].name,
-			globals[each].version, NULL));
+	for (size_t i = 0; i < sizeof globals / sizeof *globals; i++)
+		must(waywire_connection_add_global(client->connection, globals[i].name,
+			globals[i].version, NULL));
 	must(waywire_connection_implement(client->connection, listeners,
 		sizeof listeners / sizeof *listeners, client));
 	serve_windows(client);
@@ -213,10 +213,10 @@ static void tell_end(const struct client *client)
 }
 
 /* Takes a client out of the list, and ends it with all that it has. */
-static void end_client(struct client **place)
+static void end_client(struct client **link)
 {
-	struct client *client = *place;
-	*place = client->next;
+	struct client *client = *link;
+	*link = client->next;
 	client_count--;
 	leave_client(client);
 	waywire_connection_close(client->connection);
@@ -225,14 +225,14 @@ static void end_client(struct client **place)
 
 static void end_those_that_failed(void)
 {
-	struct client **place = &clients;
-	while (*place) {
-		if (!(*place)->is_stuck && !waywire_connection_failure((*place)->connection)) {
-			place = &(*place)->next;
+	struct client **link = &clients;
+	while (*link) {
+		if (!(*link)->is_stuck && !waywire_connection_failure((*link)->connection)) {
+			link = &(*link)->next;
 			continue;
 		}
-		tell_end(*place);
-		end_client(place);
+		tell_end(*link);
+		end_client(link);
 	}
 }
 
@@ -262,8 +262,8 @@ static bool serve(const waywire_listening_socket *listening, int signals, int ti
 	struct pollfd polled[2 + MOST_CLIENTS] = { { signals, POLLIN, 0 },
 		{ waywire_listening_socket_fd(listening), POLLIN, 0 } };
 	size_t count = 2;
-	for (struct client *it = clients; it; it = it->next) {
-		polled[count] = polled_at(it);
+	for (struct client *client = clients; client; client = client->next) {
+		polled[count] = polled_at(client);
 		if (!polled[count++].events)
 			timeout = 0; /* requests wait that had no room for their answers before */
 	}
@@ -274,10 +274,10 @@ static bool serve(const waywire_listening_socket *listening, int signals, int ti
 	if (poll(polled, count, timeout) < 0 && errno != EINTR)
 		err(1, "poll");
 	count = 2;
-	for (struct client *it = clients; it; it = it->next) {
+	for (struct client *client = clients; client; client = client->next) {
 		if (polled[count++].revents & ~POLLOUT)
-			waywire_connection_fill(it->connection);
-		waywire_connection_dispatch_pending(it->connection);
+			waywire_connection_fill(client->connection);
+		waywire_connection_dispatch_pending(client->connection);
 	}
 	end_those_that_failed();
 	pauses = polled[1].revents && !accept_client(listening);

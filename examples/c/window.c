@@ -100,17 +100,17 @@ static void on_frame(void *data, waywire_wl_surface surface, waywire_wl_callback
 }
 
 /* A new window gets the focus once it has a picture. */
-static void show(struct surface *surface, waywire_wl_surface it)
+static void show(struct surface *surface, waywire_wl_surface picture)
 {
 	struct client *client = surface->client;
 	if (surface->is_shown || !is_live(client, surface->toplevel.object))
 		return;
 	surface->is_shown = true;
-	client->window = (struct window){ it, surface->toplevel };
+	client->window = (struct window){ picture, surface->toplevel };
 	focus_on(client);
 }
 
-static void on_commit(void *data, waywire_wl_surface it)
+static void on_commit(void *data, waywire_wl_surface picture)
 {
 	struct surface *surface = data;
 	struct client *client = surface->client;
@@ -122,7 +122,7 @@ static void on_commit(void *data, waywire_wl_surface it)
 		printf("server: a picture of %d by %d, its first pixel %08x\n", buffer->width,
 			buffer->height, pixel);
 		must(waywire_wl_buffer_send_release(client->server, surface->buffer));
-		show(surface, it);
+		show(surface, picture);
 	}
 	surface->buffer.object.id = 0;
 	answer(surface);

@@ -53,9 +53,9 @@ uint32_t waywire_c_tables_core(void **tables)
 /* Makes tables, and frees them; a block from before outlives them unless they free it. */
 static void before_and_after(void)
 {
-	for (int each = KEEPS; each <= FAILS; each++) {
+	for (int i = KEEPS; i <= FAILS; i++) {
 		waywire_tables *tables = NULL;
-		work = each;
+		work = i;
 		from_before = filled(SMALL);
 		MUST(waywire_tables_core(&tables) == (work == FAILS ? WAYWIRE_NO_MEMORY : WAYWIRE_OK));
 		waywire_tables_free(work == FAILS ? NULL : tables);
@@ -128,9 +128,9 @@ uint32_t waywire_c_tables_message(struct handle tables, uint16_t interface, uint
 }
 
 uint32_t waywire_c_tables_kind(struct handle tables, uint16_t interface, uint32_t sender, uint16_t opcode,
-	size_t place, waywire_kind *kind)
+	size_t index, waywire_kind *kind)
 {
-	(void)tables, (void)interface, (void)sender, (void)opcode, (void)place, (void)kind;
+	(void)tables, (void)interface, (void)sender, (void)opcode, (void)index, (void)kind;
 	return WAYWIRE_NOT_FOUND;
 }
 

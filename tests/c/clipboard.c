@@ -36,55 +36,55 @@ static waywire_tables *tables;
 static void on_global(void *data, waywire_wl_registry registry, uint32_t name, const char *interface,
 	uint32_t version)
 {
-	struct side *it = data;
+	struct side *side = data;
 	(void)version;
 	if (!strcmp(interface, WAYWIRE_WL_SEAT_NAME))
-		MUST(!waywire_wl_seat_bind(it->client, registry, name, 1, &it->seat));
+		MUST(!waywire_wl_seat_bind(side->client, registry, name, 1, &side->seat));
 	if (!strcmp(interface, WW_ZWLR_DATA_CONTROL_MANAGER_V1_NAME))
-		MUST(!ww_zwlr_data_control_manager_v1_bind(it->client, registry, name, 1, &it->manager));
+		MUST(!ww_zwlr_data_control_manager_v1_bind(side->client, registry, name, 1, &side->manager));
 }
 
 static const struct waywire_wl_registry_events registry_events = { .global = on_global };
 
 static void on_data_offer(void *data, waywire_zwlr_data_control_device_v1 device, offer made)
 {
-	struct side *it = data;
+	struct side *side = data;
 	(void)device;
-	it->made = made;
-	it->types = 0;
+	side->made = made;
+	side->types = 0;
 }
 
 static void on_selection(void *data, waywire_zwlr_data_control_device_v1 device, offer selected)
 {
-	struct side *it = data;
+	struct side *side = data;
 	(void)device;
-	MUST(!selected.object.id || waywire_object_equal(selected.object, it->made.object));
-	it->selected = selected;
-	it->selections++;
+	MUST(!selected.object.id || waywire_object_equal(selected.object, side->made.object));
+	side->selected = selected;
+	side->selections++;
 }
 
 static const struct ww_zwlr_data_control_device_v1_events device_events = {
 	.data_offer = on_data_offer, .selection = on_selection };
 
-static void on_type(void *data, offer it, const char *type)
+static void on_type(void *data, offer object, const char *type)
 {
-	(void)it, (void)type;
+	(void)object, (void)type;
 	((struct side *)data)->types++;
 }
 
 static const struct ww_zwlr_data_control_offer_v1_events offer_events = { .offer = on_type };
 
 /* Writes the type that is asked for as the text. */
-static void on_send(void *data, source it, const char *type, int fd)
+static void on_send(void *data, source object, const char *type, int fd)
 {
-	(void)it;
+	(void)object;
 	((struct side *)data)->sends++;
 	MUST(write(fd, type, strlen(type)) == (ssize_t)strlen(type) && !close(fd));
 }
 
-static void on_cancelled(void *data, source it)
+static void on_cancelled(void *data, source object)
 {
-	(void)it;
+	(void)object;
 	((struct side *)data)->cancelled++;
 }
 
@@ -99,22 +99,22 @@ static const waywire_listener listeners[] = {
 };
 
 /* Reads until a condition is true. */
-#define UNTIL(side, it) \
-	while (!(it)) \
+#define UNTIL(side, condition) \
+	while (!(condition)) \
 	MUST(waywire_connection_dispatch((side)->connection, WAIT) > 0)
 
-static void connect_side(struct side *it, const char *path)
+static void connect_side(struct side *side, const char *path)
 {
 	waywire_wl_registry registry;
-	it->connection = waywire_connection_connect(tables, NULL, path);
-	MUST(it->connection);
-	it->client = waywire_connection_client(it->connection);
-	MUST(!waywire_connection_implement(it->connection, listeners, sizeof listeners / sizeof *listeners, it));
-	MUST(!waywire_wl_display_get_registry(it->client,
-		waywire_wl_display_of(waywire_end_display(it->client.end)), &registry));
-	MUST(waywire_connection_roundtrip(it->connection, WAIT) > 0 && it->manager.object.id);
-	MUST(!ww_zwlr_data_control_manager_v1_get_data_device(it->client, it->manager, it->seat, &it->device));
-	UNTIL(it, it->selections == 1);
+	side->connection = waywire_connection_connect(tables, NULL, path);
+	MUST(side->connection);
+	side->client = waywire_connection_client(side->connection);
+	MUST(!waywire_connection_implement(side->connection, listeners, sizeof listeners / sizeof *listeners, side));
+	MUST(!waywire_wl_display_get_registry(side->client,
+		waywire_wl_display_of(waywire_end_display(side->client.end)), &registry));
+	MUST(waywire_connection_roundtrip(side->connection, WAIT) > 0 && side->manager.object.id);
+	MUST(!ww_zwlr_data_control_manager_v1_get_data_device(side->client, side->manager, side->seat, &side->device));
+	UNTIL(side, side->selections == 1);
 }
 
 /* Makes a call again once there is room for it. */
@@ -127,32 +127,32 @@ static void connect_side(struct side *it, const char *path)
 	} while (0)
 
 /* Selects a new source with so many types, whose names are at least so long. */
-static source copy_long(struct side *it, int types, int least)
+static source copy_long(struct side *side, int types, int least)
 {
 	source made;
 	char name[LONG + 16];
-	SEND(it, ww_zwlr_data_control_manager_v1_create_data_source(it->client, it->manager, &made));
-	for (int each = 0; each < types; each++) {
-		snprintf(name, sizeof name, "type %0*d", least, each);
-		SEND(it, ww_zwlr_data_control_source_v1_offer(it->client, made, name));
+	SEND(side, ww_zwlr_data_control_manager_v1_create_data_source(side->client, side->manager, &made));
+	for (int i = 0; i < types; i++) {
+		snprintf(name, sizeof name, "type %0*d", least, i);
+		SEND(side, ww_zwlr_data_control_source_v1_offer(side->client, made, name));
 	}
-	SEND(it, ww_zwlr_data_control_device_v1_set_selection(it->client, it->device, made));
-	MUST(!waywire_connection_drain(it->connection, WAIT));
+	SEND(side, ww_zwlr_data_control_device_v1_set_selection(side->client, side->device, made));
+	MUST(!waywire_connection_drain(side->connection, WAIT));
 	return made;
 }
 
-static source copy(struct side *it, int types)
+static source copy(struct side *side, int types)
 {
-	return copy_long(it, types, 1);
+	return copy_long(side, types, 1);
 }
 
 /* Asks for a text, and returns the other end of the pipe. */
-static int ask(struct side *it, offer of, const char *type)
+static int ask(struct side *side, offer of, const char *type)
 {
 	int ends[2];
 	MUST(!pipe2(ends, O_CLOEXEC));
-	MUST(!ww_zwlr_data_control_offer_v1_receive(it->client, of, type, ends[1]));
-	MUST(!waywire_connection_drain(it->connection, WAIT));
+	MUST(!ww_zwlr_data_control_offer_v1_receive(side->client, of, type, ends[1]));
+	MUST(!waywire_connection_drain(side->connection, WAIT));
 	return ends[0];
 }
 
@@ -200,10 +200,10 @@ static void test_offers(struct side *one, struct side *other)
 static void test_destroyed(struct side *one, struct side *other)
 {
 	char text[16];
-	source it = copy(one, 1);
+	source selected = copy(one, 1);
 	UNTIL(other, other->types == 1);
 	offer stale = other->selected;
-	MUST(!ww_zwlr_data_control_source_v1_destroy(one->client, it));
+	MUST(!ww_zwlr_data_control_source_v1_destroy(one->client, selected));
 	MUST(!waywire_connection_drain(one->connection, WAIT));
 	UNTIL(other, !other->selected.object.id);
 	MUST(text_of(ask(other, stale, "type 0"), one, text, sizeof text) == 0);
@@ -212,9 +212,9 @@ static void test_destroyed(struct side *one, struct side *other)
 /* One client sets many selections while the other reads nothing: that gets the last one. */
 static void test_much(struct side *one, struct side *other)
 {
-	for (int each = 0; each < SELECTIONS; each++) {
-		source it = copy_long(one, TYPES, LONG);
-		SEND(one, ww_zwlr_data_control_source_v1_destroy(one->client, it));
+	for (int i = 0; i < SELECTIONS; i++) {
+		source selected = copy_long(one, TYPES, LONG);
+		SEND(one, ww_zwlr_data_control_source_v1_destroy(one->client, selected));
 		MUST(waywire_connection_dispatch(one->connection, 0) >= 0);
 	}
 	copy(one, 5);
@@ -229,7 +229,7 @@ static void test_readers(struct side *one, struct side *other)
 	static char text[6 * READERS];
 	int ends[2], before = one->sends;
 	MUST(!pipe2(ends, O_CLOEXEC));
-	for (int each = 0; each < READERS; each++) {
+	for (int i = 0; i < READERS; i++) {
 		int fd = fcntl(ends[1], F_DUPFD_CLOEXEC, 0);
 		MUST(fd >= 0);
 		SEND(other, ww_zwlr_data_control_offer_v1_receive(other->client, other->selected, "type 0", fd));
@@ -242,9 +242,9 @@ static void test_readers(struct side *one, struct side *other)
 /* A source that is set twice ends its client, and with that the selection. */
 static void test_set_twice(struct side *one, struct side *other)
 {
-	source it = copy(one, 7);
+	source selected = copy(one, 7);
 	UNTIL(other, other->types == 7);
-	MUST(!ww_zwlr_data_control_device_v1_set_selection(one->client, one->device, it));
+	MUST(!ww_zwlr_data_control_device_v1_set_selection(one->client, one->device, selected));
 	while (waywire_connection_dispatch(one->connection, WAIT) > 0)
 		;
 	const waywire_failure *failure = waywire_connection_failure(one->connection);

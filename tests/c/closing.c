@@ -36,11 +36,11 @@ static void send_with_descriptors(int socket, const void *bytes, size_t length)
 {
 	waywire_part parts[2] = { { (void *)bytes, length }, { NULL, 0 } };
 	int descriptors[MOST];
-	for (int each = 0; each < MOST; each++)
-		descriptors[each] = new_descriptor(each);
+	for (int i = 0; i < MOST; i++)
+		descriptors[i] = new_descriptor(i);
 	MUST(waywire_socket_send(socket, parts, descriptors, MOST) == (ssize_t)length);
-	for (int each = 0; each < MOST; each++)
-		close(descriptors[each]);
+	for (int i = 0; i < MOST; i++)
+		close(descriptors[i]);
 }
 
 /* A client that breaks a rule gets an error; its descriptors are closed. */
@@ -102,19 +102,19 @@ static void not_sent(void)
 	waywire_wl_registry registry;
 	waywire_wl_shm shm;
 	waywire_wl_shm_pool pool;
-	uint16_t place;
+	uint16_t index;
 	one.socket = serve(&other, &server);
 	MUST(!waywire_client_new(tables, &sizes, &client));
 	one.end = client.end;
 	waywire_wl_display display = waywire_wl_display_of(waywire_end_display(client.end));
 	MUST(!waywire_wl_display_get_registry(client, display, &registry));
 	pass(&one, &other);
-	MUST(!waywire_tables_interface(tables, WAYWIRE_WL_SHM_NAME, &place));
-	MUST(!waywire_server_add_global(server, place, 1, NULL));
+	MUST(!waywire_tables_interface(tables, WAYWIRE_WL_SHM_NAME, &index));
+	MUST(!waywire_server_add_global(server, index, 1, NULL));
 	MUST(!waywire_server_announce(server, NULL));
 	pass(&other, &one);
 	MUST(!waywire_wl_shm_bind(client, registry, 1, 1, &shm));
-	for (int each = 0; each < 40; each++) {
+	for (int i = 0; i < 40; i++) {
 		MUST(!waywire_wl_shm_create_pool(client, shm, new_descriptor(4096), 4096, &pool));
 		MUST(!waywire_wl_shm_pool_destroy(client, pool));
 	}
@@ -131,14 +131,14 @@ static void in_order(void)
 	waywire_amounts amounts;
 	waywire_server server;
 	size_t count;
-	for (uint32_t each = 0; each < MOST; each++)
-		fed[each] = 100 + each;
+	for (uint32_t i = 0; i < MOST; i++)
+		fed[i] = 100 + i;
 	MUST(!waywire_server_new(tables, &sizes, &server));
 	MUST(!waywire_end_feed(server.end, bytes, 4, fed, MOST, &amounts));
 	for (uint32_t next = 100; next < 100 + MOST; next += (uint32_t)count) {
 		MUST(!waywire_end_take_waiting_tokens(server.end, tokens, 3, &count) && count);
-		for (uint32_t each = 0; each < count; each++)
-			MUST(tokens[each] == next + each);
+		for (uint32_t i = 0; i < count; i++)
+			MUST(tokens[i] == next + i);
 	}
 	MUST(!waywire_end_take_waiting_tokens(server.end, tokens, 3, &count) && !count);
 	MUST(waywire_end_feed(server.end, bytes, 4, fed, 1, &amounts) == WAYWIRE_FAILED);
@@ -152,7 +152,7 @@ int main(void)
 	static const unsigned char unknown[] = { 9, 0, 0, 0, 0, 0, 8, 0 };
 	MUST(!waywire_tables_core(&tables));
 	size_t before = count_open();
-	for (int each = 0; each < 20; each++) {
+	for (int i = 0; i < 20; i++) {
 		broken(bad_size, sizeof bad_size);
 		broken(unknown, sizeof unknown);
 		cut_off();

@@ -229,12 +229,12 @@ static void not_sent(void)
 	MUST(!waywire_connection_drain(client, WAIT));
 	waywire_connection_close(server);
 	server = NULL;
-	for (int each = 0; each < 3; each++) {
+	for (int i = 0; i < 3; i++) {
 		waywire_arg descriptor = waywire_fd((uint32_t)new_descriptor(1));
 		MUST(!waywire_end_send(requests.end, to, GIVE, &descriptor, 1, NULL, NULL));
 	}
 	MUST(count_open() == before + 4);
-	for (int each = 0; each < 2; each++) /* the second time, nothing waits any more */
+	for (int i = 0; i < 2; i++) /* the second time, nothing waits any more */
 		MUST(waywire_connection_flush(client) == -1 && (errno == EPIPE || errno == ECONNRESET));
 	MUST(count_open() == before + 1 && !waywire_connection_wants_write(client));
 	MUST(waywire_connection_drain(client, WAIT) == -1 && (errno == EPIPE || errno == ECONNRESET));
@@ -261,7 +261,7 @@ static void other_goes(void)
 	end();
 	/* Nor do the first of many, which are sent while requests wait. */
 	begin(NULL);
-	for (int each = 0; each < 1000; each++)
+	for (int i = 0; i < 1000; i++)
 		MUST(!waywire_wl_display_sync(requests, display, NULL));
 	MUST(!waywire_connection_flush(client));
 	waywire_connection_close(client);
@@ -289,18 +289,18 @@ static void strange_descriptors(void)
 	waywire_part parts[2] = { { NULL, 1 }, { NULL, 0 } };
 	int descriptors[WAYWIRE_SOCKET_DESCRIPTORS];
 	begin(NULL);
-	for (int each = 0; each < WAYWIRE_SOCKET_DESCRIPTORS; each++)
-		descriptors[each] = new_descriptor(1);
+	for (int i = 0; i < WAYWIRE_SOCKET_DESCRIPTORS; i++)
+		descriptors[i] = new_descriptor(1);
 	/* 256 tokens find room: nine times 28 */
-	for (int each = 0; each < 10; each++) {
-		parts[0].bytes = (char *)begun + each;
+	for (int i = 0; i < 10; i++) {
+		parts[0].bytes = (char *)begun + i;
 		MUST(waywire_socket_send(waywire_connection_fd(client), parts, descriptors,
 			WAYWIRE_SOCKET_DESCRIPTORS) == 1);
 		int read = waywire_connection_dispatch(server, 0);
-		MUST(each < 9 ? !read : read == -1 && errno == EPROTO);
+		MUST(i < 9 ? !read : read == -1 && errno == EPROTO);
 	}
-	for (int each = 0; each < WAYWIRE_SOCKET_DESCRIPTORS; each++)
-		close(descriptors[each]);
+	for (int i = 0; i < WAYWIRE_SOCKET_DESCRIPTORS; i++)
+		close(descriptors[i]);
 	has_ended(server, EPROTO);
 	end();
 }
@@ -312,12 +312,12 @@ static void too_many_descriptors(void)
 	char byte = 1;
 	waywire_part parts[2] = { { &byte, 1 }, { NULL, 0 } };
 	begin(NULL);
-	for (int each = 0; each <= WAYWIRE_SOCKET_DESCRIPTORS; each++)
-		descriptors[each] = new_descriptor(1);
+	for (int i = 0; i <= WAYWIRE_SOCKET_DESCRIPTORS; i++)
+		descriptors[i] = new_descriptor(1);
 	MUST(waywire_socket_send(waywire_connection_fd(client), parts, descriptors,
 		WAYWIRE_SOCKET_DESCRIPTORS + 1) == 1);
-	for (int each = 0; each <= WAYWIRE_SOCKET_DESCRIPTORS; each++)
-		close(descriptors[each]);
+	for (int i = 0; i <= WAYWIRE_SOCKET_DESCRIPTORS; i++)
+		close(descriptors[i]);
 	MUST(waywire_connection_dispatch(server, WAIT) == -1 && errno == EOVERFLOW);
 	has_ended(server, EOVERFLOW);
 	end();
@@ -328,7 +328,7 @@ static void too_many_descriptors(void)
 /* The client asks this often, or until its outbox is full. Returns whether it is full. */
 static bool ask_much(int count)
 {
-	for (int each = 0; each < count; each++) {
+	for (int i = 0; i < count; i++) {
 		waywire_status status = waywire_wl_display_sync(requests, display, NULL);
 		MUST(!status || status == WAYWIRE_FULL);
 		if (status)
@@ -388,7 +388,7 @@ static void reads_slowly(void)
 	begin(NULL);
 	hold_back();
 	waywire_connection_set_limits(server, 0, 1000000);
-	for (int each = 0; each < 3; each++) {
+	for (int i = 0; i < 3; i++) {
 		MUST(read(waywire_connection_fd(client), bytes, sizeof bytes) > 0);
 		MUST(waywire_connection_flush(server) == -1 && errno == EAGAIN);
 		skipped += 900;
@@ -437,7 +437,7 @@ static void too_many_objects(void)
 {
 	begin(NULL);
 	waywire_connection_set_limits(server, 10, -1);
-	for (int each = 0; each < 10; each++)
+	for (int i = 0; i < 10; i++)
 		get_registry();
 	MUST(!waywire_connection_flush(client));
 	MUST(waywire_connection_dispatch(server, WAIT) == -1 && errno == EPROTO);
@@ -465,10 +465,10 @@ static void bad_sizes(void)
 	static const waywire_sizes bad[] = { { 4092, 64, 4096, 64, 0 }, { 4096, 19, 4096, 64, 0 },
 		{ 4096, 64, 4096, 27, 0 }, { 4096, 64, 4092, 64, 0 },
 		{ 8192, 64, 65536, 64, 16384 } };
-	for (size_t each = 0; each < sizeof bad / sizeof *bad; each++) {
-		MUST(!waywire_connection_of_client(tables, &bad[each], 0) && errno == EINVAL);
-		MUST(!waywire_connection_of_server(tables, &bad[each], 0) && errno == EINVAL);
-		MUST(!waywire_connection_connect(tables, &bad[each], "none") && errno == EINVAL);
+	for (size_t i = 0; i < sizeof bad / sizeof *bad; i++) {
+		MUST(!waywire_connection_of_client(tables, &bad[i], 0) && errno == EINVAL);
+		MUST(!waywire_connection_of_server(tables, &bad[i], 0) && errno == EINVAL);
+		MUST(!waywire_connection_connect(tables, &bad[i], "none") && errno == EINVAL);
 	}
 	MUST(!waywire_connection_connect(tables, NULL, "/there/is/none") && errno == ENOENT);
 	waywire_connection_close(NULL);
@@ -626,8 +626,8 @@ static void many_events(void)
 	uint32_t strays[STRAYS][3];
 	waywire_part parts[2] = { { strays, sizeof strays }, { NULL, 0 } };
 	int heard = 0;
-	for (int each = 0; each < STRAYS; each++)
-		memcpy(strays[each], stray, sizeof stray);
+	for (int i = 0; i < STRAYS; i++)
+		memcpy(strays[i], stray, sizeof stray);
 	begin(&small);
 	MUST(!waywire_connection_listen(client, display.object, on_stray, NULL, &heard));
 	MUST(waywire_socket_send(waywire_connection_fd(server), parts, NULL, 0) == sizeof strays);

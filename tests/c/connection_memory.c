@@ -64,15 +64,15 @@ static waywire_server events;
 static waywire_object object;
 static int pair[2], data, destroyed, heard;
 
-static void on_gone(void *it)
+static void on_gone(void *given)
 {
-	MUST(it == &data);
+	MUST(given == &data);
 	destroyed++;
 }
 
-static bool on_report(const void *calls, void *it, const waywire_report *report)
+static bool on_report(const void *calls, void *given, const waywire_report *report)
 {
-	(void)calls, (void)it;
+	(void)calls, (void)given;
 	heard += report->kind == WAYWIRE_MESSAGE;
 	return true;
 }
@@ -214,9 +214,9 @@ static void makes(void)
 		bool (*call)(void);
 	} all[] = { { "a client", makes_client }, { "a server", makes_server },
 		{ "a client that connects", connects } };
-	for (int each = 0; each < 3; each++) {
+	for (int i = 0; i < 3; i++) {
 		make_pair(pair);
-		each_refused(all[each].name, all[each].call, false);
+		each_refused(all[i].name, all[i].call, false);
 		waywire_connection_close(made);
 		close(pair[1]);
 	}

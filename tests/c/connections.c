@@ -286,22 +286,22 @@ static void data_of_callbacks(void)
 	int counts[1000] = { 0 };
 	begin(NULL);
 	waywire_wl_surface surface = make_surface();
-	for (int each = 0; each < 1000; each++) {
+	for (int i = 0; i < 1000; i++) {
 		MUST(!waywire_wl_surface_frame(requests, surface, NULL));
 		turn(1, 0);
-		MUST(!waywire_connection_set_data(server, noted.callback.object, &counts[each],
+		MUST(!waywire_connection_set_data(server, noted.callback.object, &counts[i],
 			on_gone));
-		if (each % 100) /* the others stay */
+		if (i % 100) /* the others stay */
 			MUST(!waywire_wl_callback_send_done(events, noted.callback, 0));
-		turn(0, each % 100 ? 2 : 0);
-		MUST(each - destroyed <= 100);
+		turn(0, i % 100 ? 2 : 0);
+		MUST(i - destroyed <= 100);
 	}
 	int before = destroyed;
 	waywire_connection_forget(server, noted.callback.object); /* it is gone */
 	MUST(destroyed == before);
 	end();
-	for (int each = 0; each < 1000; each++)
-		MUST(counts[each] == 1);
+	for (int i = 0; i < 1000; i++)
+		MUST(counts[i] == 1);
 }
 
 /* Data of objects that the client has destroyed, while others get data. */
@@ -309,17 +309,17 @@ static void data_of_many(void)
 {
 	int counts[100] = { 0 };
 	begin(NULL);
-	for (int each = 0; each < 100; each++) {
+	for (int i = 0; i < 100; i++) {
 		waywire_wl_surface surface;
 		MUST(!waywire_wl_compositor_create_surface(requests, compositor, &surface));
-		MUST(!waywire_connection_set_data(client, surface.object, &counts[each], on_gone));
+		MUST(!waywire_connection_set_data(client, surface.object, &counts[i], on_gone));
 		MUST(!waywire_wl_surface_destroy(requests, surface) && !destroyed);
 	}
 	turn(200, 100);
 	MUST(destroyed == 100);
 	end();
-	for (int each = 0; each < 100; each++)
-		MUST(counts[each] == 1);
+	for (int i = 0; i < 100; i++)
+		MUST(counts[i] == 1);
 }
 
 /* What destroys data may use the connection. */
@@ -337,16 +337,16 @@ static void data_with_data(void)
 {
 	waywire_object surfaces[40];
 	begin(NULL);
-	for (int each = 0; each < 40; each++)
-		surfaces[each] = make_surface().object;
-	for (int each = 0; each < 40; each++)
-		MUST(!waywire_connection_set_data(client, surfaces[each],
-			&surfaces[(each + 1) % 40], on_gone_with_another));
+	for (int i = 0; i < 40; i++)
+		surfaces[i] = make_surface().object;
+	for (int i = 0; i < 40; i++)
+		MUST(!waywire_connection_set_data(client, surfaces[i],
+			&surfaces[(i + 1) % 40], on_gone_with_another));
 	waywire_connection_forget(client, surfaces[7]);
 	MUST(destroyed == 40);
-	for (int each = 0; each < 40; each++)
-		MUST(!waywire_connection_set_data(client, surfaces[each],
-			&surfaces[(each + 1) % 40], on_gone_with_another));
+	for (int i = 0; i < 40; i++)
+		MUST(!waywire_connection_set_data(client, surfaces[i],
+			&surfaces[(i + 1) % 40], on_gone_with_another));
 	end();
 	MUST(destroyed == 80);
 }
@@ -425,15 +425,15 @@ static void many_at_once(void)
 	int descriptors[MOST];
 	waywire_amounts taken;
 	begin(NULL);
-	for (int each = 1; each <= MOST; each++)
-		MUST(!waywire_wl_shm_create_pool(requests, shm, new_descriptor(each), each, NULL));
+	for (int i = 1; i <= MOST; i++)
+		MUST(!waywire_wl_shm_create_pool(requests, shm, new_descriptor(i), i, NULL));
 	MUST(!waywire_end_take(requests.end, bytes, sizeof bytes, tokens, MOST, &taken));
 	MUST(taken.tokens == MOST);
-	for (int each = 0; each < MOST; each++)
-		descriptors[each] = (int)tokens[each];
+	for (int i = 0; i < MOST; i++)
+		descriptors[i] = (int)tokens[i];
 	send_part(bytes, 7, descriptors, MOST);
-	for (int each = 0; each < MOST; each++)
-		close(descriptors[each]);
+	for (int i = 0; i < MOST; i++)
+		close(descriptors[i]);
 	MUST(!waywire_connection_dispatch(server, 0));
 	send_part(bytes + 7, taken.bytes - 7, NULL, 0);
 	MUST(waywire_connection_dispatch(server, WAIT) == MOST);
@@ -451,7 +451,7 @@ static void none_hears(void)
 	MUST(!waywire_wl_shm_create_pool(requests, shm, new_descriptor(1), 1, NULL));
 	turn(1, 0);
 	MUST(!noted.pools && count_open() == before + 2);
-	for (int each = 0; each < 40; each++)
+	for (int i = 0; i < 40; i++)
 		MUST(!waywire_wl_shm_create_pool(requests, shm, new_descriptor(1), 1, NULL));
 	MUST(count_open() == before + 42);
 	end();

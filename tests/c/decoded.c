@@ -9,10 +9,10 @@ static waywire_decoded decoded;
 static waywire_status decode(const char *interface, uint32_t version, waywire_sender sender, const void *bytes,
 	size_t length)
 {
-	uint16_t place;
-	MUST(!waywire_tables_interface(tables, interface, &place));
+	uint16_t index;
+	MUST(!waywire_tables_interface(tables, interface, &index));
 	memset(&decoded, 0x5a, sizeof decoded);
-	return waywire_tables_decode(tables, place, version, sender, bytes, length, &decoded);
+	return waywire_tables_decode(tables, index, version, sender, bytes, length, &decoded);
 }
 
 static bool is_called(const char *name)
@@ -80,9 +80,9 @@ static void faults(void)
 	MUST(decode("wl_surface", 1, WAYWIRE_FROM_CLIENT, commit, 7) == WAYWIRE_FAULT_BAD_SIZE);
 	MUST(!decoded.target && !decoded.size && !decoded.name && !decoded.arg_count);
 	MUST(decode("wl_surface", 1, WAYWIRE_FROM_CLIENT, NULL, 0) == WAYWIRE_FAULT_BAD_SIZE);
-	for (int each = 0; each < 3; each++) {
-		MUST(decode("wl_surface", 1, WAYWIRE_FROM_CLIENT, sizes + 2 * each, 8) == WAYWIRE_FAULT_BAD_SIZE);
-		MUST(decoded.target == 3 && decoded.size == sizes[2 * each + 1] >> 16 && !decoded.name);
+	for (int i = 0; i < 3; i++) {
+		MUST(decode("wl_surface", 1, WAYWIRE_FROM_CLIENT, sizes + 2 * i, 8) == WAYWIRE_FAULT_BAD_SIZE);
+		MUST(decoded.target == 3 && decoded.size == sizes[2 * i + 1] >> 16 && !decoded.name);
 	}
 }
 
@@ -107,7 +107,7 @@ static void refusals(void)
 static void objects(void)
 {
 	static const waywire_sizes sizes = { 65536, 64, 4096, 20, 0 };
-	waywire_object made[4], it = { 0, 0 }, untouched = { 7, 7 };
+	waywire_object made[4], object = { 0, 0 }, untouched = { 7, 7 };
 	waywire_arg new = waywire_new();
 	waywire_client client;
 	waywire_server server;
@@ -117,27 +117,27 @@ static void objects(void)
 	size_t count = 0;
 	MUST(!waywire_client_new(tables, &sizes, &client) && !waywire_server_new(tables, &sizes, &server));
 	waywire_object display = waywire_end_display(client.end);
-	for (int each = 0; each < 4; each++)
-		MUST(!waywire_end_send(client.end, display, WAYWIRE_WL_DISPLAY_REQUEST_SYNC, &new, 1, &made[each],
+	for (int i = 0; i < 4; i++)
+		MUST(!waywire_end_send(client.end, display, WAYWIRE_WL_DISPLAY_REQUEST_SYNC, &new, 1, &made[i],
 			NULL));
-	while (!waywire_end_object_after(client.end, it.id, &it)) {
-		MUST(waywire_object_equal(it, count ? made[count - 1] : display));
+	while (!waywire_end_object_after(client.end, object.id, &object)) {
+		MUST(waywire_object_equal(object, count ? made[count - 1] : display));
 		count++;
 	}
 	MUST(count == 5);
 	MUST(!waywire_end_take(client.end, bytes, sizeof bytes, NULL, 0, &amounts));
 	MUST(!waywire_end_feed(server.end, bytes, amounts.bytes, NULL, 0, &amounts));
-	for (int each = 0; each < 4; each++)
+	for (int i = 0; i < 4; i++)
 		MUST(!waywire_end_next(server.end, &report) && report.kind == WAYWIRE_MESSAGE);
-	MUST(!waywire_end_object_after(server.end, 1, &it) && waywire_object_equal(it, made[0]));
+	MUST(!waywire_end_object_after(server.end, 1, &object) && waywire_object_equal(object, made[0]));
 	MUST(!waywire_server_drop_object(server, made[1]));
-	MUST(!waywire_end_object_after(server.end, it.id, &it) && waywire_object_equal(it, made[2]));
+	MUST(!waywire_end_object_after(server.end, object.id, &object) && waywire_object_equal(object, made[2]));
 	MUST(!waywire_end_take_waiting_tokens(server.end, NULL, 0, &count)); /* also at a failed end */
-	MUST(!waywire_end_object_after(server.end, it.id, &it) && waywire_object_equal(it, made[3]));
-	MUST(waywire_end_object_after(server.end, it.id, &untouched) == WAYWIRE_NOT_FOUND);
+	MUST(!waywire_end_object_after(server.end, object.id, &object) && waywire_object_equal(object, made[3]));
+	MUST(waywire_end_object_after(server.end, object.id, &untouched) == WAYWIRE_NOT_FOUND);
 	MUST(waywire_end_object_after(server.end, UINT32_MAX, &untouched) == WAYWIRE_NOT_FOUND);
 	MUST(untouched.id == 7 && untouched.birth == 7);
-	MUST(waywire_end_object_after(NULL, 0, &it) == WAYWIRE_NULL);
+	MUST(waywire_end_object_after(NULL, 0, &object) == WAYWIRE_NULL);
 	MUST(waywire_end_object_after(client.end, 0, NULL) == WAYWIRE_NULL);
 	waywire_end_free(client.end);
 	waywire_end_free(server.end);

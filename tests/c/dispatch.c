@@ -24,17 +24,17 @@ static void on_delete_id(void *data, waywire_wl_display display, uint32_t id)
 	number = id;
 }
 
-static void on_global(void *data, waywire_wl_registry it, uint32_t name, const char *interface, uint32_t version)
+static void on_global(void *data, waywire_wl_registry object, uint32_t name, const char *interface, uint32_t version)
 {
-	must_be_target(data, it.object);
+	must_be_target(data, object.object);
 	MUST(version == 6);
 	number = name;
 	snprintf(heard, sizeof heard, "%s", interface);
 }
 
-static void on_global_remove(void *data, waywire_wl_registry it, uint32_t name)
+static void on_global_remove(void *data, waywire_wl_registry object, uint32_t name)
 {
-	must_be_target(data, it.object);
+	must_be_target(data, object.object);
 	number = name;
 }
 
@@ -43,12 +43,12 @@ static const struct waywire_wl_registry_events registry_events = { on_global, on
 
 static void globals(void)
 {
-	uint16_t place;
+	uint16_t index;
 	uint32_t name;
 	open_pair();
 	target = registry;
-	MUST(!waywire_tables_interface(tables, WAYWIRE_WL_COMPOSITOR_NAME, &place));
-	MUST(!waywire_server_add_global(server, place, 6, &name));
+	MUST(!waywire_tables_interface(tables, WAYWIRE_WL_COMPOSITOR_NAME, &index));
+	MUST(!waywire_server_add_global(server, index, 6, &name));
 	MUST(!waywire_server_announce(server, NULL));
 	carry_and_read_at_client();
 	MUST(waywire_wl_registry_dispatch_event(&registry_events, &mark, &report));
@@ -127,11 +127,11 @@ static void by_interface(void)
 	static const unsigned char delete_9[] = { 1, 0, 0, 0, 1, 0, 12, 0, 9, 0, 0, 0 };
 	static const waywire_report nothing = { 0 };
 	waywire_amounts fed;
-	uint16_t place;
+	uint16_t index;
 	open_pair();
 	target = registry;
-	MUST(!waywire_tables_interface(tables, WAYWIRE_WL_COMPOSITOR_NAME, &place));
-	MUST(!waywire_server_add_global(server, place, 6, NULL));
+	MUST(!waywire_tables_interface(tables, WAYWIRE_WL_COMPOSITOR_NAME, &index));
+	MUST(!waywire_server_add_global(server, index, 6, NULL));
 	MUST(!waywire_server_announce(server, NULL));
 	carry_and_read_at_client();
 	MUST(waywire_dispatch(tables, listeners, 2, &mark, &report));

@@ -100,8 +100,8 @@ static void serve(const waywire_tables *tables, int socket)
 	connection = waywire_connection_of_server(tables, NULL, socket);
 	MUST(connection);
 	server = waywire_connection_server(connection);
-	for (size_t each = 0; each < sizeof globals / sizeof *globals; each++)
-		MUST(!waywire_connection_add_global(connection, globals[each], 1, NULL));
+	for (size_t i = 0; i < sizeof globals / sizeof *globals; i++)
+		MUST(!waywire_connection_add_global(connection, globals[i], 1, NULL));
 	MUST(!waywire_connection_implement(connection, listeners, sizeof listeners / sizeof *listeners, NULL));
 	while (waywire_connection_dispatch(connection, WAIT) > 0)
 		;

@@ -1,4 +1,4 @@
-/* What passes through the library's pointers, at its edges: places, names, spellings, the last slot of a
+/* What passes through the library's pointers, at its edges: indices, names, spellings, the last slot of a
  * report, sizes, tables over tables, a full outbox; an inspector's values and lines; a report behind calls that
  * only ask; calls of one end with the other; and the numbers and texts that the header makes itself. */
 #include "must.h"
@@ -56,13 +56,13 @@ static void close_pair(struct pair *pair)
 /* Advertises an interface, and returns an object of it that both ends have. */
 static waywire_object bound(struct pair *pair, const waywire_tables *of, const char *interface)
 {
-	uint16_t place;
+	uint16_t index;
 	uint32_t version, name = 0, last = 0;
 	waywire_report report;
 	waywire_object made;
-	MUST(!waywire_tables_interface(of, interface, &place));
-	MUST(!waywire_tables_version(of, place, &version));
-	MUST(!waywire_server_add_global(pair->server, place, version, &name));
+	MUST(!waywire_tables_interface(of, interface, &index));
+	MUST(!waywire_tables_version(of, index, &version));
+	MUST(!waywire_server_add_global(pair->server, index, version, &name));
 	MUST(!waywire_server_announce(pair->server, NULL));
 	to_client(pair);
 	do {
@@ -93,8 +93,8 @@ static waywire_wl_region new_region(const struct pair *pair, waywire_object comp
 	return region;
 }
 
-/* The place of a refused argument, for each of the two causes, and nothing else written. */
-static void places(void)
+/* The index of a refused argument, for each of the two causes, and nothing else written. */
+static void indices(void)
 {
 	struct pair pair;
 	open_pair(&pair, tables);
@@ -103,22 +103,22 @@ static void places(void)
 	waywire_object one = new_surface(&pair, compositor);
 	waywire_arg args[] = { waywire_new(), waywire_of(one), waywire_of(compositor) };
 	waywire_object made = { 5, 6 };
-	size_t place = 77;
-	MUST(waywire_end_send(pair.client.end, subcompositor, 1, args, 3, &made, &place)
+	size_t index = 77;
+	MUST(waywire_end_send(pair.client.end, subcompositor, 1, args, 3, &made, &index)
 		== WAYWIRE_BAD_OBJECT);
-	MUST(place == 2 && made.id == 6 && made.birth == 5);
+	MUST(index == 2 && made.id == 6 && made.birth == 5);
 	args[2] = waywire_no_object();
-	MUST(waywire_end_send(pair.client.end, subcompositor, 1, args, 3, NULL, &place)
+	MUST(waywire_end_send(pair.client.end, subcompositor, 1, args, 3, NULL, &index)
 		== WAYWIRE_WRONG_ARGS);
-	MUST(place == 2);
+	MUST(index == 2);
 	args[2] = waywire_of(made); /* OBJECT with an id is an object, whatever it is */
 	args[2].object.id = 0;
-	MUST(waywire_end_send(pair.client.end, subcompositor, 1, args, 3, NULL, &place)
+	MUST(waywire_end_send(pair.client.end, subcompositor, 1, args, 3, NULL, &index)
 		== WAYWIRE_BAD_OBJECT);
-	place = 77;
-	MUST(waywire_end_send(pair.client.end, made, 1, args, 3, NULL, &place) == WAYWIRE_STALE);
-	MUST(place == 77);
-	MUST(!waywire_end_send(pair.client.end, one, WAYWIRE_WL_SURFACE_REQUEST_COMMIT, NULL, 0, &made, &place));
+	index = 77;
+	MUST(waywire_end_send(pair.client.end, made, 1, args, 3, NULL, &index) == WAYWIRE_STALE);
+	MUST(index == 77);
+	MUST(!waywire_end_send(pair.client.end, one, WAYWIRE_WL_SURFACE_REQUEST_COMMIT, NULL, 0, &made, &index));
 	MUST(made.id == 0); /* nothing is made */
 	close_pair(&pair);
 }
@@ -132,9 +132,9 @@ static void object_without_id(void)
 	waywire_object surface = new_surface(&pair, compositor);
 	waywire_object none = { 0, 0 };
 	waywire_arg args[] = { waywire_of(none), waywire_int(0), waywire_int(0) };
-	size_t place = 7;
-	MUST(waywire_end_send(pair.client.end, surface, WAYWIRE_WL_SURFACE_REQUEST_ATTACH, args, 3, NULL, &place)
-		== WAYWIRE_BAD_OBJECT && place == 0);
+	size_t index = 7;
+	MUST(waywire_end_send(pair.client.end, surface, WAYWIRE_WL_SURFACE_REQUEST_ATTACH, args, 3, NULL, &index)
+		== WAYWIRE_BAD_OBJECT && index == 0);
 	close_pair(&pair);
 }
 
@@ -187,21 +187,21 @@ static void unused(void)
 	waywire_object some = bound(&pair, more, "some");
 	for (int form = 0; form < 6; form++) {
 		uint16_t opcode = form % 2;
-		for (int each = 0; each < 6; each++) {
-			args[each] = waywire_int(10 * form + each);
+		for (int i = 0; i < 6; i++) {
+			args[i] = waywire_int(10 * form + i);
 			if (form / 2)
-				args[each].bytes = form / 2 == 1 ? NULL : args;
+				args[i].bytes = form / 2 == 1 ? NULL : args;
 			if (form / 2 == 2)
-				args[each].length = each % 2 ? SIZE_MAX : 1;
+				args[i].length = i % 2 ? SIZE_MAX : 1;
 		}
 		args[6] = waywire_new();
 		MUST(!waywire_end_send(pair.client.end, some, opcode, args, 6 + opcode, &args[0].object, NULL));
 		MUST(!args[0].object.id == !opcode);
 		to_server(&pair);
 		MUST(!waywire_end_next(pair.server.end, &report) && report.arg_count == 6u + opcode);
-		for (int each = 0; each < 6; each++)
-			MUST(report.args[each].kind == WAYWIRE_INT && report.args[each].i == 10 * form + each
-				&& !report.args[each].bytes && !report.args[each].length);
+		for (int i = 0; i < 6; i++)
+			MUST(report.args[i].kind == WAYWIRE_INT && report.args[i].i == 10 * form + i
+				&& !report.args[i].bytes && !report.args[i].length);
 		MUST(!opcode || report.args[6].object.id == args[0].object.id);
 	}
 	close_pair(&pair);
@@ -218,22 +218,22 @@ static void twenty(void)
 	waywire_report report;
 	waywire_arg args[21];
 	uint16_t interface;
-	size_t place = 7;
+	size_t index = 7;
 	MUST(!waywire_tables_read(tables, text, strlen(text), &more, NULL, NULL));
 	MUST(!waywire_tables_read(more, "interface last 1\n", 17, &again, NULL, NULL));
 	waywire_tables_free(more); /* the others have all that is theirs */
 	MUST(!waywire_tables_interface(again, "last", &interface) && interface == 20);
 	open_pair(&pair, again);
 	waywire_object many = bound(&pair, again, "many");
-	for (int each = 0; each < 21; each++)
-		args[each] = waywire_int(each + 1);
-	MUST(waywire_end_send(pair.client.end, many, 0, args, 21, NULL, &place) == WAYWIRE_WRONG_ARGS);
-	MUST(place == 20);
+	for (int i = 0; i < 21; i++)
+		args[i] = waywire_int(i + 1);
+	MUST(waywire_end_send(pair.client.end, many, 0, args, 21, NULL, &index) == WAYWIRE_WRONG_ARGS);
+	MUST(index == 20);
 	MUST(!waywire_end_send(pair.client.end, many, 0, args, 20, NULL, NULL));
 	to_server(&pair);
 	MUST(!waywire_end_next(pair.server.end, &report) && report.arg_count == 20);
-	for (int each = 0; each < 20; each++)
-		MUST(report.args[each].kind == WAYWIRE_INT && report.args[each].i == each + 1);
+	for (int i = 0; i < 20; i++)
+		MUST(report.args[i].kind == WAYWIRE_INT && report.args[i].i == i + 1);
 	close_pair(&pair);
 	waywire_tables_free(again);
 }
@@ -329,10 +329,10 @@ static void limits(void)
 	static const uint32_t taken[] = { 4096, 4100, 65532 };
 	static const uint32_t refused[] = { 0, 4092, 4097, 65533, 65536, UINT32_MAX };
 	waywire_inspector *inspector = NULL;
-	for (size_t each = 0; each < sizeof refused / sizeof *refused; each++)
-		MUST(waywire_inspector_new(tables, refused[each], &inspector) == WAYWIRE_BAD_SIZES && !inspector);
-	for (size_t each = 0; each < sizeof taken / sizeof *taken; each++) {
-		MUST(!waywire_inspector_new(tables, taken[each], &inspector));
+	for (size_t i = 0; i < sizeof refused / sizeof *refused; i++)
+		MUST(waywire_inspector_new(tables, refused[i], &inspector) == WAYWIRE_BAD_SIZES && !inspector);
+	for (size_t i = 0; i < sizeof taken / sizeof *taken; i++) {
+		MUST(!waywire_inspector_new(tables, taken[i], &inspector));
 		waywire_inspector_free(inspector);
 		inspector = NULL;
 	}
@@ -365,12 +365,12 @@ static bool has_verdict(waywire_inspector *inspector, const char *wanted)
 static void at_limit(uint32_t limit, const char *verdict)
 {
 	static uint32_t words[4116 / 4] = { 1, 4116 << 16 | WAYWIRE_WL_DISPLAY_EVENT_ERROR, 1, 0, 4096 };
-	waywire_inspector *it;
+	waywire_inspector *inspector;
 	memset(words + 5, 'a', 4095);
-	MUST(!waywire_inspector_new(tables, limit, &it));
-	MUST(!waywire_inspector_pass(it, WAYWIRE_FROM_SERVER, words, sizeof words, 0));
-	MUST(has_verdict(it, verdict) && has_lines(it, "") == (*verdict == 'b'));
-	waywire_inspector_free(it);
+	MUST(!waywire_inspector_new(tables, limit, &inspector));
+	MUST(!waywire_inspector_pass(inspector, WAYWIRE_FROM_SERVER, words, sizeof words, 0));
+	MUST(has_verdict(inspector, verdict) && has_lines(inspector, "") == (*verdict == 'b'));
+	waywire_inspector_free(inspector);
 }
 
 static void long_message(void)
@@ -389,28 +389,30 @@ static void inspected(void)
 	static const char line[] = "-> wl_display@1.sync(new id wl_callback@2)\n";
 	static const char lawful[] = "lawful: 1 requests, 0 events, 0 and 0 bytes left\n";
 	static const char broken[] = "broken: > message 2 at byte 12: F2 unknown object\n";
-	waywire_inspector *it;
+	waywire_inspector *inspector;
 	const char *text = line;
 	size_t length = 7;
-	MUST(!waywire_inspector_new(tables, WAYWIRE_USUAL_LIMIT, &it));
-	MUST(has_lines(it, "") && has_verdict(it, "lawful: 0 requests, 0 events, 0 and 0 bytes left\n"));
-	MUST(!waywire_inspector_pass(it, WAYWIRE_FROM_CLIENT, sync, sizeof sync, 0) && has_lines(it, line));
-	MUST(waywire_inspector_pass(it, (waywire_sender)2, sync, sizeof sync, 0) == WAYWIRE_BAD_VALUE);
-	MUST(waywire_inspector_pass(it, WAYWIRE_FROM_CLIENT, NULL, 1, 0) == WAYWIRE_NULL);
-	MUST(waywire_inspector_pass(it, WAYWIRE_FROM_CLIENT, sync, SIZE_MAX, 0) == WAYWIRE_TOO_LARGE);
+	MUST(!waywire_inspector_new(tables, WAYWIRE_USUAL_LIMIT, &inspector));
+	MUST(has_lines(inspector, ""));
+	MUST(has_verdict(inspector, "lawful: 0 requests, 0 events, 0 and 0 bytes left\n"));
+	MUST(!waywire_inspector_pass(inspector, WAYWIRE_FROM_CLIENT, sync, sizeof sync, 0));
+	MUST(has_lines(inspector, line));
+	MUST(waywire_inspector_pass(inspector, (waywire_sender)2, sync, sizeof sync, 0) == WAYWIRE_BAD_VALUE);
+	MUST(waywire_inspector_pass(inspector, WAYWIRE_FROM_CLIENT, NULL, 1, 0) == WAYWIRE_NULL);
+	MUST(waywire_inspector_pass(inspector, WAYWIRE_FROM_CLIENT, sync, SIZE_MAX, 0) == WAYWIRE_TOO_LARGE);
 	MUST(waywire_inspector_pass(NULL, WAYWIRE_FROM_CLIENT, sync, sizeof sync, 0) == WAYWIRE_NULL);
-	MUST(!waywire_inspector_lines(it, NULL));
-	MUST(waywire_inspector_verdict(it, NULL, &length, NULL) == WAYWIRE_NULL && length == 7);
-	MUST(waywire_inspector_verdict(it, &text, NULL, NULL) == WAYWIRE_NULL && text == line);
-	MUST(!waywire_inspector_verdict(it, &text, &length, NULL) && length == strlen(lawful));
-	MUST(has_lines(it, line) && has_verdict(it, lawful));
-	MUST(!waywire_inspector_pass(it, WAYWIRE_FROM_SERVER, NULL, 0, 0));
-	MUST(has_lines(it, "") && has_verdict(it, lawful));
-	MUST(!waywire_inspector_pass(it, WAYWIRE_FROM_CLIENT, unknown, sizeof unknown, 0));
-	MUST(has_lines(it, "") && has_verdict(it, broken));
-	MUST(!waywire_inspector_pass(it, WAYWIRE_FROM_CLIENT, sync, sizeof sync, 0));
-	MUST(has_lines(it, "") && has_verdict(it, broken));
-	waywire_inspector_free(it);
+	MUST(!waywire_inspector_lines(inspector, NULL));
+	MUST(waywire_inspector_verdict(inspector, NULL, &length, NULL) == WAYWIRE_NULL && length == 7);
+	MUST(waywire_inspector_verdict(inspector, &text, NULL, NULL) == WAYWIRE_NULL && text == line);
+	MUST(!waywire_inspector_verdict(inspector, &text, &length, NULL) && length == strlen(lawful));
+	MUST(has_lines(inspector, line) && has_verdict(inspector, lawful));
+	MUST(!waywire_inspector_pass(inspector, WAYWIRE_FROM_SERVER, NULL, 0, 0));
+	MUST(has_lines(inspector, "") && has_verdict(inspector, lawful));
+	MUST(!waywire_inspector_pass(inspector, WAYWIRE_FROM_CLIENT, unknown, sizeof unknown, 0));
+	MUST(has_lines(inspector, "") && has_verdict(inspector, broken));
+	MUST(!waywire_inspector_pass(inspector, WAYWIRE_FROM_CLIENT, sync, sizeof sync, 0));
+	MUST(has_lines(inspector, "") && has_verdict(inspector, broken));
+	waywire_inspector_free(inspector);
 }
 
 /* The target in a report, and its line. */
@@ -418,9 +420,9 @@ static void is_line(waywire_sender sender, const waywire_report *report, const c
 	uint32_t version, const char *wanted)
 {
 	char line[256], begun[6];
-	uint16_t place = 0;
-	MUST(!interface || !waywire_tables_interface(tables, interface, &place));
-	MUST(report->interface == place && report->version == version);
+	uint16_t index = 0;
+	MUST(!interface || !waywire_tables_interface(tables, interface, &index));
+	MUST(report->interface == index && report->version == version);
 	size_t length = waywire_report_line(tables, sender, report, line, sizeof line);
 	MUST(length == strlen(wanted) && !strcmp(line, wanted));
 	MUST(waywire_report_line(tables, sender, report, begun, sizeof begun) == length);
@@ -491,14 +493,14 @@ static bool names(const waywire_arg *arg, const char *interface)
 static void asked(void)
 {
 	static const char seat[] = "wl_seat";
-	uint16_t place;
+	uint16_t index;
 	uint32_t name;
 	waywire_object made;
 	waywire_report report;
 	struct pair pair;
 	open_pair(&pair, tables);
-	MUST(!waywire_tables_interface(tables, seat, &place));
-	MUST(!waywire_server_add_global(pair.server, place, 1, &name));
+	MUST(!waywire_tables_interface(tables, seat, &index));
+	MUST(!waywire_server_add_global(pair.server, index, 1, &name));
 	MUST(!waywire_server_announce(pair.server, NULL));
 	to_client(&pair);
 	MUST(!waywire_wl_display_sync(pair.client, pair.display, NULL));
@@ -618,7 +620,7 @@ static void numbers(void)
 int main(void)
 {
 	MUST(!waywire_tables_core(&tables));
-	places();
+	indices();
 	object_without_id();
 	faults();
 	unused();

@@ -67,19 +67,19 @@ static inline uint32_t kind_apart(const waywire_arg *read, const waywire_kind *k
 }
 
 /* An argument that was decoded is the one of the report. */
-static inline void must_be_apart(waywire_sender sender, size_t place, const waywire_decoded *decoded)
+static inline void must_be_apart(waywire_sender sender, size_t index, const waywire_decoded *decoded)
 {
-	const waywire_arg *it = &decoded->args[place], *read = &report.args[place];
+	const waywire_arg *arg = &decoded->args[index], *read = &report.args[index];
 	waywire_kind kind;
-	MUST(!waywire_tables_kind(tables, report.interface, sender, decoded->opcode, place, &kind));
-	if (it->kind == WAYWIRE_BOUND)
-		MUST(!waywire_tables_interface(tables, (const char *)it->bytes, &kind.interface));
-	MUST(decoded->interfaces[place] == kind.interface);
-	MUST(it->kind == kind_apart(read, &kind));
-	MUST(it->i == read->i && it->u == (it->kind == WAYWIRE_FD ? 0 : read->u));
-	MUST(it->object.id == read->object.id && !it->object.birth && it->length == read->length);
-	MUST(!it->length || !memcmp(it->bytes, read->bytes, it->length));
-	MUST(it->kind != WAYWIRE_STRING || !((const char *)it->bytes)[it->length]);
+	MUST(!waywire_tables_kind(tables, report.interface, sender, decoded->opcode, index, &kind));
+	if (arg->kind == WAYWIRE_BOUND)
+		MUST(!waywire_tables_interface(tables, (const char *)arg->bytes, &kind.interface));
+	MUST(decoded->interfaces[index] == kind.interface);
+	MUST(arg->kind == kind_apart(read, &kind));
+	MUST(arg->i == read->i && arg->u == (arg->kind == WAYWIRE_FD ? 0 : read->u));
+	MUST(arg->object.id == read->object.id && !arg->object.birth && arg->length == read->length);
+	MUST(!arg->length || !memcmp(arg->bytes, read->bytes, arg->length));
+	MUST(arg->kind != WAYWIRE_STRING || !((const char *)arg->bytes)[arg->length]);
 }
 
 /* The message that was read is decoded to the same, and its report lists its tokens. */
@@ -97,10 +97,10 @@ static inline void must_come_apart(waywire_sender sender)
 	MUST(!waywire_tables_message(tables, report.interface, sender, decoded.opcode, &message, &name, &length));
 	MUST(decoded.name == name && decoded.name_length == length && decoded.arg_count == report.arg_count);
 	MUST(decoded.size <= carried && !decoded.place && !decoded.spelling);
-	for (size_t place = 0; place < decoded.arg_count; place++) {
-		must_be_apart(sender, place, &decoded);
-		if (report.args[place].kind == WAYWIRE_FD)
-			MUST(count < report.token_count && report.tokens[count++] == report.args[place].u);
+	for (size_t i = 0; i < decoded.arg_count; i++) {
+		must_be_apart(sender, i, &decoded);
+		if (report.args[i].kind == WAYWIRE_FD)
+			MUST(count < report.token_count && report.tokens[count++] == report.args[i].u);
 	}
 	MUST(count == report.token_count);
 }
@@ -155,11 +155,11 @@ static inline void close_pair(void)
 /* Advertises an interface at its newest version, and returns its name among the globals. */
 static inline uint32_t advertise(const char *interface, uint32_t *version)
 {
-	uint16_t place;
+	uint16_t index;
 	uint32_t name;
-	MUST(!waywire_tables_interface(tables, interface, &place));
-	MUST(!waywire_tables_version(tables, place, version));
-	MUST(!waywire_server_add_global(server, place, *version, &name));
+	MUST(!waywire_tables_interface(tables, interface, &index));
+	MUST(!waywire_tables_version(tables, index, version));
+	MUST(!waywire_server_add_global(server, index, *version, &name));
 	MUST(!waywire_server_announce(server, NULL));
 	do
 		carry_and_read_at_client();

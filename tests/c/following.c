@@ -198,8 +198,8 @@ struct data {
 
 static void add_word(struct data *data, uint32_t word)
 {
-	for (int each = 0; each < 4; each++)
-		data->bytes[data->length++] = (unsigned char)(word >> 8 * each);
+	for (int i = 0; i < 4; i++)
+		data->bytes[data->length++] = (unsigned char)(word >> 8 * i);
 }
 
 /* Adds a text from behind its first quote, and returns what stands behind its second. */
@@ -266,15 +266,15 @@ static struct line told_by(const waywire_followed *message)
 static void put_objects(struct line *line, waywire_sender maker, uint32_t first)
 {
 	size_t count = waywire_inspector_id_count(inspector, maker);
-	for (size_t each = 0; each <= count; each++) {
-		uint32_t id = first + (uint32_t)each;
+	for (size_t i = 0; i <= count; i++) {
+		uint32_t id = first + (uint32_t)i;
 		waywire_known known;
 		MUST(!waywire_inspector_object(inspector, id, &known));
 		if (!known.is_known) {
 			MUST(known.interface == WAYWIRE_ANY_INTERFACE && !known.is_ending && !known.birth && !known.version);
 			continue;
 		}
-		MUST(each < count);
+		MUST(i < count);
 		put_interface(line, known.interface);
 		put(line, "@%u %llu %u%s; ", id, (unsigned long long)known.birth, known.version,
 			known.is_ending ? " ending" : "");
@@ -292,16 +292,17 @@ static struct line objects(void)
 static struct line verdict(void)
 {
 	struct line line = { "", 0 };
-	waywire_judgement it;
-	MUST(!waywire_inspector_judgement(inspector, &it));
+	waywire_judgement judgement;
+	MUST(!waywire_inspector_judgement(inspector, &judgement));
 	uint64_t judged = waywire_inspector_judged(inspector);
-	if (it.fault)
+	if (judgement.fault)
 		put(&line, "%llu judged, fault %u of %c %zu at %zu, argument %zu, spelling %u", (unsigned long long)judged,
-			it.fault, it.sender == WAYWIRE_FROM_CLIENT ? '>' : '<', it.index, it.offset, it.place, it.spelling);
+			judgement.fault, judgement.sender == WAYWIRE_FROM_CLIENT ? '>' : '<', judgement.index,
+			judgement.offset, judgement.place, judgement.spelling);
 	else
-		put(&line, "lawful, %zu requests, %zu events, %zu and %zu", it.requests, it.events, it.left_to_server,
-			it.left_to_client);
-	MUST(it.fault || judged == it.requests + it.events);
+		put(&line, "lawful, %zu requests, %zu events, %zu and %zu", judgement.requests, judgement.events,
+			judgement.left_to_server, judgement.left_to_client);
+	MUST(judgement.fault || judged == judgement.requests + judgement.events);
 	return line;
 }
 
@@ -382,8 +383,8 @@ struct counts {
 static struct line said_by(const waywire_decoded *decoded)
 {
 	struct line line = { "", 0 };
-	for (size_t place = 0; place < decoded->arg_count; place++) {
-		const waywire_arg *arg = &decoded->args[place];
+	for (size_t i = 0; i < decoded->arg_count; i++) {
+		const waywire_arg *arg = &decoded->args[i];
 		switch (arg->kind) {
 		case WAYWIRE_INT: put(&line, " %d", arg->i); break;
 		case WAYWIRE_UINT: put(&line, " %u", arg->u); break;
@@ -562,9 +563,9 @@ static void announce(void)
 	uint16_t dev, off;
 	MUST(!waywire_inspector_new(tables, WAYWIRE_USUAL_LIMIT, &inspector));
 	MUST(!waywire_tables_interface(tables, "dev", &dev) && !waywire_tables_interface(tables, "off", &off));
-	for (size_t each = 0; each < sizeof said / sizeof *said; each++) {
+	for (size_t i = 0; i < sizeof said / sizeof *said; i++) {
 		struct data data;
-		waywire_sender sender = read_step(said[each], &data);
+		waywire_sender sender = read_step(said[i], &data);
 		MUST(!waywire_inspector_follow(inspector, sender, data.bytes, data.length));
 		MUST(!waywire_inspector_go_past(inspector, sender));
 	}

@@ -7,13 +7,13 @@
 
 /* ---- calls that write */
 
-/* The model's result for a call of an end: its status, and the place that a refusal names. */
+/* The model's result for a call of an end: its status, and the index that a refusal names. */
 struct expected {
 	waywire_status status;
-	size_t place;
+	size_t index;
 };
 
-#define NO_PLACE 77
+#define NO_INDEX 77
 
 /* An object of an end, as often as there is one a live one of fz_all. */
 static struct object *chosen(int by)
@@ -35,30 +35,30 @@ static void fill_bytes(waywire_arg *arg, char *bytes)
 		bytes[at] = (char)(1 + chance(255));
 }
 
-/* Arguments for `all`, of their kinds, but for now and then one that is wrong. Says which place is refused first,
+/* Arguments for `all`, of their kinds, but for now and then one that is wrong. Says which index is refused first,
  * and by which status. */
 static struct expected fill_all(struct message *message, int by)
 {
 	static const uint32_t kinds[MOST_ARGS + 1] = { WAYWIRE_INT, WAYWIRE_UINT, WAYWIRE_FIXED, WAYWIRE_STRING,
 		WAYWIRE_NULL_STRING, WAYWIRE_OBJECT, WAYWIRE_NULL_OBJECT, WAYWIRE_ARRAY, WAYWIRE_FD };
-	struct expected expected = { WAYWIRE_OK, NO_PLACE };
+	struct expected expected = { WAYWIRE_OK, NO_INDEX };
 	message->arg_count = MOST_ARGS;
-	for (size_t place = 0; place < MOST_ARGS; place++) {
-		waywire_arg *arg = &message->args[place];
+	for (size_t i = 0; i < MOST_ARGS; i++) {
+		waywire_arg *arg = &message->args[i];
 		*arg = waywire_no_object();
-		arg->kind = kinds[place];
+		arg->kind = kinds[i];
 		arg->i = (int32_t)chance(UINT32_MAX);
 		arg->u = chance(UINT32_MAX);
 		if (arg->kind == WAYWIRE_NULL_STRING && chance(2))
 			arg->kind = WAYWIRE_STRING;
 		if (arg->kind == WAYWIRE_STRING || arg->kind == WAYWIRE_ARRAY)
-			fill_bytes(arg, message->bytes[place]);
+			fill_bytes(arg, message->bytes[i]);
 		if (arg->kind != WAYWIRE_OBJECT && (arg->kind != WAYWIRE_NULL_OBJECT || chance(2)))
 			continue;
 		const struct object *object = chosen(by);
-		*arg = waywire_of(object->it);
+		*arg = waywire_of(object->value);
 		if ((object->life != LIVE || !object->is_all) && !expected.status)
-			expected = (struct expected){ WAYWIRE_BAD_OBJECT, place };
+			expected = (struct expected){ WAYWIRE_BAD_OBJECT, i };
 	}
 	return expected;
 }
@@ -84,28 +84,28 @@ static struct call call_of(const struct message *message, waywire_object target)
 /* Makes a mistake, and returns what is expected then. `expected` is what is expected without it. */
 static struct expected mistaken(struct call *call, enum mistake mistake, struct expected expected)
 {
-	size_t place = call->arg_count ? chance((uint32_t)call->arg_count) : 0;
-	waywire_arg *arg = &call->args[place];
+	size_t index = call->arg_count ? chance((uint32_t)call->arg_count) : 0;
+	waywire_arg *arg = &call->args[index];
 	switch (mistake) {
 	case NULL_BYTES: case TOO_LARGE:
 		*arg = waywire_array(mistake == TOO_LARGE ? text : NULL, mistake == TOO_LARGE ? SIZE_MAX / 2 + 1 : 1);
 		call->arg_count += call->arg_count == 0;
-		return (struct expected){ mistake == TOO_LARGE ? WAYWIRE_TOO_LARGE : WAYWIRE_NULL, NO_PLACE };
+		return (struct expected){ mistake == TOO_LARGE ? WAYWIRE_TOO_LARGE : WAYWIRE_NULL, NO_INDEX };
 	case NO_KIND:
 		arg->kind = chance(2) ? 0 : WAYWIRE_FD + 1 + chance(1000);
 		call->arg_count += call->arg_count == 0;
-		return (struct expected){ WAYWIRE_BAD_VALUE, NO_PLACE };
+		return (struct expected){ WAYWIRE_BAD_VALUE, NO_INDEX };
 	case STALE:
 		call->target.birth += 1000000;
-		return (struct expected){ WAYWIRE_STALE, NO_PLACE };
+		return (struct expected){ WAYWIRE_STALE, NO_INDEX };
 	case NO_MESSAGE:
 		call->opcode = (uint16_t)(3 + chance(60000));
-		return (struct expected){ WAYWIRE_NO_SUCH_MESSAGE, NO_PLACE };
+		return (struct expected){ WAYWIRE_NO_SUCH_MESSAGE, NO_INDEX };
 	case WRONG_KIND:
 		if (!call->arg_count)
 			return expected;
 		*arg = arg->kind == WAYWIRE_UINT ? waywire_int(1) : waywire_uint(1);
-		return (struct expected){ WAYWIRE_WRONG_ARGS, place };
+		return (struct expected){ WAYWIRE_WRONG_ARGS, index };
 	case FEWER:
 		if (!call->arg_count)
 			return expected;
@@ -122,8 +122,8 @@ static struct expected mistaken(struct call *call, enum mistake mistake, struct 
 static size_t tokens_in(const struct message *message)
 {
 	size_t count = 0;
-	for (size_t place = 0; place < message->arg_count; place++)
-		count += message->args[place].kind == WAYWIRE_FD;
+	for (size_t i = 0; i < message->arg_count; i++)
+		count += message->args[i].kind == WAYWIRE_FD;
 	return count;
 }
 
@@ -132,19 +132,19 @@ static void goes(struct way *way, const struct message *message)
 {
 	unsigned char bytes[OUT_BYTES];
 	size_t length = encode(message, bytes);
-	for (size_t place = 0; place < message->arg_count; place++)
-		if (message->args[place].kind == WAYWIRE_FD) {
+	for (size_t i = 0; i < message->arg_count; i++)
+		if (message->args[i].kind == WAYWIRE_FD) {
 			way->tokens[way->token_count].at = way->length;
-			way->tokens[way->token_count++].token = message->args[place].u;
+			way->tokens[way->token_count++].token = message->args[i].u;
 		}
 	memcpy(way->bytes + way->length, bytes, length);
 	way->length += length;
 	MUST(way->count < MOST_MESSAGES);
 	struct message *last = &way->messages[(way->first + way->count++) % MOST_MESSAGES];
 	*last = *message;
-	for (size_t place = 0; place < last->arg_count; place++)
-		if (last->args[place].kind == WAYWIRE_STRING || last->args[place].kind == WAYWIRE_ARRAY)
-			last->args[place].bytes = last->bytes[place];
+	for (size_t i = 0; i < last->arg_count; i++)
+		if (last->args[i].kind == WAYWIRE_STRING || last->args[i].kind == WAYWIRE_ARRAY)
+			last->args[i].bytes = last->bytes[i];
 }
 
 /* The old contents of what a call writes. */
@@ -158,25 +158,25 @@ static bool sends(int by, const struct message *message, waywire_object target, 
 	unsigned char bytes[OUT_BYTES];
 	enum mistake mistake = chance(4) ? NONE : (enum mistake)chance(MISTAKES);
 	struct call call = call_of(message, target);
-	size_t place = NO_PLACE;
+	size_t index = NO_INDEX;
 	bool makes = message->arg_count && message->args[0].kind == WAYWIRE_NEW;
-	bool asks_place = chance(8), asks_made = makes || chance(8);
+	bool asks_index = chance(8), asks_made = makes || chance(8);
 	settle(&ways[by]);
 	if (!expected.status && !fits(&ways[by], encode(message, bytes) + following, tokens_in(message)))
 		expected.status = WAYWIRE_FULL;
 	expected = mistaken(&call, mistake, expected);
 	if (mistake == NULL_END || (mistake == NULL_ARGS && call.arg_count))
-		expected = (struct expected){ WAYWIRE_NULL, NO_PLACE };
+		expected = (struct expected){ WAYWIRE_NULL, NO_INDEX };
 	*new = stood;
 	refuse_some();
 	waywire_status status = waywire_end_send(mistake == NULL_END ? NULL : ends[by], call.target, call.opcode,
 		mistake == NULL_ARGS ? NULL : call.args, call.arg_count, asks_made ? new : NULL,
-		asks_place ? &place : NULL);
+		asks_index ? &index : NULL);
 	refuse_none();
 	if (status == WAYWIRE_NO_MEMORY && was_refused && makes && !expected.status)
 		expected.status = status;
 	MUST(status == expected.status);
-	MUST(place == (asks_place ? expected.place : NO_PLACE));
+	MUST(index == (asks_index ? expected.index : NO_INDEX));
 	if (status || !asks_made)
 		MUST(waywire_object_equal(*new, stood));
 	else
@@ -191,13 +191,13 @@ static struct message message_to(waywire_object target, uint16_t opcode)
 }
 
 static const waywire_object display = { 0, 1 };
-static const struct expected right = { WAYWIRE_OK, NO_PLACE };
+static const struct expected right = { WAYWIRE_OK, NO_INDEX };
 
 /* An object is live at an end, with no pointer of the caller's. */
-static void opens(int by, waywire_object it, bool is_all)
+static void opens(int by, waywire_object object, bool is_all)
 {
-	MUST(it.id > 1 && it.id < MOST_IDS && objects[by][it.id].life == FREE);
-	objects[by][it.id] = (struct object){ it, LIVE, is_all, NULL };
+	MUST(object.id > 1 && object.id < MOST_IDS && objects[by][object.id].life == FREE);
+	objects[by][object.id] = (struct object){ object, LIVE, is_all, NULL };
 }
 
 static bool has_free_id(void)
@@ -212,7 +212,7 @@ static bool has_free_id(void)
 static void makes_one(bool is_all)
 {
 	const struct object *maker = chosen(BY_CLIENT);
-	waywire_object target = is_all ? maker->it : display, new;
+	waywire_object target = is_all ? maker->value : display, new;
 	struct message message = message_to(target, is_all ? MAKE : WAYWIRE_WL_DISPLAY_REQUEST_SYNC);
 	if (!has_free_id() || (is_all && (maker->life != LIVE || !maker->is_all)))
 		return;
@@ -235,11 +235,11 @@ static void requests(void)
 	}
 	if (object->life != LIVE || !object->is_all)
 		return;
-	struct message message = message_to(object->it, chance(4) ? ALL : END);
+	struct message message = message_to(object->value, chance(4) ? ALL : END);
 	struct expected expected = message.opcode == ALL ? fill_all(&message, BY_CLIENT) : right;
-	if (object->it.id == BOUND_ID && message.opcode == END)
+	if (object->value.id == BOUND_ID && message.opcode == END)
 		return;
-	if (!sends(BY_CLIENT, &message, object->it, expected, 0, &new))
+	if (!sends(BY_CLIENT, &message, object->value, expected, 0, &new))
 		return;
 	goes(&ways[BY_CLIENT], &message);
 	if (message.opcode == END)
@@ -257,37 +257,37 @@ static void delete_id_goes(uint32_t id)
 /* A callback ends, by its event or without it. */
 static void ends_callback(struct object *object)
 {
-	struct message message = message_to(object->it, WAYWIRE_WL_CALLBACK_EVENT_DONE);
+	struct message message = message_to(object->value, WAYWIRE_WL_CALLBACK_EVENT_DONE);
 	waywire_object new;
 	message.arg_count = 1;
 	message.args[0] = waywire_uint(chance(1000));
 	settle(&ways[BY_SERVER]);
 	if (chance(2)) {
-		if (!sends(BY_SERVER, &message, object->it, right, 12, &new))
+		if (!sends(BY_SERVER, &message, object->value, right, 12, &new))
 			return;
 		goes(&ways[BY_SERVER], &message);
 	} else {
 		bool room = fits(&ways[BY_SERVER], 12, 0);
-		MUST(waywire_server_drop_object(server, object->it) == (room ? WAYWIRE_OK : WAYWIRE_FULL));
+		MUST(waywire_server_drop_object(server, object->value) == (room ? WAYWIRE_OK : WAYWIRE_FULL));
 		if (!room)
 			return;
 	}
 	object->life = FREE;
-	delete_id_goes(object->it.id);
-	MUST(waywire_server_drop_object(server, object->it) == WAYWIRE_STALE);
+	delete_id_goes(object->value.id);
+	MUST(waywire_server_drop_object(server, object->value) == WAYWIRE_STALE);
 }
 
 static void writes_events(void)
 {
 	struct object *object = chance(2) ? chosen(BY_SERVER) : &objects[BY_SERVER][2 + chance(MOST_IDS - 2)];
 	waywire_object new;
-	if (object->life != LIVE || object->it.id == REGISTRY_ID)
+	if (object->life != LIVE || object->value.id == REGISTRY_ID)
 		return;
 	if (!object->is_all) {
 		ends_callback(object);
 		return;
 	}
-	struct message message = message_to(object->it, chance(2) ? ALL : WORDS);
+	struct message message = message_to(object->value, chance(2) ? ALL : WORDS);
 	struct expected expected = right;
 	if (message.opcode == ALL) {
 		expected = fill_all(&message, BY_SERVER);
@@ -298,7 +298,7 @@ static void writes_events(void)
 		message.args[2] = waywire_array(NULL, 0);
 		fill_bytes(&message.args[2], message.bytes[2]);
 	}
-	if (sends(BY_SERVER, &message, object->it, expected, 0, &new))
+	if (sends(BY_SERVER, &message, object->value, expected, 0, &new))
 		goes(&ways[BY_SERVER], &message);
 }
 
@@ -309,8 +309,8 @@ static waywire_amounts takes(const struct way *way, size_t bytes, size_t tokens)
 {
 	size_t most = way->length - way->sent < bytes ? way->length - way->sent : bytes, end = way->sent + most;
 	waywire_amounts amounts = { most, 0 };
-	for (size_t each = way->tokens_sent; each < way->token_count;) {
-		size_t start = way->tokens[each].at, next = each;
+	for (size_t i = way->tokens_sent; i < way->token_count;) {
+		size_t start = way->tokens[i].at, next = i;
 		while (next < way->token_count && way->tokens[next].at == start)
 			next++;
 		if (start >= end)
@@ -320,7 +320,7 @@ static waywire_amounts takes(const struct way *way, size_t bytes, size_t tokens)
 			break;
 		}
 		amounts.tokens = next - way->tokens_sent;
-		each = next;
+		i = next;
 	}
 	return amounts;
 }
@@ -338,8 +338,8 @@ static waywire_amounts take(int by, unsigned char *bytes, size_t length, uint32_
 	MUST(same_amounts(waywire_end_goes(ends[by], length, count), wanted));
 	MUST(!waywire_end_take(ends[by], bytes, length, tokens, count, &taken) && same_amounts(taken, wanted));
 	MUST(!memcmp(bytes, way->bytes + way->sent, taken.bytes));
-	for (size_t each = 0; each < taken.tokens; each++)
-		MUST(tokens[each] == way->tokens[way->tokens_sent + each].token);
+	for (size_t i = 0; i < taken.tokens; i++)
+		MUST(tokens[i] == way->tokens[way->tokens_sent + i].token);
 	way->sent += taken.bytes;
 	way->tokens_sent += taken.tokens;
 	return taken;
@@ -354,7 +354,7 @@ static bool is_reported(int reader, const waywire_arg *given, const waywire_arg 
 	const struct object *object = &objects[reader][given->object.id < MOST_IDS ? given->object.id : 0];
 	if (given->kind == WAYWIRE_OBJECT) {
 		wanted.kind = object->life == LIVE ? WAYWIRE_OBJECT : WAYWIRE_DEAD_OBJECT;
-		wanted.object = object->it;
+		wanted.object = object->value;
 	}
 	if (given->kind == WAYWIRE_NEW)
 		wanted.object.birth = got->object.birth;
@@ -370,18 +370,19 @@ static bool is_reported(int reader, const waywire_arg *given, const waywire_arg 
 static void is_told(int reader, const struct message *message, const waywire_report *report)
 {
 	const struct object *target = &objects[reader][message->target];
-	waywire_object it = message->target == 1 ? display : target->it;
+	waywire_object object = message->target == 1 ? display : target->value;
 	bool live = message->target == 1 || target->life == LIVE;
 	MUST(report->kind == (live ? WAYWIRE_MESSAGE : WAYWIRE_DISCARDED) && report->opcode == message->opcode);
-	MUST(waywire_object_equal(report->target, it) && report->user == (message->target == 1 ? NULL : target->user));
+	MUST(waywire_object_equal(report->target, object));
+	MUST(report->user == (message->target == 1 ? NULL : target->user));
 	MUST(!report->id && !report->code && !report->named && !report->spelling && !report->text_length
 		&& !report->place && !report->offset && !report->replaced.id && !report->replaced_user);
 	MUST(report->arg_count == (live ? message->arg_count : 0) && report->token_count == tokens_in(message));
-	for (size_t place = 0; place < report->arg_count; place++)
-		MUST(is_reported(reader, &message->args[place], &report->args[place]));
-	for (size_t place = 0, each = 0; place < message->arg_count; place++)
-		if (message->args[place].kind == WAYWIRE_FD)
-			MUST(report->tokens[each++] == message->args[place].u);
+	for (size_t i = 0; i < report->arg_count; i++)
+		MUST(is_reported(reader, &message->args[i], &report->args[i]));
+	for (size_t i = 0, token = 0; i < message->arg_count; i++)
+		if (message->args[i].kind == WAYWIRE_FD)
+			MUST(report->tokens[token++] == message->args[i].u);
 }
 
 /* What a server reads. */
@@ -409,7 +410,7 @@ static void reads_event(const struct message *message, const waywire_report *rep
 		return;
 	}
 	struct object *ended = &objects[BY_CLIENT][message->args[0].u];
-	MUST(report->kind == WAYWIRE_DELETED && waywire_object_equal(report->target, ended->it));
+	MUST(report->kind == WAYWIRE_DELETED && waywire_object_equal(report->target, ended->value));
 	MUST(report->user == ended->user && !report->arg_count && !report->token_count);
 	ended->life = FREE;
 }
@@ -519,17 +520,17 @@ static void asks(int by)
 	void *user = chance(3) ? &objects[chance(2)][chance(MOST_IDS)] : NULL;
 	uint16_t interface = 999, wanted;
 	uint32_t version = 999;
-	if (!object->it.id)
+	if (!object->value.id)
 		return;
-	waywire_status status = waywire_end_live(ends[by], object->it, &interface, &version);
+	waywire_status status = waywire_end_live(ends[by], object->value, &interface, &version);
 	MUST(status == (object->life == LIVE ? WAYWIRE_OK : WAYWIRE_NOT_FOUND));
-	MUST(!waywire_tables_interface(tables, object->is_all ? "fz_all" : object->it.id == REGISTRY_ID ? "wl_registry"
-		: "wl_callback", &wanted));
+	MUST(!waywire_tables_interface(tables, object->is_all ? "fz_all" : object->value.id == REGISTRY_ID
+		? "wl_registry" : "wl_callback", &wanted));
 	MUST(interface == (status ? 999 : wanted) && version == (status ? 999 : 1));
 	if (object->life != FREE)
-		MUST(waywire_end_user(ends[by], object->it) == object->user);
+		MUST(waywire_end_user(ends[by], object->value) == object->user);
 	refuse_some();
-	status = waywire_end_set_user(ends[by], object->it, user);
+	status = waywire_end_set_user(ends[by], object->value, user);
 	refuse_none();
 	if (status == WAYWIRE_NO_MEMORY)
 		MUST(was_refused && object->life == LIVE && user);
@@ -573,7 +574,7 @@ static void grows(void)
 	static unsigned number;
 	char more[160], name[32];
 	const waywire_tables *before = waywire_end_tables(client.end);
-	uint16_t place;
+	uint16_t index;
 	number++;
 	snprintf(name, sizeof name, "fz_%u", number);
 	snprintf(more, sizeof more, "extend fz_all 1\nrequest more_%u u\nevent more_%u u\ninterface %s 1\n", number,
@@ -585,7 +586,7 @@ static void grows(void)
 	MUST(!status || (status == WAYWIRE_NO_MEMORY && was_refused));
 	const waywire_tables *now = waywire_end_tables(client.end);
 	MUST((now == before) == (status != WAYWIRE_OK));
-	MUST(waywire_tables_interface(now, name, &place) == (status ? WAYWIRE_NOT_FOUND : WAYWIRE_OK));
+	MUST(waywire_tables_interface(now, name, &index) == (status ? WAYWIRE_NOT_FOUND : WAYWIRE_OK));
 }
 
 /* ---- the whole session */

@@ -103,7 +103,7 @@ enum { BY_CLIENT, BY_SERVER };
 enum { REGISTRY_ID = 2, BOUND_ID = 3 };
 
 struct object {
-	waywire_object it;
+	waywire_object value;
 	enum life life;
 	bool is_all; /* of fz_all; else a callback, or one of the first three */
 	void *user;
@@ -152,8 +152,8 @@ static void put_arg(unsigned char **at, const waywire_arg *arg)
 static size_t encode(const struct message *message, unsigned char *bytes)
 {
 	unsigned char *at = bytes + 8;
-	for (size_t place = 0; place < message->arg_count; place++)
-		put_arg(&at, &message->args[place]);
+	for (size_t i = 0; i < message->arg_count; i++)
+		put_arg(&at, &message->args[i]);
 	size_t length = (size_t)(at - bytes);
 	uint32_t head[2] = { message->target, (uint32_t)(length << 16 | message->opcode) };
 	memcpy(bytes, head, 8);
@@ -173,8 +173,8 @@ static void settle(struct way *way)
 	size_t left = way->token_count - way->tokens_sent;
 	memmove(way->bytes, way->bytes + way->sent, way->length - way->sent);
 	memmove(way->tokens, way->tokens + way->tokens_sent, left * sizeof *way->tokens);
-	for (size_t each = 0; each < left; each++)
-		way->tokens[each].at = way->tokens[each].at < way->sent ? 0 : way->tokens[each].at - way->sent;
+	for (size_t i = 0; i < left; i++)
+		way->tokens[i].at = way->tokens[i].at < way->sent ? 0 : way->tokens[i].at - way->sent;
 	way->length -= way->sent;
 	way->sent = 0;
 	way->token_count = left;

@@ -31,75 +31,75 @@ static waywire_tables *tables;
 static void on_global(void *data, waywire_wl_registry registry, uint32_t name, const char *interface,
 	uint32_t version)
 {
-	struct side *it = data;
+	struct side *side = data;
 	(void)version;
 	if (!strcmp(interface, WAYWIRE_WL_COMPOSITOR_NAME))
-		MUST(!waywire_wl_compositor_bind(it->client, registry, name, 1, &it->compositor));
+		MUST(!waywire_wl_compositor_bind(side->client, registry, name, 1, &side->compositor));
 	if (!strcmp(interface, WAYWIRE_WL_SHM_NAME))
-		MUST(!waywire_wl_shm_bind(it->client, registry, name, 1, &it->shm));
+		MUST(!waywire_wl_shm_bind(side->client, registry, name, 1, &side->shm));
 	if (!strcmp(interface, WAYWIRE_WL_SEAT_NAME))
-		MUST(!waywire_wl_seat_bind(it->client, registry, name, 1, &it->seat));
+		MUST(!waywire_wl_seat_bind(side->client, registry, name, 1, &side->seat));
 	if (!strcmp(interface, WW_XDG_WM_BASE_NAME))
-		MUST(!ww_xdg_wm_base_bind(it->client, registry, name, 1, &it->wm_base));
+		MUST(!ww_xdg_wm_base_bind(side->client, registry, name, 1, &side->wm_base));
 	if (!strcmp(interface, WW_WL_DATA_DEVICE_MANAGER_NAME))
-		MUST(!ww_wl_data_device_manager_bind(it->client, registry, name, 1, &it->manager));
+		MUST(!ww_wl_data_device_manager_bind(side->client, registry, name, 1, &side->manager));
 }
 
 static const struct waywire_wl_registry_events registry_events = { .global = on_global };
 
-static void connect_side(struct side *it, const char *path)
+static void connect_side(struct side *side, const char *path)
 {
 	waywire_wl_registry registry;
-	*it = (struct side){ .connection = waywire_connection_connect(tables, NULL, path) };
-	MUST(it->connection);
-	it->client = waywire_connection_client(it->connection);
-	MUST(!waywire_wl_display_get_registry(it->client,
-		waywire_wl_display_of(waywire_end_display(it->client.end)), &registry));
-	MUST(!waywire_connection_listen(it->connection, registry.object, waywire_wl_registry_event_dispatcher,
-		&registry_events, it));
-	MUST(waywire_connection_roundtrip(it->connection, WAIT) > 0);
-	MUST(it->compositor.object.id && it->shm.object.id && it->seat.object.id);
-	MUST(it->wm_base.object.id && it->manager.object.id);
+	*side = (struct side){ .connection = waywire_connection_connect(tables, NULL, path) };
+	MUST(side->connection);
+	side->client = waywire_connection_client(side->connection);
+	MUST(!waywire_wl_display_get_registry(side->client,
+		waywire_wl_display_of(waywire_end_display(side->client.end)), &registry));
+	MUST(!waywire_connection_listen(side->connection, registry.object, waywire_wl_registry_event_dispatcher,
+		&registry_events, side));
+	MUST(waywire_connection_roundtrip(side->connection, WAIT) > 0);
+	MUST(side->compositor.object.id && side->shm.object.id && side->seat.object.id);
+	MUST(side->wm_base.object.id && side->manager.object.id);
 }
 
 /* The compositor goes on serving a client. */
-static void must_be_served(struct side *it)
+static void must_be_served(struct side *side)
 {
-	MUST(waywire_connection_roundtrip(it->connection, WAIT) > 0);
+	MUST(waywire_connection_roundtrip(side->connection, WAIT) > 0);
 }
 
 /* ---- an outbox without room */
 
 /* Selects a source with many types, at one of many devices. */
-static void copy(struct side *it)
+static void copy(struct side *side)
 {
 	waywire_wl_data_source source;
 	waywire_wl_data_device device;
 	char type[LONG + 1];
-	MUST(!ww_wl_data_device_manager_create_data_source(it->client, it->manager, &source));
-	for (int each = 0; each < TYPES; each++) {
-		snprintf(type, sizeof type, "%0*d", LONG, each);
-		MUST(!ww_wl_data_source_offer(it->client, source, type));
+	MUST(!ww_wl_data_device_manager_create_data_source(side->client, side->manager, &source));
+	for (int i = 0; i < TYPES; i++) {
+		snprintf(type, sizeof type, "%0*d", LONG, i);
+		MUST(!ww_wl_data_source_offer(side->client, source, type));
 	}
-	for (int each = 0; each < DEVICES; each++)
-		MUST(!ww_wl_data_device_manager_get_data_device(it->client, it->manager, it->seat, &device));
-	MUST(!ww_wl_data_device_set_selection(it->client, device, source, 0));
+	for (int i = 0; i < DEVICES; i++)
+		MUST(!ww_wl_data_device_manager_get_data_device(side->client, side->manager, side->seat, &device));
+	MUST(!ww_wl_data_device_set_selection(side->client, device, source, 0));
 }
 
 /* Shows a picture in a window, which gets the focus, and asks for the next frame. */
-static void show(struct side *it)
+static void show(struct side *side)
 {
-	waywire_client client = it->client;
+	waywire_client client = side->client;
 	waywire_wl_surface surface;
 	waywire_xdg_surface xdg_surface;
 	waywire_xdg_toplevel toplevel;
 	waywire_wl_shm_pool pool;
 	waywire_wl_buffer buffer;
 	waywire_wl_callback callback;
-	MUST(!waywire_wl_compositor_create_surface(client, it->compositor, &surface));
-	MUST(!ww_xdg_wm_base_get_xdg_surface(client, it->wm_base, surface, &xdg_surface));
+	MUST(!waywire_wl_compositor_create_surface(client, side->compositor, &surface));
+	MUST(!ww_xdg_wm_base_get_xdg_surface(client, side->wm_base, surface, &xdg_surface));
 	MUST(!ww_xdg_surface_get_toplevel(client, xdg_surface, &toplevel));
-	MUST(!waywire_wl_shm_create_pool(client, it->shm, new_descriptor(4096), 4096, &pool));
+	MUST(!waywire_wl_shm_create_pool(client, side->shm, new_descriptor(4096), 4096, &pool));
 	MUST(!waywire_wl_shm_pool_create_buffer(client, pool, 0, 32, 32, 128, WAYWIRE_WL_SHM_FORMAT_XRGB8888,
 		&buffer));
 	MUST(!waywire_wl_surface_attach(client, surface, buffer, 0, 0));
@@ -110,14 +110,14 @@ static void show(struct side *it)
 /* When its window gets the focus, a client is sent more offers than its outbox has room for. */
 static void test_devices(const char *path, struct side *other)
 {
-	struct side it;
-	connect_side(&it, path);
-	copy(&it);
-	show(&it);
-	while (waywire_connection_dispatch(it.connection, WAIT) > 0)
+	struct side side;
+	connect_side(&side, path);
+	copy(&side);
+	show(&side);
+	while (waywire_connection_dispatch(side.connection, WAIT) > 0)
 		;
-	MUST(waywire_connection_failure(it.connection));
-	waywire_connection_close(it.connection);
+	MUST(waywire_connection_failure(side.connection));
+	waywire_connection_close(side.connection);
 	must_be_served(other);
 }
 
@@ -127,16 +127,16 @@ static void test_devices(const char *path, struct side *other)
  * one more. */
 static bool gets_keyboard(const char *path, int pools)
 {
-	struct side it;
+	struct side side;
 	waywire_wl_shm_pool pool;
 	waywire_wl_keyboard keyboard;
-	connect_side(&it, path);
-	for (int each = 0; each < pools; each++)
-		MUST(!waywire_wl_shm_create_pool(it.client, it.shm, new_descriptor(1), 1, &pool));
-	MUST(!waywire_wl_seat_get_keyboard(it.client, it.seat, &keyboard));
-	bool is_served = waywire_connection_roundtrip(it.connection, WAIT) > 0;
-	MUST(is_served || waywire_connection_failure(it.connection));
-	waywire_connection_close(it.connection);
+	connect_side(&side, path);
+	for (int i = 0; i < pools; i++)
+		MUST(!waywire_wl_shm_create_pool(side.client, side.shm, new_descriptor(1), 1, &pool));
+	MUST(!waywire_wl_seat_get_keyboard(side.client, side.seat, &keyboard));
+	bool is_served = waywire_connection_roundtrip(side.connection, WAIT) > 0;
+	MUST(is_served || waywire_connection_failure(side.connection));
+	waywire_connection_close(side.connection);
 	return is_served;
 }
 

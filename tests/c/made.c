@@ -234,12 +234,12 @@ static void both_ranges_are_gone_through(void)
 		WAYWIRE_FIRST_SERVER_ID + 1 };
 	void *wanted[] = { NULL, NULL, &users[0], &users[1], &users[2] };
 	size_t at = 0;
-	for (waywire_object it = { 0, 0 }; !waywire_end_object_after(pair.client.end, it.id, &it); at++)
-		MUST(at < 5 && it.id == ids[at] && waywire_end_user(pair.client.end, it) == wanted[at]);
+	for (waywire_object object = { 0, 0 }; !waywire_end_object_after(pair.client.end, object.id, &object); at++)
+		MUST(at < 5 && object.id == ids[at] && waywire_end_user(pair.client.end, object) == wanted[at]);
 	MUST(at == 5);
 	at = 0;
-	for (waywire_object it = { 0, 0 }; !waywire_end_object_after(pair.server.end, it.id, &it); at++)
-		MUST(at < 5 && it.id == ids[at]);
+	for (waywire_object object = { 0, 0 }; !waywire_end_object_after(pair.server.end, object.id, &object); at++)
+		MUST(at < 5 && object.id == ids[at]);
 	MUST(at == 5);
 	waywire_object none;
 	static const uint32_t behind[] = { WAYWIRE_FIRST_SERVER_ID + 1,
@@ -324,12 +324,12 @@ static void hostile_server(void)
 	struct pair pair;
 	begin(&pair);
 	size_t before = live;
-	for (uint32_t place = 0; place < MOST_BY_SERVER; place++) {
-		uint32_t id = WAYWIRE_FIRST_SERVER_ID + place;
+	for (uint32_t i = 0; i < MOST_BY_SERVER; i++) {
+		uint32_t id = WAYWIRE_FIRST_SERVER_ID + i;
 		memcpy(event + 8, &id, sizeof id);
 		MUST(!waywire_end_feed(pair.client.end, event, sizeof event, NULL, 0, &fed));
-		MUST(read_event(&pair) == WAYWIRE_MESSAGE && is(made_last(&pair), id, place + 1));
-		MUST(place < 1000 || live - before <= 48 * (size_t)(place + 2));
+		MUST(read_event(&pair) == WAYWIRE_MESSAGE && is(made_last(&pair), id, i + 1));
+		MUST(i < 1000 || live - before <= 48 * (size_t)(i + 2));
 	}
 	MUST(live - before <= 40 * (size_t)MOST_BY_SERVER);
 	MUST(counted_by_client(&pair) == MOST_BY_SERVER + 3);

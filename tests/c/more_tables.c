@@ -36,12 +36,12 @@ static waywire_status grow(waywire_client client, const char *text)
 	return waywire_client_more_tables(client, text, strlen(text), NULL, NULL);
 }
 
-/* The place of an interface in the tables that an end has now. */
+/* The index of an interface in the tables that an end has now. */
 static uint16_t place_of(const waywire_end *end, const char *name)
 {
-	uint16_t place;
-	MUST(!waywire_tables_interface(waywire_end_tables(end), name, &place));
-	return place;
+	uint16_t index;
+	MUST(!waywire_tables_interface(waywire_end_tables(end), name, &index));
+	return index;
 }
 
 static uint32_t newest(const waywire_end *end, const char *name)
@@ -54,9 +54,9 @@ static uint32_t newest(const waywire_end *end, const char *name)
 /* The interface and the version of an object that is live. */
 static bool is_live(const waywire_end *end, waywire_object object, const char *interface, uint32_t version)
 {
-	uint16_t place;
+	uint16_t index;
 	uint32_t found;
-	return !waywire_end_live(end, object, &place, &found) && place == place_of(end, interface)
+	return !waywire_end_live(end, object, &index, &found) && index == place_of(end, interface)
 		&& found == version;
 }
 
@@ -177,12 +177,12 @@ static void in_steps(void)
 	waywire_object thing, other, turning;
 	waywire_client client = pair.client;
 	int user;
-	uint16_t place = place_of(client.end, "thing");
+	uint16_t index = place_of(client.end, "thing");
 	MUST(!waywire_client_bind(client, pair.registry, THING, "thing", 2, &thing));
 	MUST(!waywire_end_set_user(client.end, thing, &user));
 	reads(client.end, pair.server.end);
 	stays(pair, thing, &user);
-	MUST(!grow(client, second) && place_of(client.end, "thing") == place && newest(client.end, "thing") == 4);
+	MUST(!grow(client, second) && place_of(client.end, "thing") == index && newest(client.end, "thing") == 4);
 	stays(pair, thing, &user);
 	/* a global that was remembered still is, with its version */
 	MUST(waywire_client_bind(client, pair.registry, THING, "thing", 4, &other) == WAYWIRE_BAD_BIND);
@@ -199,7 +199,7 @@ static void in_steps(void)
 	asks(pair, turning, TURN, waywire_int(-5));
 	hears(pair, turning, TURNED, waywire_int(-6), 7);
 	/* and those of the third */
-	MUST(!grow(client, third) && place_of(client.end, "thing") == place && newest(client.end, "thing") == 5);
+	MUST(!grow(client, third) && place_of(client.end, "thing") == index && newest(client.end, "thing") == 5);
 	stays(pair, thing, &user);
 	asks(pair, turning, TURN, waywire_int(-7));
 	waywire_arg name[] = { waywire_string("a name"), waywire_of(thing) };
@@ -375,11 +375,11 @@ static void freed_once(void)
 	waywire_client one, other;
 	waywire_inspector *inspector;
 	waywire_arg new = waywire_new();
-	uint16_t place;
+	uint16_t index;
 	MUST(!waywire_client_new(few, &sizes, &one) && !waywire_client_new(few, &sizes, &other));
 	MUST(!waywire_inspector_new(few, WAYWIRE_USUAL_LIMIT, &inspector));
 	MUST(!grow(one, second)); /* the caller still has those before */
-	MUST(waywire_tables_interface(few, "later", &place) == WAYWIRE_NOT_FOUND);
+	MUST(waywire_tables_interface(few, "later", &index) == WAYWIRE_NOT_FOUND);
 	waywire_tables_free(few);
 	MUST(waywire_end_tables(other.end) == few && newest(other.end, "thing") == 3);
 	MUST(!waywire_end_send(other.end, waywire_end_display(other.end), WAYWIRE_WL_DISPLAY_REQUEST_SYNC, &new, 1,

@@ -8,10 +8,10 @@
 #include <waywire.h>
 
 /* Ends the program with a line about what did not hold. */
-#define MUST(it) \
+#define MUST(holds) \
 	do { \
-		if (!(it)) { \
-			fprintf(stderr, "%s:%d: %s\n", __FILE__, __LINE__, #it); \
+		if (!(holds)) { \
+			fprintf(stderr, "%s:%d: %s\n", __FILE__, __LINE__, #holds); \
 			exit(1); \
 		} \
 	} while (0)

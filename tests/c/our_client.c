@@ -52,10 +52,10 @@ static void frame(struct wl_client *client, struct wl_resource *surface, uint32_
 	wl_resource_destroy(callback);
 }
 
-static void set_region(struct wl_client *client, struct wl_resource *surface, struct wl_resource *it)
+static void set_region(struct wl_client *client, struct wl_resource *surface, struct wl_resource *zone)
 {
 	(void)client, (void)surface;
-	MUST(it);
+	MUST(zone);
 }
 
 static void commit(struct wl_client *client, struct wl_resource *surface)
@@ -140,18 +140,18 @@ static void bind_compositor(struct wl_client *client, void *data, uint32_t versi
 static void bind_shm(struct wl_client *client, void *data, uint32_t version, uint32_t id)
 {
 	(void)data;
-	struct wl_resource *it = wl_resource_create(client, &wl_shm_interface, (int)version, id);
-	wl_resource_set_implementation(it, &shm, NULL, NULL);
-	wl_shm_send_format(it, WL_SHM_FORMAT_XRGB8888);
+	struct wl_resource *resource = wl_resource_create(client, &wl_shm_interface, (int)version, id);
+	wl_resource_set_implementation(resource, &shm, NULL, NULL);
+	wl_shm_send_format(resource, WL_SHM_FORMAT_XRGB8888);
 }
 
 static void bind_seat(struct wl_client *client, void *data, uint32_t version, uint32_t id)
 {
 	(void)data;
-	struct wl_resource *it = wl_resource_create(client, &wl_seat_interface, (int)version, id);
-	wl_resource_set_implementation(it, &seat, NULL, NULL);
-	wl_seat_send_capabilities(it, 3);
-	wl_seat_send_name(it, "the seat");
+	struct wl_resource *resource = wl_resource_create(client, &wl_seat_interface, (int)version, id);
+	wl_resource_set_implementation(resource, &seat, NULL, NULL);
+	wl_seat_send_capabilities(resource, 3);
+	wl_seat_send_name(resource, "the seat");
 }
 
 static void client_is_gone(struct wl_listener *listener, void *data)
@@ -200,8 +200,8 @@ static waywire_object request(waywire_object target, uint16_t opcode, const wayw
 
 static waywire_object make(waywire_object target, uint16_t opcode)
 {
-	waywire_arg place = waywire_new();
-	return request(target, opcode, &place, 1);
+	waywire_arg index = waywire_new();
+	return request(target, opcode, &index, 1);
 }
 
 static void told(const waywire_report *report)
@@ -247,8 +247,8 @@ static void heard(const waywire_report *report)
 		break;
 	case WAYWIRE_DISCARDED: /* a keymap for a keyboard that is released, with its descriptor */
 		discarded++;
-		for (size_t each = 0; each < report->token_count; each++)
-			MUST(number_in((int)report->tokens[each]) == ++keymaps);
+		for (size_t i = 0; i < report->token_count; i++)
+			MUST(number_in((int)report->tokens[i]) == ++keymaps);
 		break;
 	case WAYWIRE_ERROR:
 		MUST(report->code == ERROR_CODE && !strcmp(report->text, ERROR_TEXT));
@@ -309,18 +309,18 @@ static void play_round(void)
 	waywire_arg none[] = { waywire_no_object(), waywire_int(0), waywire_int(0) };
 	waywire_arg pool[] = { waywire_new(), waywire_fd((uint32_t)memory_with(round_number)),
 		waywire_int(number) };
-	waywire_object it = make(compositor_at, WAYWIRE_WL_COMPOSITOR_REQUEST_CREATE_SURFACE);
+	waywire_object made = make(compositor_at, WAYWIRE_WL_COMPOSITOR_REQUEST_CREATE_SURFACE);
 	waywire_object zone = make(compositor_at, WAYWIRE_WL_COMPOSITOR_REQUEST_CREATE_REGION);
 	waywire_arg with_zone = waywire_of(zone);
-	MUST(it.id < 64 && it.birth > round_number); /* ids are used again, births are not */
+	MUST(made.id < 64 && made.birth > round_number); /* ids are used again, births are not */
 	request(zone, WAYWIRE_WL_REGION_REQUEST_ADD, area, 4);
-	request(it, WAYWIRE_WL_SURFACE_REQUEST_SET_OPAQUE_REGION, &with_zone, 1);
+	request(made, WAYWIRE_WL_SURFACE_REQUEST_SET_OPAQUE_REGION, &with_zone, 1);
 	request(zone, WAYWIRE_WL_REGION_REQUEST_DESTROY, NULL, 0);
-	request(it, WAYWIRE_WL_SURFACE_REQUEST_ATTACH, none, 3);
-	request(it, WAYWIRE_WL_SURFACE_REQUEST_DAMAGE, numbers, 4);
-	frame_callback = make(it, WAYWIRE_WL_SURFACE_REQUEST_FRAME);
-	request(it, WAYWIRE_WL_SURFACE_REQUEST_COMMIT, NULL, 0);
-	request(it, WAYWIRE_WL_SURFACE_REQUEST_DESTROY, NULL, 0);
+	request(made, WAYWIRE_WL_SURFACE_REQUEST_ATTACH, none, 3);
+	request(made, WAYWIRE_WL_SURFACE_REQUEST_DAMAGE, numbers, 4);
+	frame_callback = make(made, WAYWIRE_WL_SURFACE_REQUEST_FRAME);
+	request(made, WAYWIRE_WL_SURFACE_REQUEST_COMMIT, NULL, 0);
+	request(made, WAYWIRE_WL_SURFACE_REQUEST_DESTROY, NULL, 0);
 	waywire_object memory = request(shm_at, WAYWIRE_WL_SHM_REQUEST_CREATE_POOL, pool, 3);
 	request(memory, WAYWIRE_WL_SHM_POOL_REQUEST_DESTROY, NULL, 0);
 	waywire_object brief = make(seat_at, WAYWIRE_WL_SEAT_REQUEST_GET_KEYBOARD);
@@ -343,9 +343,9 @@ static void play(void)
 		play_round();
 	round_trip();
 	MUST(descriptors() == before);
-	waywire_object it = make(compositor_at, WAYWIRE_WL_COMPOSITOR_REQUEST_CREATE_SURFACE);
+	waywire_object made = make(compositor_at, WAYWIRE_WL_COMPOSITOR_REQUEST_CREATE_SURFACE);
 	waywire_arg wrong = waywire_int(-1);
-	request(it, WAYWIRE_WL_SURFACE_REQUEST_SET_BUFFER_SCALE, &wrong, 1);
+	request(made, WAYWIRE_WL_SURFACE_REQUEST_SET_BUFFER_SCALE, &wrong, 1);
 	while (!ended)
 		read_all();
 	MUST(keymaps == 2 * ROUNDS && dead_names == ROUNDS && frames == ROUNDS);

@@ -98,15 +98,15 @@ static void on_frame(void *data, struct wl_callback *callback, uint32_t time)
 
 static const struct wl_callback_listener frame_events = { on_frame };
 
-static void seat_can(void *data, struct wl_seat *it, uint32_t capabilities)
+static void seat_can(void *data, struct wl_seat *wl_seat, uint32_t capabilities)
 {
-	(void)data, (void)it;
+	(void)data, (void)wl_seat;
 	MUST(capabilities == 3);
 }
 
-static void seat_is(void *data, struct wl_seat *it, const char *name)
+static void seat_is(void *data, struct wl_seat *wl_seat, const char *name)
 {
-	(void)data, (void)it;
+	(void)data, (void)wl_seat;
 	MUST(!strcmp(name, "the seat"));
 }
 

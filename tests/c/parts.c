@@ -77,12 +77,12 @@ static waywire_wl_shm bind_shm(void)
 	waywire_wl_registry registry;
 	waywire_wl_shm shm;
 	waywire_report report;
-	uint16_t place;
+	uint16_t index;
 	MUST(!waywire_wl_display_get_registry(client, waywire_wl_display_of(waywire_end_display(client.end)),
 		&registry));
 	carry();
-	MUST(!waywire_tables_interface(tables, WAYWIRE_WL_SHM_NAME, &place));
-	MUST(!waywire_server_add_global(server, place, 1, NULL));
+	MUST(!waywire_tables_interface(tables, WAYWIRE_WL_SHM_NAME, &index));
+	MUST(!waywire_server_add_global(server, index, 1, NULL));
 	MUST(!waywire_server_announce(server, NULL) && flush(&of_server));
 	MUST(fill(&of_client) && !waywire_end_next(client.end, &report));
 	MUST(!waywire_wl_shm_bind(client, registry, 1, 1, &shm));
@@ -94,11 +94,11 @@ static waywire_wl_shm bind_shm(void)
 static int send_pools(waywire_wl_shm shm)
 {
 	int full = 0;
-	for (int each = 1; each <= POOLS; each++) {
+	for (int i = 1; i <= POOLS; i++) {
 		waywire_status status;
 		waywire_wl_shm_pool pool;
-		int descriptor = new_descriptor(each);
-		while ((status = waywire_wl_shm_create_pool(client, shm, descriptor, each, &pool)) == WAYWIRE_FULL)
+		int descriptor = new_descriptor(i);
+		while ((status = waywire_wl_shm_create_pool(client, shm, descriptor, i, &pool)) == WAYWIRE_FULL)
 			full += carry();
 		MUST(!status);
 		while ((status = waywire_wl_shm_pool_destroy(client, pool)) == WAYWIRE_FULL)

@@ -131,7 +131,7 @@ static void opens_client(void)
 	waywire_object display = waywire_end_display(growing.end);
 	MUST(!waywire_end_send(growing.end, display, WAYWIRE_WL_DISPLAY_REQUEST_GET_REGISTRY, &new, 1, &registry,
 		NULL));
-	for (int each = 0; each < 2; each++) /* the room made for ids is used up */
+	for (int i = 0; i < 2; i++) /* the room made for ids is used up */
 		MUST(!waywire_end_send(growing.end, display, WAYWIRE_WL_DISPLAY_REQUEST_SYNC, &new, 1, NULL, NULL));
 }
 
@@ -142,11 +142,11 @@ static waywire_status grows(void)
 	long blocks = used;
 	size_t line = 7;
 	uint32_t rule = 7;
-	uint16_t place;
+	uint16_t index;
 	waywire_status status = waywire_client_more_tables(growing, text, strlen(text), &line, &rule);
 	const waywire_tables *now = waywire_end_tables(growing.end);
 	MUST(line == 7 && rule == 7 && (now == before) == (status != WAYWIRE_OK));
-	MUST(waywire_tables_interface(now, "wp_two", &place) == (status ? WAYWIRE_NOT_FOUND : WAYWIRE_OK));
+	MUST(waywire_tables_interface(now, "wp_two", &index) == (status ? WAYWIRE_NOT_FOUND : WAYWIRE_OK));
 	MUST(!status || used == blocks);
 	return status;
 }

@@ -61,9 +61,9 @@ static size_t announce(void)
 
 static uint16_t place_of(const char *interface)
 {
-	uint16_t place;
-	MUST(!waywire_tables_interface(tables, interface, &place));
-	return place;
+	uint16_t index;
+	MUST(!waywire_tables_interface(tables, interface, &index));
+	return index;
 }
 
 /* Makes a server that advertises wl_fixes and wl_compositor, and this many globals in all. Its client has
@@ -75,7 +75,7 @@ static void make_server(size_t globals)
 	MUST(!waywire_server_new(tables, &sizes, &server));
 	MUST(!waywire_server_add_global(server, place_of(WAYWIRE_WL_FIXES_NAME), 1, &of_fixes));
 	MUST(!waywire_server_add_global(server, place_of(WAYWIRE_WL_COMPOSITOR_NAME), 1, &of_compositor));
-	for (size_t each = 2; each < globals; each++)
+	for (size_t i = 2; i < globals; i++)
 		MUST(!waywire_server_add_global(server, place_of(WAYWIRE_WL_COMPOSITOR_NAME), 1, NULL));
 	uint32_t registry = get_registry();
 	MUST(announce() == globals);
@@ -88,7 +88,7 @@ static void make_server(size_t globals)
 static size_t destroys(uint32_t first, uint32_t open)
 {
 	(void)first, (void)open;
-	for (int each = 0; each < TIMES; each++) {
+	for (int i = 0; i < TIMES; i++) {
 		uint32_t create[] = { compositor, 12 << 16 | WAYWIRE_WL_COMPOSITOR_REQUEST_CREATE_REGION,
 			next_id };
 		uint32_t destroy[] = { next_id, 8 << 16 | WAYWIRE_WL_REGION_REQUEST_DESTROY };
@@ -103,7 +103,7 @@ static size_t announces(uint32_t first, uint32_t open)
 {
 	size_t count;
 	(void)first, (void)open;
-	for (int each = 0; each < TIMES; each++)
+	for (int i = 0; i < TIMES; i++)
 		MUST(!waywire_server_announce(server, &count) && !count);
 	return TIMES;
 }
@@ -111,7 +111,7 @@ static size_t announces(uint32_t first, uint32_t open)
 static size_t opens(uint32_t first, uint32_t open)
 {
 	(void)first, (void)open;
-	for (int each = 0; each < TIMES; each++) {
+	for (int i = 0; i < TIMES; i++) {
 		get_registry();
 		MUST(announce() == GLOBALS);
 	}
@@ -123,8 +123,8 @@ static size_t opens(uint32_t first, uint32_t open)
 static size_t replaces(uint32_t first, uint32_t open)
 {
 	uint32_t pairs = open < 1000 ? 1000 : open + open / 10;
-	for (uint32_t each = 0; each < pairs; each++) {
-		uint32_t id = first + each % open;
+	for (uint32_t i = 0; i < pairs; i++) {
+		uint32_t id = first + i % open;
 		uint32_t destroy[] = { fixes, 12 << 16 | WAYWIRE_WL_FIXES_REQUEST_DESTROY_REGISTRY, id };
 		uint32_t get[] = { 1, 12 << 16 | WAYWIRE_WL_DISPLAY_REQUEST_GET_REGISTRY, id };
 		request(destroy, 3);
@@ -175,7 +175,7 @@ static void measure(const char *name, uint32_t open)
 	MUST(work < sizeof works / sizeof *works && open);
 	make_server(GLOBALS);
 	uint32_t first = next_id;
-	for (uint32_t each = 0; each < open; each++) {
+	for (uint32_t i = 0; i < open; i++) {
 		get_registry();
 		MUST(announce() == GLOBALS);
 	}
@@ -202,7 +202,7 @@ static void take_little_memory(void)
 {
 	make_server(2);
 	long before = kilobytes();
-	for (int each = 0; each < COUNT; each++)
+	for (int i = 0; i < COUNT; i++)
 		get_registry();
 	long took = kilobytes() - before;
 	fprintf(stderr, "registries: %ld KB\n", took);

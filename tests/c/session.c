@@ -32,8 +32,8 @@ static void show(const char *arrow, const waywire_report *report)
 	MUST(report->kind == WAYWIRE_MESSAGE);
 	printf("%s %u/%u opcode %u", arrow, report->target.id, (unsigned)report->target.birth,
 		report->opcode);
-	for (size_t place = 0; place < report->arg_count; place++) {
-		const waywire_arg *arg = &report->args[place];
+	for (size_t i = 0; i < report->arg_count; i++) {
+		const waywire_arg *arg = &report->args[i];
 		switch (arg->kind) {
 		case WAYWIRE_UINT:
 			printf(" %u", arg->u);
@@ -66,8 +66,8 @@ static void record(char arrow, const unsigned char *bytes, size_t length)
 	if (!recording)
 		return;
 	fprintf(recording, "%c ", arrow);
-	for (size_t place = 0; place < length; place++)
-		fprintf(recording, "%02x", bytes[place]);
+	for (size_t i = 0; i < length; i++)
+		fprintf(recording, "%02x", bytes[i]);
 	fprintf(recording, "\n");
 }
 
@@ -127,9 +127,9 @@ static void turn(size_t most)
 
 static waywire_object make(waywire_object target, uint16_t opcode)
 {
-	waywire_arg place = waywire_new();
+	waywire_arg index = waywire_new();
 	waywire_object made;
-	MUST(!waywire_end_send(client.end, target, opcode, &place, 1, &made, NULL));
+	MUST(!waywire_end_send(client.end, target, opcode, &index, 1, &made, NULL));
 	return made;
 }
 

@@ -55,18 +55,18 @@ static void searches(const waywire_tables *tables)
 	waywire_message message;
 	waywire_kind kind;
 	waywire_decoded decoded;
-	uint16_t place;
+	uint16_t index;
 	uint32_t version;
 	const char *name;
 	size_t length;
-	MUST(!waywire_tables_interface(tables, "wl_surface", &place));
-	MUST(!waywire_tables_version(tables, place, &version) && version >= 6);
-	MUST(!waywire_tables_name(tables, place, &name, &length));
+	MUST(!waywire_tables_interface(tables, "wl_surface", &index));
+	MUST(!waywire_tables_version(tables, index, &version) && version >= 6);
+	MUST(!waywire_tables_name(tables, index, &name, &length));
 	MUST(length == 10 && !memcmp(name, "wl_surface", length));
-	MUST(!waywire_tables_message(tables, place, WAYWIRE_FROM_CLIENT, 0, &message, &name, &length));
+	MUST(!waywire_tables_message(tables, index, WAYWIRE_FROM_CLIENT, 0, &message, &name, &length));
 	MUST(message.destroys == WAYWIRE_DESTROYS_TARGET && length == 7 && !memcmp(name, "destroy", length));
-	MUST(!waywire_tables_kind(tables, place, WAYWIRE_FROM_CLIENT, 1, 0, &kind) && kind.nullable);
-	MUST(!waywire_tables_decode(tables, place, version, WAYWIRE_FROM_CLIENT, destroy, sizeof destroy, &decoded));
+	MUST(!waywire_tables_kind(tables, index, WAYWIRE_FROM_CLIENT, 1, 0, &kind) && kind.nullable);
+	MUST(!waywire_tables_decode(tables, index, version, WAYWIRE_FROM_CLIENT, destroy, sizeof destroy, &decoded));
 	MUST(decoded.target == 3 && decoded.name == name && !decoded.arg_count);
 }
 
@@ -75,7 +75,7 @@ static void *works(void *given)
 	static const char text[] = "interface wp_thing 2\nrequest destroy D\n";
 	struct pair *pair = given;
 	waywire_tables *more;
-	uint16_t place;
+	uint16_t index;
 	for (int round = 0; round < ROUNDS; round++) {
 		searches(pair->tables);
 		opens(pair);
@@ -83,7 +83,7 @@ static void *works(void *given)
 		closes(pair);
 	}
 	MUST(!waywire_tables_read(pair->tables, text, sizeof text - 1, &more, NULL, NULL));
-	MUST(!waywire_tables_interface(more, "wp_thing", &place));
+	MUST(!waywire_tables_interface(more, "wp_thing", &index));
 	pair->tables = more;
 	opens(pair);
 	waywire_tables_free(more); /* the ends and the inspector still have them */
@@ -98,19 +98,19 @@ int main(void)
 	MUST(!waywire_tables_core(&tables));
 	own.tables = tables;
 	opens(&own);
-	for (int it = 0; it < THREADS; it++) {
-		pairs[it].tables = tables;
-		MUST(!pthread_create(&pairs[it].thread, NULL, works, &pairs[it]));
+	for (int i = 0; i < THREADS; i++) {
+		pairs[i].tables = tables;
+		MUST(!pthread_create(&pairs[i].thread, NULL, works, &pairs[i]));
 	}
 	searches(tables);
-	for (int it = 0; it < THREADS; it++)
-		MUST(!pthread_join(pairs[it].thread, NULL));
+	for (int i = 0; i < THREADS; i++)
+		MUST(!pthread_join(pairs[i].thread, NULL));
 	waywire_tables_free(tables); /* its ends and its inspector still have them */
 	MUST(asks(&own));
 	closes(&own);
-	for (int it = 0; it < THREADS; it++) { /* ends that another thread made */
-		MUST(asks(&pairs[it]));
-		closes(&pairs[it]);
+	for (int i = 0; i < THREADS; i++) { /* ends that another thread made */
+		MUST(asks(&pairs[i]));
+		closes(&pairs[i]);
 	}
 	waywire_tables_free(NULL);
 	return 0;

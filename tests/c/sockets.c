@@ -90,9 +90,9 @@ static void beside_number(void)
 	waywire_listening_socket *first = waywire_socket_listen("wayland-0");
 	waywire_listening_socket *other = waywire_socket_listen("other");
 	MUST(first && other);
-	for (int each = 0; each < 2; each++) {
-		int client = waywire_socket_connect_to(each ? "other" : NULL, each ? -1 : WAIT);
-		int server = waywire_listening_socket_accept(each ? other : first);
+	for (int i = 0; i < 2; i++) {
+		int client = waywire_socket_connect_to(i ? "other" : NULL, i ? -1 : WAIT);
+		int server = waywire_listening_socket_accept(i ? other : first);
 		MUST(client >= 0 && is_closed_at_exec(client) && server >= 0);
 		close(client);
 		close(server);
@@ -161,9 +161,9 @@ static void by_number(void)
 		{ "1023", EBADF }, { "4294967299", ERANGE }, { "99999999999999999999", ERANGE } };
 	char text[16];
 	int sockets[2];
-	for (size_t each = 0; each < sizeof refused / sizeof *refused; each++) {
-		set("WAYLAND_SOCKET", refused[each].text);
-		not_connected(NULL, refused[each].error);
+	for (size_t i = 0; i < sizeof refused / sizeof *refused; i++) {
+		set("WAYLAND_SOCKET", refused[i].text);
+		not_connected(NULL, refused[i].error);
 		MUST(getenv("WAYLAND_SOCKET"));
 	}
 	MUST(!socketpair(AF_UNIX, SOCK_STREAM, 0, sockets) && !is_closed_at_exec(sockets[0]));
@@ -237,10 +237,10 @@ static void by_number_of_name(void)
 {
 	waywire_listening_socket *taken[32];
 	char name[32];
-	for (int each = 0; each < 32; each++) {
-		taken[each] = waywire_socket_listen(NULL);
-		snprintf(name, sizeof name, "wayland-%d", each + 1);
-		MUST(taken[each] && !strcmp(waywire_listening_socket_name(taken[each]), name));
+	for (int i = 0; i < 32; i++) {
+		taken[i] = waywire_socket_listen(NULL);
+		snprintf(name, sizeof name, "wayland-%d", i + 1);
+		MUST(taken[i] && !strcmp(waywire_listening_socket_name(taken[i]), name));
 	}
 	not_listening(NULL, EADDRINUSE);
 	waywire_listening_socket_close(taken[6]);
@@ -248,8 +248,8 @@ static void by_number_of_name(void)
 	taken[6] = waywire_socket_listen(NULL);
 	MUST(taken[6] && !strcmp(waywire_listening_socket_name(taken[6]), "wayland-7"));
 	not_listening("wayland-7", EADDRINUSE);
-	for (int each = 0; each < 32; each++)
-		waywire_listening_socket_close(taken[each]);
+	for (int i = 0; i < 32; i++)
+		waywire_listening_socket_close(taken[i]);
 	MUST(!is_there("wayland-1") && !is_there("wayland-32.lock"));
 }
 
@@ -344,14 +344,14 @@ static void not_received(int socket, const waywire_part parts[2], int error)
 
 static void make_descriptors(int *descriptors, int count)
 {
-	for (int each = 0; each < count; each++)
-		descriptors[each] = new_descriptor(each);
+	for (int i = 0; i < count; i++)
+		descriptors[i] = new_descriptor(i);
 }
 
 static void close_descriptors(const int *descriptors, int count)
 {
-	for (int each = 0; each < count; each++)
-		MUST(!close(descriptors[each]));
+	for (int i = 0; i < count; i++)
+		MUST(!close(descriptors[i]));
 }
 
 /* As many descriptors as there may be, with bytes in two parts, one way. */
@@ -367,9 +367,9 @@ static void pass(int from, int to)
 	close_descriptors(made, MOST);
 	MUST(waywire_socket_receive(to, room, found, &count) == (ssize_t)length && count == MOST);
 	MUST(!memcmp(came[0], "out", 3) && !strcmp(came[1], " and home"));
-	for (int each = 0; each < MOST; each++) {
-		MUST(is_closed_at_exec(found[each]));
-		MUST(length_of(found[each]) == each);
+	for (int i = 0; i < MOST; i++) {
+		MUST(is_closed_at_exec(found[i]));
+		MUST(length_of(found[i]) == i);
 	}
 	not_received(to, room, EAGAIN);
 }
@@ -385,13 +385,13 @@ static void too_many(const int sockets[2])
 	size_t count, before = count_open();
 	make_descriptors(made, MOST_OF_KERNEL + 1);
 	MUST(waywire_socket_send(sockets[0], parts, made, MOST_OF_KERNEL + 1) == -1 && errno == EINVAL);
-	for (size_t each = 0; each < sizeof rooms / sizeof *rooms; each++) {
-		size_t room = rooms[each];
+	for (size_t i = 0; i < sizeof rooms / sizeof *rooms; i++) {
+		size_t room = rooms[i];
 		MUST(waywire_socket_send(sockets[0], parts, made, room) == 1);
 		MUST(waywire_socket_receive_up_to(sockets[1], parts, room ? found : NULL, room, &count) == 1);
 		MUST(count == room);
-		for (size_t it = 0; it < room; it++)
-			MUST(is_closed_at_exec(found[it]) && length_of(found[it]) == (int)it);
+		for (size_t j = 0; j < room; j++)
+			MUST(is_closed_at_exec(found[j]) && length_of(found[j]) == (int)j);
 		if (room == MOST_OF_KERNEL)
 			break;
 		MUST(waywire_socket_send(sockets[0], parts, made, room + 1) == 1);
@@ -431,8 +431,8 @@ static void with_credentials(void)
 	MUST(waywire_socket_send(sockets[0], parts, made, 3) == 1);
 	close_descriptors(made, 3);
 	MUST(waywire_socket_receive(sockets[1], parts, found, &count) == 1 && count == 3);
-	for (int each = 0; each < 3; each++)
-		MUST(length_of(found[each]) == each);
+	for (int i = 0; i < 3; i++)
+		MUST(length_of(found[i]) == i);
 	close(sockets[0]);
 	close(sockets[1]);
 }

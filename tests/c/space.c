@@ -31,14 +31,14 @@ static waywire_wl_shm bind_shm(const waywire_tables *tables)
 {
 	uint32_t registry[] = { 1, 12 << 16 | WAYWIRE_WL_DISPLAY_REQUEST_GET_REGISTRY, 2 };
 	uint32_t bind[8] = { 2, 32 << 16 | WAYWIRE_WL_REGISTRY_REQUEST_BIND, 0, sizeof WAYWIRE_WL_SHM_NAME, 0, 0, 1, 3 };
-	uint16_t place;
+	uint16_t index;
 	waywire_report report;
-	MUST(!waywire_tables_interface(tables, WAYWIRE_WL_SHM_NAME, &place));
-	MUST(!waywire_server_add_global(server, place, 1, &bind[2]));
+	MUST(!waywire_tables_interface(tables, WAYWIRE_WL_SHM_NAME, &index));
+	MUST(!waywire_server_add_global(server, index, 1, &bind[2]));
 	memcpy(bind + 4, WAYWIRE_WL_SHM_NAME, sizeof WAYWIRE_WL_SHM_NAME);
 	feed(registry, 3, NULL, 0);
 	feed(bind, 8, NULL, 0);
-	for (int each = 0; each < 2; each++)
+	for (int i = 0; i < 2; i++)
 		MUST(!waywire_end_next(server.end, &report) && report.kind == WAYWIRE_MESSAGE);
 	MUST(report.arg_count == 2 && report.args[1].kind == WAYWIRE_BOUND && report.args[1].object.id == 3);
 	return waywire_wl_shm_of(report.args[1].object);
@@ -58,8 +58,8 @@ static void write_pools(uint32_t first)
 {
 	waywire_part parts[2];
 	uint32_t words[4 * POOLS];
-	for (uint32_t each = 0; each < POOLS; each++)
-		create_pool(words + 4 * each, first + each);
+	for (uint32_t i = 0; i < POOLS; i++)
+		create_pool(words + 4 * i, first + i);
 	waywire_end_space(server.end, parts);
 	MUST(parts[0].length + parts[1].length >= sizeof words);
 	size_t front = parts[0].length < sizeof words ? parts[0].length : sizeof words;
@@ -74,8 +74,8 @@ int main(void)
 	waywire_amounts fed;
 	waywire_report report;
 	uint32_t words[4], tokens[POOLS + 1];
-	for (uint32_t each = 0; each <= POOLS; each++)
-		tokens[each] = FIRST_POOL + each;
+	for (uint32_t i = 0; i <= POOLS; i++)
+		tokens[i] = FIRST_POOL + i;
 	MUST(!waywire_tables_core(&tables) && !waywire_server_new(tables, &sizes, &server));
 	waywire_wl_shm shm = bind_shm(tables);
 
@@ -88,8 +88,8 @@ int main(void)
 	MUST(!waywire_wl_shm_send_format(server, shm, WAYWIRE_WL_SHM_FORMAT_XRGB8888));
 	MUST(!waywire_end_received(server.end, 16 * POOLS, tokens + POOLS, 1, &fed));
 	MUST(fed.bytes == 16 * POOLS && fed.tokens == 1);
-	for (uint32_t each = 1; each <= POOLS; each++)
-		read_pool(FIRST_POOL + each);
+	for (uint32_t i = 1; i <= POOLS; i++)
+		read_pool(FIRST_POOL + i);
 	MUST(!waywire_end_next(server.end, &report) && report.kind == WAYWIRE_NOTHING);
 
 	waywire_end_free(server.end);

@@ -133,7 +133,7 @@ static void replaces(void)
 static void data_go(void)
 {
 	int destroyed = 0;
-	for (int each = 0; each < 200; each++) {
+	for (int i = 0; i < 200; i++) {
 		waywire_object made;
 		waywire_arg new = waywire_new();
 		MUST(!waywire_end_send(events, maker, MADE, &new, 1, &made, NULL));
@@ -141,7 +141,7 @@ static void data_go(void)
 		MUST(!waywire_connection_set_data(client, made, &destroyed, on_destroy));
 		MUST(!waywire_end_send(requests.end, made, DESTROY, NULL, 0, NULL, NULL));
 		MUST(!waywire_connection_flush(client));
-		MUST(waywire_connection_dispatch(server, WAIT) == 1 && each - destroyed < 50);
+		MUST(waywire_connection_dispatch(server, WAIT) == 1 && i - destroyed < 50);
 	}
 	waywire_connection_close(client);
 	MUST(destroyed == 200);

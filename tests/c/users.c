@@ -89,7 +89,7 @@ static bool is_set_by_none(struct users *users, waywire_object object, void *poi
 
 static void ranges_lie_apart(void)
 {
-	/* Of the client's range, at the place and of the birth of `second`. */
+	/* Of the client's range, at the index and of the birth of `second`. */
 	static const waywire_object same = { 2, 1 };
 	struct users users = { { NULL, 0 }, { NULL, 0 } };
 	MUST(is_set_by_none(&users, first, NULL) && is_set_by_none(&users, display, NULL));

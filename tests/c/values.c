@@ -1,4 +1,4 @@
-/* Wrong values are statuses: null, lengths, kinds, sizes, opcodes, places; and each status has a text. A call that
+/* Wrong values are statuses: null, lengths, kinds, sizes, opcodes, indices; and each status has a text. A call that
  * returns no status takes a null end for one that has failed. */
 #include "must.h"
 
@@ -90,7 +90,7 @@ static void lengths(void)
 	char byte = 0;
 	uint32_t token = 0;
 	waywire_arg args[21];
-	size_t place = 9;
+	size_t index = 9;
 	MUST(waywire_end_feed(client.end, &byte, SIZE_MAX, NULL, 0, &amounts) == WAYWIRE_TOO_LARGE);
 	MUST(waywire_end_feed(client.end, &byte, 0, &token, SIZE_MAX / 4, &amounts)
 		== WAYWIRE_TOO_LARGE);
@@ -102,13 +102,13 @@ static void lengths(void)
 	MUST(waywire_end_send(client.end, display, 0, args, 1, NULL, NULL) == WAYWIRE_TOO_LARGE);
 	args[0] = waywire_array(NULL, 1);
 	MUST(waywire_end_send(client.end, display, 0, args, 1, NULL, NULL) == WAYWIRE_NULL);
-	for (size_t each = 0; each < 21; each++)
-		args[each] = waywire_new();
-	MUST(waywire_end_send(client.end, display, 0, args, 21, NULL, &place) == WAYWIRE_WRONG_ARGS);
-	MUST(place == 1);
+	for (size_t i = 0; i < 21; i++)
+		args[i] = waywire_new();
+	MUST(waywire_end_send(client.end, display, 0, args, 21, NULL, &index) == WAYWIRE_WRONG_ARGS);
+	MUST(index == 1);
 	MUST(waywire_end_send(client.end, display, 0, args, SIZE_MAX, NULL, NULL) == WAYWIRE_WRONG_ARGS);
-	MUST(waywire_end_send(client.end, display, 0, NULL, 0, NULL, &place) == WAYWIRE_WRONG_ARGS);
-	MUST(place == 0);
+	MUST(waywire_end_send(client.end, display, 0, NULL, 0, NULL, &index) == WAYWIRE_WRONG_ARGS);
+	MUST(index == 0);
 }
 
 static void kinds(void)
@@ -127,15 +127,15 @@ static void kinds(void)
 static void calls(void)
 {
 	waywire_object stale = { 7, 1 }, object;
-	waywire_arg place = waywire_new();
+	waywire_arg index = waywire_new();
 	waywire_sizes small = { 0, 0, 4095, 20 };
 	waywire_client none = { NULL };
 	uint16_t interface = 999;
 	uint32_t version, name;
 	size_t count = 9;
 	MUST(waywire_client_new(tables, &small, &none) == WAYWIRE_BAD_SIZES && !none.end);
-	MUST(waywire_end_send(client.end, stale, 0, &place, 1, NULL, NULL) == WAYWIRE_STALE);
-	MUST(waywire_end_send(client.end, display, 65535, &place, 1, NULL, NULL)
+	MUST(waywire_end_send(client.end, stale, 0, &index, 1, NULL, NULL) == WAYWIRE_STALE);
+	MUST(waywire_end_send(client.end, display, 65535, &index, 1, NULL, NULL)
 		== WAYWIRE_NO_SUCH_MESSAGE);
 	MUST(waywire_client_bind(client, display, 1, "wl_seat", 1, NULL) == WAYWIRE_NO_SUCH_MESSAGE);
 	MUST(waywire_client_bind_unannounced(client, display, 1, "wl_seat", 1, NULL) == WAYWIRE_NO_SUCH_MESSAGE);
@@ -149,7 +149,7 @@ static void calls(void)
 	MUST(waywire_server_drop_object(server, stale) == WAYWIRE_STALE);
 	MUST(!waywire_server_announce(server, &count) && count == 0);
 	MUST(waywire_end_object_count(client.end) == 1);
-	MUST(!waywire_end_send(client.end, display, 0, &place, 1, &object, NULL));
+	MUST(!waywire_end_send(client.end, display, 0, &index, 1, &object, NULL));
 	MUST(object.id == 2 && object.birth == 1);
 	MUST(waywire_end_object_count(client.end) == 2 && waywire_end_object_count(server.end) == 1);
 }
@@ -417,8 +417,8 @@ static void limits(void)
 	waywire_sizes narrow = { 65536, 64, 4096, 64, 4100 };
 	waywire_tables *more;
 	waywire_client one;
-	for (size_t each = 0; each < sizeof wrong / sizeof *wrong; each++) {
-		waywire_sizes bad = { 65536, 64, 65536, 64, wrong[each] };
+	for (size_t i = 0; i < sizeof wrong / sizeof *wrong; i++) {
+		waywire_sizes bad = { 65536, 64, 65536, 64, wrong[i] };
 		MUST(waywire_client_new(tables, &bad, &one) == WAYWIRE_BAD_SIZES);
 	}
 	MUST(waywire_client_new(tables, &narrow, &one) == WAYWIRE_BAD_SIZES);
@@ -517,8 +517,8 @@ static void texts(void)
 {
 	static const int all[] = { 0, 1, 2, 3, 4, 5, 6, 7, 8, 9, 10, 11, 12, 22, 23, 25, 31, 32, 33, 34,
 		35, 36, 37, 38, 39, 40, 51, 61, 62, 63, 64, 65, 66, 71, 72, 73 };
-	for (size_t each = 0; each < sizeof all / sizeof *all; each++) {
-		const char *text = waywire_strerror((waywire_status)all[each]);
+	for (size_t i = 0; i < sizeof all / sizeof *all; i++) {
+		const char *text = waywire_strerror((waywire_status)all[i]);
 		MUST(*text && strcmp(text, "unknown status"));
 	}
 	MUST(!strcmp(waywire_strerror((waywire_status)99), "unknown status"));

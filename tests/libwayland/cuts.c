@@ -51,7 +51,7 @@ static int dispatched(struct wl_display *display, int way)
 	return status;
 }
 
-static void play(int way, size_t place)
+static void play(int way, size_t index)
 {
 	static struct wire wire;
 	static struct session session;
@@ -59,11 +59,11 @@ static void play(int way, size_t place)
 	closed_twice = 0;
 	clear_wire(&wire);
 	write_session(&wire);
-	if (way < MORE || place >= wire.length)
+	if (way < MORE || index >= wire.length)
 		put_error(&wire);
-	size_t length = way < MORE ? place : wire.length;
+	size_t length = way < MORE ? index : wire.length;
 	if (way >= MORE)
-		wire.bytes[place] = changed(wire.bytes[place], way);
+		wire.bytes[index] = changed(wire.bytes[index], way);
 	make_pair(sockets);
 	open_session(&session, sockets[0]);
 	MUST(session.display);
@@ -76,7 +76,7 @@ static void play(int way, size_t place)
 	int status = dispatched(session.display, way), error = errno;
 	const struct wl_interface *interface = NULL;
 	uint32_t id = 0, code = wl_display_get_protocol_error(session.display, &interface, &id);
-	printf("%s %zu: %d %s, error %s, protocol error %u of %s@%u, ", ways[way], place, status,
+	printf("%s %zu: %d %s, error %s, protocol error %u of %s@%u, ", ways[way], index, status,
 		name_of(error), name_of(wl_display_get_error(session.display)), code,
 		interface ? interface->name : "-", id);
 	printf("events %u, sum %u, with the descriptor of another %u", session.events, session.sum,
@@ -92,19 +92,19 @@ static void play(int way, size_t place)
 	fflush(stdout);
 }
 
-static void play_apart(int way, size_t place)
+static void play_apart(int way, size_t index)
 {
 	pid_t child = fork();
 	int status;
 	MUST(child >= 0);
 	if (!child) {
 		alarm(HANGS);
-		play(way, place);
+		play(way, index);
 		_exit(0);
 	}
 	MUST(waitpid(child, &status, 0) == child);
 	if (WIFSIGNALED(status) || WEXITSTATUS(status)) {
-		printf("%s %zu: CRASHED by signal %d, status %d\n", ways[way], place, WTERMSIG(status),
+		printf("%s %zu: CRASHED by signal %d, status %d\n", ways[way], index, WTERMSIG(status),
 			WEXITSTATUS(status));
 		fflush(stdout);
 	}
@@ -120,11 +120,11 @@ int main(int argc, char **argv)
 	size_t length = whole.length;
 	clear_wire(&whole);
 	for (int way = 0; way < WAYS; way++)
-		for (size_t place = 0; place < length + (way < MORE); place += step ? step : 1) {
+		for (size_t i = 0; i < length + (way < MORE); i += step ? step : 1) {
 			if (step)
-				play(way, place);
+				play(way, i);
 			else
-				play_apart(way, place);
+				play_apart(way, i);
 		}
 	return 0;
 }

@@ -293,9 +293,9 @@ static size_t sent_bytes(void)
 		if (more <= 0)
 			return sent;
 		sent += (size_t)more;
-		for (struct cmsghdr *it = CMSG_FIRSTHDR(&head); it; it = CMSG_NXTHDR(&head, it))
-			for (size_t at = 0; at < (it->cmsg_len - CMSG_LEN(0)) / sizeof(int); at++)
-				close(((int *)(void *)CMSG_DATA(it))[at]);
+		for (struct cmsghdr *header = CMSG_FIRSTHDR(&head); header; header = CMSG_NXTHDR(&head, header))
+			for (size_t at = 0; at < (header->cmsg_len - CMSG_LEN(0)) / sizeof(int); at++)
+				close(((int *)(void *)CMSG_DATA(header))[at]);
 	}
 }
 

@@ -8,10 +8,10 @@
 #include <unistd.h>
 #include <wayland-client.h>
 
-#define MUST(it) \
+#define MUST(holds) \
 	do { \
-		if (!(it)) { \
-			fprintf(stdout, "%s:%d: %s\n", __FILE__, __LINE__, #it); \
+		if (!(holds)) { \
+			fprintf(stdout, "%s:%d: %s\n", __FILE__, __LINE__, #holds); \
 			exit(1); \
 		} \
 	} while (0)
@@ -158,11 +158,11 @@ static void dispatch_all(struct wl_display *display)
 static void send_requests(struct wl_proxy *proxy)
 {
 	struct wl_array array = { 3, 0, "abc" };
-	for (size_t each = 0; each + 1 < sizeof numbers / sizeof *numbers; each++)
-		wl_proxy_marshal_flags(proxy, 1, NULL, 3, 0, numbers[each], numbers[each + 1]);
-	for (int each = 0; each < 2; each++) {
+	for (size_t i = 0; i + 1 < sizeof numbers / sizeof *numbers; i++)
+		wl_proxy_marshal_flags(proxy, 1, NULL, 3, 0, numbers[i], numbers[i + 1]);
+	for (int i = 0; i < 2; i++) {
 		struct wl_proxy *made = wl_proxy_marshal_flags(proxy, 0, &probe, 3, 0, -1, 4294967295u, 100,
-			each ? "" : "text", each ? "null" : NULL, proxy, each ? proxy : NULL, NULL, &array, 0);
+			i ? "" : "text", i ? "null" : NULL, proxy, i ? proxy : NULL, NULL, &array, 0);
 		MUST(made);
 		wl_proxy_marshal_flags(made, 2, NULL, 3, WL_MARSHAL_FLAG_DESTROY);
 	}

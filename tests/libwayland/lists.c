@@ -34,13 +34,13 @@ static void print_lists(void)
 	print_list("init", &heads[0]);
 	wl_list_insert_list(&heads[0], &heads[1]);
 	print_list("nothing inserted", &heads[0]);
-	for (int each = 0; each < 3; each++)
-		wl_list_insert(&heads[0], &links[each]);
+	for (int i = 0; i < 3; i++)
+		wl_list_insert(&heads[0], &links[i]);
 	print_list("inserted", &heads[0]);
 	wl_list_insert(heads[0].prev, &links[3]);
 	print_list("inserted last", &heads[0]);
-	for (int each = 4; each < 6; each++)
-		wl_list_insert(&heads[1], &links[each]);
+	for (int i = 4; i < 6; i++)
+		wl_list_insert(&heads[1], &links[i]);
 	wl_list_insert_list(&links[1], &heads[1]);
 	print_list("list inserted", &heads[0]);
 	wl_list_remove(&links[1]);
@@ -51,8 +51,8 @@ static void print_lists(void)
 static void print_array(const char *what, const struct wl_array *array)
 {
 	unsigned sum = 0;
-	for (size_t each = 0; each < array->size; each++)
-		sum = sum * 31 + ((unsigned char *)array->data)[each];
+	for (size_t i = 0; i < array->size; i++)
+		sum = sum * 31 + ((unsigned char *)array->data)[i];
 	printf("%s: %zu of %zu, %u\n", what, array->size, array->alloc, sum);
 }
 
@@ -61,10 +61,10 @@ static void print_arrays(void)
 	struct wl_array one, other;
 	wl_array_init(&one);
 	printf("init: %zu of %zu, null %d\n", one.size, one.alloc, !one.data);
-	for (int each = 0; each < 40; each++) {
-		char *added = wl_array_add(&one, (size_t)each);
-		memset(added, each, (size_t)each);
-		printf("%d at %td\n", each, added - (char *)one.data);
+	for (int i = 0; i < 40; i++) {
+		char *added = wl_array_add(&one, (size_t)i);
+		memset(added, i, (size_t)i);
+		printf("%d at %td\n", i, added - (char *)one.data);
 		print_array("added", &one);
 	}
 	wl_array_init(&other);

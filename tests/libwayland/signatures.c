@@ -43,7 +43,7 @@ static void fail(const char *what, int at)
 	exit(1);
 }
 
-/* ---- the values of arguments, by their place */
+/* ---- the values of arguments, by their index */
 
 static uint32_t number_at(int at)
 {
@@ -209,11 +209,11 @@ static void compare_request(void)
 		memcmp(bytes + (size_t)length - wire.length, wire.bytes, wire.length))
 		fail("other bytes of the request", -1);
 	size_t count = 0;
-	for (struct cmsghdr *it = CMSG_FIRSTHDR(&head); it; it = CMSG_NXTHDR(&head, it)) {
+	for (struct cmsghdr *header = CMSG_FIRSTHDR(&head); header; header = CMSG_NXTHDR(&head, header)) {
 		int found[MOST_DESCRIPTORS];
-		size_t size = it->cmsg_len - CMSG_LEN(0);
+		size_t size = header->cmsg_len - CMSG_LEN(0);
 		MUST(count + size / sizeof(int) <= wire.count);
-		memcpy(found, CMSG_DATA(it), size);
+		memcpy(found, CMSG_DATA(header), size);
 		for (size_t at = 0; at < size / sizeof(int); at++) {
 			if (file_of(found[at]) != file_of(wire.descriptors[count++]))
 				fail("another descriptor of the request", (int)at);

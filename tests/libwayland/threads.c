@@ -66,12 +66,12 @@ static int uses(struct wl_event_queue *queue, struct wl_display *own, struct wl_
 {
 	static __thread int came;
 	came = 0;
-	for (int each = 0; each < CALLBACKS; each++) {
+	for (int i = 0; i < CALLBACKS; i++) {
 		struct wl_callback *callback = wl_display_sync(own);
 		struct wl_region *region = wl_compositor_create_region(maker);
 		MUST(callback && region);
 		wl_callback_add_listener(callback, &of_callback, &came);
-		wl_region_add(region, 0, 0, round, each);
+		wl_region_add(region, 0, 0, round, i);
 		wl_region_destroy(region);
 	}
 	while (came < CALLBACKS)

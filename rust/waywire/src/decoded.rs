@@ -77,7 +77,7 @@ pub enum Spelled<'a> {
 impl<'a> Decoded<'a> {
     /// Decodes the message at the front of the bytes: a request or an event, depending on the sender, for an
     /// object of this interface and version. [`u32::MAX`] accepts messages of every version. Bytes after the
-    /// message are ignored. `None` for an interface of larger tables, whose place these tables do not have.
+    /// message are ignored. `None` for an interface of larger tables, whose index these tables do not have.
     pub fn of(
         tables: &'a Tables,
         interface: Interface,

@@ -51,14 +51,14 @@ pub enum SendError {
     NoSuchMessage,
     /// The message is newer than its target.
     TooOld,
-    /// The argument at this place, counted from 0, does not fit the signature, or is missing.
+    /// The argument at this index, counted from 0, does not fit the signature, or is missing.
     WrongArgs {
-        /// The first such place.
+        /// The first such index.
         place: usize,
     },
-    /// The object at this place is not live, or of another interface.
+    /// The object at this index is not live, or of another interface.
     BadObject {
-        /// The first such place.
+        /// The first such index.
         place: usize,
     },
     /// No global of this name, interface and version was announced. From
@@ -146,7 +146,7 @@ pub struct Fault {
     pub offset: u64,
 }
 
-/// The kinds of faults. `place` is the place of the argument, counted from 0.
+/// The kinds of faults. `place` is the index of the argument, counted from 0.
 #[derive(Clone, Copy, Debug, PartialEq, Eq)]
 #[non_exhaustive]
 pub enum FaultKind {
@@ -158,19 +158,19 @@ pub enum FaultKind {
     UnknownMessage,
     /// An argument is malformed (F4).
     BadArgument {
-        /// Its place.
+        /// Its index.
         place: usize,
         /// It ends too early (1), is null (2), has no ending NUL (3), or a NUL inside (4).
         spelling: u32,
     },
     /// An argument is no object of its interface (F5).
     BadObject {
-        /// Its place.
+        /// Its index.
         place: usize,
     },
     /// The id of a new object is not one that can be opened (F6).
     BadNewId {
-        /// Its place.
+        /// Its index.
         place: usize,
     },
     /// Bytes follow the last argument (F7).

@@ -53,7 +53,7 @@ impl fmt::Debug for Object {
     }
 }
 
-/// An interface: its place in the tables.
+/// An interface: its index in the tables.
 #[derive(Clone, Copy, Debug, PartialEq, Eq, Hash)]
 pub struct Interface(pub(crate) u16);
 
@@ -92,13 +92,13 @@ impl Tables {
         self.0.interface(name).map(Interface)
     }
 
-    /// The name of an interface. `None` if it is from larger tables, and these do not have its place.
+    /// The name of an interface. `None` if it is from larger tables, and these do not have its index.
     pub fn name(&self, interface: Interface) -> Option<&str> {
         self.0.name(interface.0)
     }
 
     /// The newest version of an interface. `None` if it is from larger tables, and these do not have its
-    /// place.
+    /// index.
     pub fn version(&self, interface: Interface) -> Option<u32> {
         self.0.version(interface.0)
     }
@@ -147,7 +147,7 @@ pub enum Destroys {
     Target,
     /// The object that an argument names.
     Arg {
-        /// The argument's place, counted from 0.
+        /// The argument's index, counted from 0.
         place: usize,
     },
 }

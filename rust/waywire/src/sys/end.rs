@@ -103,7 +103,7 @@ extern "C" {
         args: *const RawArg,
         arg_count: usize,
         made: *mut Object,
-        place: *mut usize,
+        index: *mut usize,
     ) -> u32;
     fn waywire_end_next(end: *mut RawEnd, report: *mut Report) -> u32;
 
@@ -550,14 +550,14 @@ impl End {
         opcode: u16,
         args: &[Arg<'_>],
     ) -> Result<Option<Object>, SendError> {
-        // One more than a message can have, so that too many are refused at their place.
+        // One more than a message can have, so that too many are refused at their index.
         const LENGTH: usize = MOST + 1;
         let mut given = [const { MaybeUninit::<RawArg>::uninit() }; LENGTH];
         let count = args.len().min(LENGTH);
         for (slot, arg) in given.iter_mut().zip(args) {
             slot.write(RawArg::of(arg));
         }
-        let (mut made, mut place) = (Object::NONE, 0);
+        let (mut made, mut index) = (Object::NONE, 0);
         // Safety, besides: the first `count` arguments were written.
         let status = unsafe {
             waywire_end_send(
@@ -567,12 +567,12 @@ impl End {
                 given.as_ptr().cast(),
                 count,
                 &mut made,
-                &mut place,
+                &mut index,
             )
         };
         match status {
             OK => Ok((made != Object::NONE).then_some(made)),
-            _ => Err(send_error(status, place)),
+            _ => Err(send_error(status, index)),
         }
     }
 

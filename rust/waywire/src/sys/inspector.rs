@@ -342,8 +342,8 @@ impl Inspector {
 
     /// The newest version, 0 if there is none.
     pub fn announced(&self, name: u32, interface: Option<Interface>) -> u32 {
-        let place = interface.map_or(ANY_INTERFACE as u16, |it| it.0);
-        unsafe { waywire_inspector_announced(self.0.as_ptr(), name, place) }
+        let index = interface.map_or(ANY_INTERFACE as u16, |it| it.0);
+        unsafe { waywire_inspector_announced(self.0.as_ptr(), name, index) }
     }
 }
 

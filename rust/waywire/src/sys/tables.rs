@@ -50,7 +50,7 @@ extern "C" {
         interface: u16,
         sender: u32,
         opcode: u16,
-        place: usize,
+        index: usize,
         kind: *mut RawKind,
     ) -> u32;
 }
@@ -74,9 +74,9 @@ struct RawKind {
     interface: u16,
 }
 
-/// The interface that a place names, `None` where it stands for any.
-pub fn interface_or_any(place: u16) -> Option<Interface> {
-    (u32::from(place) != ANY_INTERFACE).then_some(Interface(place))
+/// The interface that an index names, `None` where it stands for any.
+pub fn interface_or_any(index: u16) -> Option<Interface> {
+    (u32::from(index) != ANY_INTERFACE).then_some(Interface(index))
 }
 
 impl RawKind {
@@ -217,16 +217,16 @@ impl Tables {
                 _ => Destroys::Nothing,
             },
             kinds: (0..message.arg_count)
-                .filter_map(|place| self.kind(interface, sender, opcode, place))
+                .filter_map(|index| self.kind(interface, sender, opcode, index))
                 .collect(),
         })
     }
 
-    fn kind(&self, interface: u16, sender: Sender, opcode: u16, place: usize) -> Option<ArgKind> {
+    fn kind(&self, interface: u16, sender: Sender, opcode: u16, index: usize) -> Option<ArgKind> {
         let mut kind = RawKind::default();
         // Safety: the tables are the library's, and `kind` can be written.
         let status = unsafe {
-            waywire_tables_kind(self.at(), interface, sender.number(), opcode, place, &mut kind)
+            waywire_tables_kind(self.at(), interface, sender.number(), opcode, index, &mut kind)
         };
         (status == OK).then(|| kind.kind())
     }
