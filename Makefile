@@ -1,17 +1,17 @@
 # Builds the library for C, and on it the tool `waywire-inspect` and the libwayland-client of `waywire-run`.
 #
 #     make            proves and builds the library if it is not built yet, reusing what was proved in this clone
-#                     (tools/toolchain.py), and then builds the tools. If a package has the archive of the exports that
+#                     (scripts/toolchain.py), and then builds the tools. If a package has the archive of the exports that
 #                     was proved from these sources, it takes that, and proves nothing
 #     make UNPROVED=1 compiles the library without a proof, unless a proved one is there
 #     make install    installs all of it, with the manual pages; also the program `waywire`, if that is built
 #                     (./waywire --build)
 #     make dist       packs all of that for machines without the toolchain
 #     make deb        makes a Debian package of it
-#     make check      runs the short tests of the library for C; tests/check-c runs all of them
+#     make check      runs the short tests of the library for C; ./test c runs all of them
 #
 # A package has an archive that was proved from nothing: `make dist` and `make deb` prove again what `make` has proved
-# over kept work (tools/proved_archive.py). A library that is not proved is installed and packed with UNPROVED=1 alone.
+# over kept work (scripts/proved_archive.py). A library that is not proved is installed and packed with UNPROVED=1 alone.
 #
 #     make install PREFIX=/usr/local LIBDIR=/usr/local/lib DESTDIR=
 #     make PROVED=FOLDER      also looks for a proved archive in FOLDER, share/waywire/proved of a package
@@ -41,7 +41,7 @@ how = $(firstword $(shell head -n 1 crates/waywire_c/out/libwaywire_c.sums 2>/de
 unproved = $(if $(filter unproved,$(how)), (not proved))
 # Where packages put a proved archive.
 proved_places = $(PROVED) out/proved $(DATADIR)/waywire/proved /usr/share/waywire/proved
-crates := $(shell python3 tools/crates.py below waywire_c)
+crates := $(shell python3 -m scripts.crates below waywire_c)
 sources := $(wildcard $(crates:%=crates/%/src/*.rt))
 archive = out/c/libwaywire.a
 # Versions of one major number are compatible; below 1, those of one minor number.
@@ -69,8 +69,8 @@ run_with = sed 's|^libraries=.*|libraries=$(1)|; s|^inspector=.*|inspector=$(2)|
 # The typed calls for the core, which a tool makes from the core's XML. Those for Rust are part of its package.
 typed_c = include/waywire-core.h
 typed_rust = rust/waywire/src/wayland.rs
-typed_from = protocols/core/core.xml protocols/core/core.tables \
-	$(addprefix tools/,stubs-from-xml protocol.py rust_stubs.py table_text.py valid_tables.py)
+typed_from = protocols/core/core.xml protocols/core/core.tables tools/stubs-from-xml $(addprefix tools/waywire/, \
+	__init__.py protocol.py rust_stubs.py stubs_from_xml.py table_text.py valid_tables.py)
 
 all: $(archive) $(shared) $(inspect) $(wayland) $(run) $(typed_rust)
 
@@ -84,13 +84,13 @@ endif
 endif
 again := $(if $(unproved),again)
 ifneq ($(packed),)
-again += $(shell python3 tools/proved_archive.py ready || echo again)
+again += $(shell python3 -m scripts.proved_archive ready || echo again)
 endif
 endif
 
 $(exports): $(sources) $(again)
-	@python3 tools/proved_archive.py take $(proved_places) || \
-		python3 tools/$(if $(UNPROVED),unproved_archive.py,toolchain.py build waywire_c $(if $(packed),whole))
+	@python3 -m scripts.proved_archive take $(proved_places) || \
+		python3 -m scripts.$(if $(UNPROVED),unproved_archive,toolchain build waywire_c $(if $(packed),whole))
 
 include/waywire-version.h: $(numbered) Makefile
 	@printf '%s\n' '/* Made by make. */' '#define WAYWIRE_VERSION "$(VERSION)"' \
@@ -172,9 +172,10 @@ out/c/wayland/%.o: c/libwayland/%.c $(wildcard c/libwayland/*.h) include/waywire
 	@mkdir -p out/c/wayland
 	$(CC) $(CFLAGS) $(wayland_flags) -c $< -o $@
 
-out/c/wayland/interfaces.c: protocols/core/core.xml protocols/core/data-device.xml tools/interfaces-from-xml tools/protocol.py
+out/c/wayland/interfaces.c: protocols/core/core.xml protocols/core/data-device.xml scripts/interfaces_from_xml.py \
+		tools/waywire/protocol.py
 	@mkdir -p out/c/wayland
-	tools/interfaces-from-xml protocols/core/core.xml protocols/core/data-device.xml > $@
+	python3 -m scripts.interfaces_from_xml protocols/core/core.xml protocols/core/data-device.xml > $@
 
 out/c/wayland/interfaces.o: out/c/wayland/interfaces.c c/libwayland/wayland-abi.h
 	$(CC) $(CFLAGS) $(wayland_flags) -c $< -o $@
@@ -221,8 +222,9 @@ install: all
 	for file in $(rust); do \
 		install -D -m 644 rust/waywire/$$file $(DESTDIR)$(DATADIR)/waywire/rust/$$file || exit; \
 	done
-	install -m 644 tools/protocol.py tools/protocol_names.py tools/rust_stubs.py tools/table_text.py \
-		tools/valid_tables.py $(DESTDIR)$(DATADIR)/waywire/tools
+	install -d $(DESTDIR)$(DATADIR)/waywire/tools/waywire $(DESTDIR)$(DATADIR)/waywire/tools/picture
+	install -m 644 tools/waywire/*.py $(DESTDIR)$(DATADIR)/waywire/tools/waywire
+	install -m 644 tools/picture/* $(DESTDIR)$(DATADIR)/waywire/tools/picture
 	for tool in tables-from-xml stubs-from-xml; do \
 		install -m 755 tools/$$tool $(DESTDIR)$(DATADIR)/waywire/tools && \
 		ln -sf $(call from,$(BINDIR),$(DATADIR)/waywire/tools)/$$tool $(DESTDIR)$(BINDIR)/waywire-$$tool && \
@@ -230,19 +232,16 @@ install: all
 	done
 	chmod 644 $(DESTDIR)$(DATADIR)/man/man1/waywire-*.1
 	install -m 755 $(inspect) $(DESTDIR)$(BINDIR)
-	install -d $(DESTDIR)$(DATADIR)/waywire/tools/picture
-	install -m 644 tools/picture/* $(DESTDIR)$(DATADIR)/waywire/tools/picture
-	install -m 644 tools/picture_columns.py $(DESTDIR)$(DATADIR)/waywire/tools
 	install -m 755 tools/waywire-picture $(DESTDIR)$(DATADIR)/waywire/tools
 	ln -sf $(call from,$(BINDIR),$(DATADIR)/waywire/tools)/waywire-picture $(DESTDIR)$(BINDIR)
-	if python3 tools/proved_archive.py ready; then \
-		python3 tools/proved_archive.py pack $(DESTDIR)$(DATADIR)/waywire/proved; \
+	if python3 -m scripts.proved_archive ready; then \
+		python3 -m scripts.proved_archive pack $(DESTDIR)$(DATADIR)/waywire/proved; \
 	else \
 		rm -rf $(DESTDIR)$(DATADIR)/waywire/proved; \
 	fi
 	if [ -x $(program) ]; then \
 		install -m 755 $(program) $(DESTDIR)$(BINDIR)/waywire && \
-		tools/man-page $(program) > $(DESTDIR)$(DATADIR)/man/man1/waywire.1 && \
+		python3 -m scripts.man_page $(program) > $(DESTDIR)$(DATADIR)/man/man1/waywire.1 && \
 		chmod 644 $(DESTDIR)$(DATADIR)/man/man1/waywire.1; \
 	fi
 
@@ -257,12 +256,12 @@ dist: all
 	rm -rf out/dist
 	@echo out/$(package).tar.gz
 
-# An unsigned package: tools/deb-package says what is in it.
+# An unsigned package: scripts/deb-package says what is in it.
 deb: all
-	tools/deb-package $(VERSION) $(abi) $(program)
+	scripts/deb-package $(VERSION) $(abi) $(program)
 
 check: all
-	tests/check-c --short
+	./test c --short
 
 clean:
 	rm -rf out/c out/dist out/deb out/*.tar.gz out/*.deb include/waywire-version.h $(typed_c) $(typed_rust)

@@ -5,9 +5,8 @@ import shutil
 import subprocess
 import sys
 
-TOP = os.path.dirname(os.path.dirname(os.path.realpath(__file__)))
-sys.path.insert(0, f"{TOP}/tools")
-import toolchain  # noqa: E402
+from scripts import toolchain
+from scripts.crates import TOP
 
 
 def build(folder, program, source, over, words):

@@ -1,7 +1,6 @@
-#!/usr/bin/env python3
 """Writes a recording of just under 16 MiB to standard output: one long lawful session, of one of these kinds.
 
-    bench/recording.py KIND
+    python3 -m bench.recording KIND
 
 surfaces        a client makes a surface, attaches nothing, commits it and destroys it, again and again; each
                 time the server frees its id
@@ -13,13 +12,10 @@ server_ids      the server makes an object and names it, and makes it again when
                 with the same tables
 bytes           the same as callbacks, with each byte in a piece of its own
 """
-import os
 import struct
 import sys
 
-sys.dont_write_bytecode = True
-sys.path.insert(0, f"{os.path.dirname(os.path.dirname(os.path.realpath(__file__)))}/tools/dev")
-import usage  # noqa: E402
+from scripts import usage
 
 MOST = 16 * 1024 * 1024
 # The first id of what a server makes.
@@ -126,4 +122,5 @@ def main():
         size += len(part)
 
 
-main()
+if __name__ == "__main__":
+    main()

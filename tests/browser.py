@@ -10,7 +10,7 @@ import subprocess
 import sys
 import tempfile
 
-from checks import COMES_UP, LONG, Failed, Skipped, has_come, is_installed
+from tests.checks import COMES_UP, LONG, Failed, Skipped, has_come, is_installed
 
 NAMES = ("chromium", "chromium-browser", "google-chrome")
 # Gives the browser its two pipes as descriptors 3 and 4, and becomes it.

@@ -1,14 +1,10 @@
-"""What the programs of this folder share: paths, running commands, and counting tests.
-
-It puts tools/ and tools/dev/ on the path, so that a test imports their modules."""
+"""What the tests share: paths, running commands, and counting."""
 
 import contextlib
 import fcntl
 import filecmp
 import functools
 import glob
-import importlib.machinery
-import importlib.util
 import os
 import re
 import shutil
@@ -20,12 +16,10 @@ import time
 import traceback
 import unittest
 
-sys.dont_write_bytecode = True
-TOP = os.path.dirname(os.path.dirname(os.path.realpath(__file__)))
+from scripts import protocol_files, usage
+from scripts.crates import TOP
+
 TOOLS = f"{TOP}/tools"
-sys.path[1:1] = [TOOLS, f"{TOOLS}/dev"]
-import protocol_files  # noqa: E402
-import usage  # noqa: E402
 VALGRIND = ["valgrind", "-q", "--leak-check=full", "--error-exitcode=9"]
 # The compilers of C and C++ with which the headers must compile.
 COMPILERS = (["gcc", "-std=c99", "-x", "c"], ["g++", "-std=c++11", "-x", "c++"],
@@ -224,15 +218,6 @@ def need_protocols():
             raise Skipped(f"{package} is not installed")
 
 
-def module_of(path):
-    """A program in Python as a module, by its path below the top."""
-    name = os.path.basename(path).replace("-", "_")
-    loader = importlib.machinery.SourceFileLoader(name, f"{TOP}/{path}")
-    module = importlib.util.module_from_spec(importlib.util.spec_from_loader(name, loader))
-    loader.exec_module(module)
-    return module
-
-
 def read(path):
     """The text of a file, by its path below the top."""
     with open(f"{TOP}/{path}", encoding="utf-8") as file:
@@ -357,12 +342,16 @@ def passed_and_failed(tests, *given):
 
 def count_cases(suite):
     """Runs cases of `unittest`. Prints which failed and which were skipped, and why, and counts them."""
+    def name(test):
+        """The class and the test, without their module."""
+        return re.sub(r"\b(__main__|tests)\.([a-z_]+\.)*", "", test.id())
+
     result = unittest.TextTestRunner(stream=sys.stdout, verbosity=1).run(suite)
     wrong = [*result.failures, *result.errors]
     for test, why in wrong:
-        print(f"failed: {test.id().removeprefix('__main__.')}: {why.rstrip().splitlines()[-1]}")
+        print(f"failed: {name(test)}: {why.rstrip().splitlines()[-1]}")
     for test, why in result.skipped:
-        print(f"skipped: {test.id().removeprefix('__main__.')}: {why}")
+        print(f"skipped: {name(test)}: {why}")
     # A class that is skipped was not run; a test fails by each of its parts.
     lost = {getattr(it, "test_case", it).id() for it, _ in (*wrong, *result.skipped)
             if isinstance(it, unittest.TestCase)}

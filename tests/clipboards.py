@@ -9,8 +9,8 @@ import subprocess
 import tempfile
 import time
 
-import compositors
-from checks import Failed, Skipped, comes_to_listen, end, ended, has_client, has_come, need, run, start_and_wait
+from tests import compositors
+from tests.checks import Failed, Skipped, comes_to_listen, end, ended, has_client, has_come, need, run, start_and_wait
 
 # How long a text may take from one client to another, and a client to end, in seconds: many times what is needed on a
 # busy machine.

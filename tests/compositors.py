@@ -7,7 +7,8 @@ import shutil
 import subprocess
 import tempfile
 
-from checks import COMES_UP, LONG, Failed, Skipped, comes_to_listen, has_client, has_come, has_waiting_client, need
+from tests.checks import (COMES_UP, LONG, Failed, Skipped, comes_to_listen, has_client, has_come, has_waiting_client,
+                          need)
 
 # What is played at a window of weston-simple-shm, which draws until it is asked to close.
 DRAWN = "motion 20 20\nbutton 272\nkey 30\nclose\n"

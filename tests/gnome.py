@@ -1,12 +1,12 @@
-"""waywire-inspect judges GTK programs at mutter. tests/check-c runs this."""
+"""waywire-inspect judges GTK programs at mutter. `./test c` runs this."""
 
 import os
 import re
 import signal
 import subprocess
 
-from checks import LONG, Failed, Skipped, has_come, is_installed
-from libwayland import kwin_and_mutter
+from tests.checks import LONG, Failed, Skipped, has_come, is_installed
+from tests.libwayland import kwin_and_mutter
 
 PROGRAMS = (["zenity", "--info", "--text=hello"], ["gtk3-demo"], ["gtk4-demo"], ["gtk4-widget-factory"])
 DRAWN = r"-> wl_surface@\d+\.commit\("

@@ -1,4 +1,4 @@
-"""Tests of what `make` installs and packs: tests/check-c runs them."""
+"""Tests of what `make` installs and packs: `./test c` runs them."""
 
 import glob
 import os
@@ -7,11 +7,8 @@ import shutil
 import subprocess
 import tempfile
 
-from checks import (LONG, TOP, Failed, Skipped, can, ended, need, need_protocols, run,
-                    start_and_wait)
-import crates
-import proved_archive
-import unproved
+from scripts import crates, proved_archive, unproved
+from tests.checks import LONG, TOP, Failed, Skipped, can, ended, need, need_protocols, run, start_and_wait
 
 TESTS = os.path.join(TOP, "tests", "c")
 # The word for make that installs or packs the library as it is, without proving it again.
@@ -207,8 +204,8 @@ def copy_of_what_make_reads(room):
     """A copy of what the library for C is made of, and of what is installed with it, without what was built."""
     copy = f"{room}/copy"
     of_crates = [f"crates/{it}" for it in crates.lowest_first(crates.read(), proved_archive.LIBRARY)]
-    hide = shutil.ignore_patterns("out", "must-fail", "waywire-core.h", "waywire-version.h", "wayland.rs")
-    for it in ("c", "include", "tools", "docs", "examples", "protocols", "rust/waywire", *of_crates):
+    hide = shutil.ignore_patterns("out", "must-fail", "__pycache__", "waywire-core.h", "waywire-version.h", "wayland.rs")
+    for it in ("c", "include", "scripts", "tools", "docs", "examples", "protocols", "rust/waywire", *of_crates):
         shutil.copytree(f"{TOP}/{it}", f"{copy}/{it}", ignore=hide)
     for it in ("Makefile", "LICENSE", "HANDLES", "crates.txt", "crates/program_arguments/src/job.rt"):
         os.makedirs(os.path.dirname(f"{copy}/{it}"), exist_ok=True)

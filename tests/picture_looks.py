@@ -2,7 +2,7 @@
 
 import contextlib
 
-import picture_sessions
+from tests import picture_sessions
 
 SIZES = ((390, 844), (844, 390), (1280, 800), (1920, 1080))
 # The name of a page, and long names of the kind that compositors have.

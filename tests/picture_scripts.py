@@ -3,10 +3,9 @@
 import json
 import re
 
-import checks
-import picture_columns
-import picture_sessions
-from checks import Failed
+from tests import checks, picture_sessions
+from tests.checks import Failed
+from tools.waywire import picture_columns
 
 # What the scripts ask of a browser as soon as they are loaded.
 BROWSER = "const matchMedia = () => ({ matches: false }), document = { documentElement: { dataset: {} } };"

@@ -6,7 +6,7 @@ import random
 import struct
 import sys
 
-import checks
+from tests import checks
 
 # Runs a command, and writes the most memory that it took at one time, in KB.
 MEASURE = """

@@ -2,14 +2,14 @@
 
 This is the only reader of the wire beside the proved one. Tests compare the two. It was written from that page
 alone, is slow, and has no bounds on memory. Tools decode messages with waywire_tables_decode, or read the output
-of `waywire-inspect --json`. tools/table_text.py reads table texts. Import `checks` first: it puts tools/ on the
+of `waywire-inspect --json`. tools/waywire/table_text.py reads table texts. Import `checks` first: it puts tools/ on the
 path.
 """
 
 import re
 from dataclasses import dataclass
 
-from table_text import BadLine, Interface, is_name, lines_of
+from tools.waywire.table_text import BadLine, Interface, is_name, lines_of
 
 MOST_IDS = 1_048_576
 # The ids of the objects that the server makes.

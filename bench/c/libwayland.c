@@ -1,5 +1,5 @@
 /* Sends messages between a client and a server of libwayland in one process, so that the instructions
- * of a message can be counted: the work of calls.c, over libwayland. bench/c/run and bench/rust/run count it.
+ * of a message can be counted: the work of calls.c, over libwayland. bench/c/run.py and bench/rust/run.py count it.
  *
  * The words are: how messages are dispatched (`dispatcher`: by wl_dispatcher_func_t; `listener`: by
  * the generated listeners and libffi), the case (`damage`, `motion`, `surface` or `title`), the number

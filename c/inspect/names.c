@@ -9,7 +9,7 @@
 /* For how many messages the line is cached. */
 #define KEPT 1024
 
-/* Lines as tools/protocol_names.py makes them, each ended by a NUL, and where each begins, in order. */
+/* Lines as tools/waywire/protocol_names.py makes them, each ended by a NUL, and where each begins, in order. */
 struct lines {
 	struct text bytes;
 	char **sorted;

@@ -1,4 +1,4 @@
-/* What the programs that tests/c/every-stub writes share: a pair of ends, an inspector of what passes between
+/* What the programs that tests/every_stub.py writes share: a pair of ends, an inspector of what passes between
  * them, and what is to come. */
 #ifndef EVERY_STUB_H
 #define EVERY_STUB_H

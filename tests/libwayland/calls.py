@@ -3,8 +3,8 @@
 import difflib
 import re
 
-from checks import Failed
-from libwayland.libraries import SYSTEM, checked_by_valgrind, compiled
+from tests.checks import Failed
+from tests.libwayland.libraries import SYSTEM, checked_by_valgrind, compiled
 
 # The library prints each message, and does all else as before.
 DEBUG = {"WAYLAND_DEBUG": "1"}

@@ -8,9 +8,9 @@ import signal
 import subprocess
 import tempfile
 
-import compositors
-from checks import COMES_UP, LONG, Skipped, end, has_come, is_installed, need
-from libwayland.libraries import SYSTEM
+from tests import compositors
+from tests.checks import COMES_UP, LONG, Skipped, end, has_come, is_installed, need
+from tests.libwayland.libraries import SYSTEM
 
 COPIED = b"a text that was copied"
 # Programs choose Wayland, start no bus of their own, and draw without a graphics card.

@@ -1,20 +1,15 @@
-#!/usr/bin/env python3
 """Says in what the interfaces of one libwayland-client differ from those of an older one.
 
-    tests/libwayland/interfaces.py NEWER OLDER
+    python3 -m tests.libwayland.interfaces NEWER OLDER
 
 Each is the path of a libwayland-client.so.0. What the older one has, the newer one must have: each interface with at
 least its version, and its messages in front, each with the same name, signature and types. The exit status is 1 if
 there is a difference, and 2 if the words are wrong."""
 
 import ctypes
-import os
 import sys
 
-sys.dont_write_bytecode = True
-TOP = os.path.dirname(os.path.dirname(os.path.dirname(os.path.realpath(__file__))))
-sys.path.insert(0, f"{TOP}/tools/dev")
-import usage  # noqa: E402
+from scripts import usage
 
 NAMES = """wl_buffer wl_callback wl_compositor wl_data_device wl_data_device_manager wl_data_offer wl_data_source
     wl_display wl_keyboard wl_output wl_pointer wl_region wl_registry wl_seat wl_shell wl_shell_surface wl_shm

@@ -6,9 +6,9 @@ import shutil
 import subprocess
 import tempfile
 
-import compositors
-from checks import COMES_UP, Skipped, end, need
-from libwayland import desktops
+from tests import compositors
+from tests.checks import COMES_UP, Skipped, end, need
+from tests.libwayland import desktops
 
 # foot is not here: it crashes at KWin's virtual output, over the system's library, too.
 AT_KWIN = """

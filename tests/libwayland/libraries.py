@@ -5,7 +5,7 @@ import re
 import shutil
 import subprocess
 
-from checks import LONG, TOP, Failed, Skipped, ends_of, is_whole, need, run
+from tests.checks import LONG, TOP, Failed, Skipped, ends_of, is_whole, need, run
 
 SONAME = "libwayland-client.so.0"
 OUT = f"{TOP}/out/c/tests-of-libwayland"

@@ -7,9 +7,9 @@ import re
 import subprocess
 import time
 
-from checks import COMES_UP, Failed, Skipped, has_come, need
-from libwayland import desktops
-from libwayland.libraries import SOURCES
+from tests.checks import COMES_UP, Failed, Skipped, has_come, need
+from tests.libwayland import desktops
+from tests.libwayland.libraries import SOURCES
 
 KINDS = ("gtk3", "gtk4", "qt", "foot", "firefox", "wl-clipboard")
 # The distribution's Python has the modules of its packages.

@@ -18,9 +18,9 @@ import signal
 import subprocess
 import time
 
-from checks import COMES_UP, TOP, Failed, Skipped, has_come, is_installed, need, run
-from libwayland import desktops
-from libwayland.libraries import SONAME, SOURCES, SYSTEM, checked_by_valgrind
+from tests.checks import COMES_UP, TOP, Failed, Skipped, has_come, is_installed, need, run
+from tests.libwayland import desktops
+from tests.libwayland.libraries import SONAME, SOURCES, SYSTEM, checked_by_valgrind
 
 AT_SWAY = """
 wayland-info

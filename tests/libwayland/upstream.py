@@ -1,6 +1,6 @@
 """Runs libwayland's own tests of its client, unchanged, with the library under test.
 
-They come with the distribution's source of wayland, which tools/dev/install-packages fetches, and
+They come with the distribution's source of wayland, which scripts/install-packages fetches, and
 are compiled against the system's headers and its libwayland-server. Two suites test little of the
 library: connection-test tests libwayland's own connection.c, which is compiled into it, and
 sanity-test the runner of these tests, with a client and a server beside it. Both have libwayland's
@@ -13,9 +13,9 @@ import os
 import re
 import subprocess
 
-from checks import Failed, Skipped, ends_of, has_come, need, run
-from libwayland.desktops import end_group
-from libwayland.libraries import OUT, SYSTEM, need_headers
+from tests.checks import Failed, Skipped, ends_of, has_come, need, run
+from tests.libwayland.desktops import end_group
+from tests.libwayland.libraries import OUT, SYSTEM, need_headers
 
 FOLDER = os.environ.get("WAYWIRE_SOURCES", "/usr/src/waywire")
 SUITES = ("display", "queue", "proxy", "socket", "compositor-introspection", "protocol-logger",

@@ -4,9 +4,9 @@ import os
 import re
 import subprocess
 
-from checks import LONG, TOP, Failed, Skipped, ends_of, has_come, need
-from libwayland import desktops
-from libwayland.libraries import SYSTEM
+from tests.checks import LONG, TOP, Failed, Skipped, ends_of, has_come, need
+from tests.libwayland import desktops
+from tests.libwayland.libraries import SYSTEM
 
 TOOL = f"{TOP}/out/c/waywire-run"
 

@@ -1,4 +1,3 @@
-#!/usr/bin/env python3
 """A window of a toolkit that copies with Ctrl and C, and pastes with Ctrl and V.
 
     window.py TOOLKIT

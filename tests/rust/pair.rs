@@ -1,4 +1,4 @@
-//! What the tests that tests/rust/every-typed-call writes share: a pair of ends with objects of any
+//! What the tests that tests/every_typed_call.py writes share: a pair of ends with objects of any
 //! interface, and values at the corners of their types.
 
 #![allow(dead_code)]

@@ -1,5 +1,5 @@
 //! Sends messages between a client and a server in one process, and reads them, so that the
-//! instructions of a message can be counted (bench/rust/run). The same as bench/c/calls.c.
+//! instructions of a message can be counted (bench/rust/run.py). The same as bench/c/calls.c.
 //!
 //!     cost damage|motion|surface|title BATCH TIMES
 

@@ -1,0 +1,1 @@
+"""Measurements: `python3 -m bench.FOLDER.run` at the top, and `bench/run`."""

@@ -1,0 +1,1 @@
+"""What builds the repository, and what you run while you change it: `python3 -m scripts.NAME` at the top."""

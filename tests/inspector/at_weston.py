@@ -1,0 +1,71 @@
+"""Tests of waywire-inspect between real clients and weston without a screen.
+
+    python3 -m tests.inspector.at_weston [CLASS[.TEST]]..
+
+The environment is that of inspecting.py."""
+import signal
+import time
+
+from tests.checks import need
+from tests.inspector import real_clients
+from tests.inspector.inspecting import GONE, LONG, main
+
+
+class Weston(real_clients.RealClients):
+    """Real clients at weston without a screen."""
+
+    def setUp(self):
+        super().setUp()
+        need("weston", "weston-simple-shm")
+        self.env["WAYLAND_DISPLAY"] = "weston"
+        words = ["weston", "--backend=headless-backend.so", "--socket=weston", "--idle-time=0"]
+        self.weston = self.start_compositor(words, f"{self.folder}/weston", self.env)
+
+    def test_simple_shm(self):
+        self.inspected("weston-simple-shm")
+
+    def test_flower(self):
+        self.inspected("weston-flower")
+
+    def test_gtk(self):
+        self.env["GDK_BACKEND"] = "wayland"
+        self.inspected("zenity", "--info", "--text=waywire")
+
+    def test_the_compositor_hangs(self):
+        """The frame that does not come is reported, and how long it was waited for."""
+        paths = self.start_at_files("--record", self.recorded, "weston-simple-shm")
+        self.addCleanup(self.weston.send_signal, signal.SIGCONT)
+        self.weston.send_signal(signal.SIGSTOP)
+        self.comes_true(lambda: self.state_of(self.weston) == "T" and self.waits_for_a_frame(paths[0]))
+        # The tool reports what has waited for a second.
+        time.sleep(1.5)
+        self.finish(signal.SIGINT, None)
+        lines = self.read(paths[0]).splitlines()
+        self.assertRegex(lines[-2], r"\Awl_surface@\d+\.frame: 1 not answered, waiting \d+\.\d s\Z")
+        again, _ = self.ran("--read", self.recorded)
+        self.assertEqual(again.splitlines()[-2:], lines[-2:])
+
+    def state_of(self, process):
+        """What a process does: T if it is stopped, S if it waits."""
+        with open(f"/proc/{process.pid}/stat", encoding="ascii", errors="replace") as file:
+            return file.read().rpartition(")")[2].split()[0]
+
+    def waits_for_a_frame(self, path):
+        """Whether the tool has passed on all that came, and the last frame callback is not done."""
+        if self.state_of(self.tool) != "S":
+            return False
+        _, frame, behind = self.read(path).rpartition(".frame(new id ")
+        callback = behind.partition(")")[0]
+        return bool(frame) and f"<- {callback}.done(" not in behind
+
+    def test_the_compositor_is_killed(self):
+        paths = self.start_at_files("weston-simple-shm")
+        self.weston.kill()
+        self.tool.wait(LONG)
+        said, error = (self.read(it) for it in paths)
+        self.assertTrue(said.splitlines()[-1].startswith("lawful: "), said[-300:])
+        self.assertIn(GONE, error)
+
+
+if __name__ == "__main__":
+    main()

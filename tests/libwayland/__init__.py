@@ -1,0 +1,1 @@
+"""The tests of the libwayland-client, in C and in Python."""

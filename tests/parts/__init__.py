@@ -1,0 +1,1 @@
+"""The parts that `./test` runs, each of its own name."""

@@ -1,0 +1,457 @@
+"""Tests the library for Rust, with the library for C that `make` has built.
+
+    ./test rust
+
+cargo builds the library without any registry. These are run:
+
+- its lints, its tests, also under valgrind, and its documentation, also if the library for C is not installed;
+- its examples, also outside the repository: the window at the example compositor and at one of the distribution;
+  clients of the distribution at the example compositor, where they also copy and paste; clients that ask it for more
+  than it has; the client that pastes, there, at sway and during a drag; the window, a client of the distribution and a
+  clipboard through the proxy, which leaves no descriptor open;
+- each message of the installed protocols, through its typed call;
+- the scene of its tests, played by the pair in Rattle.
+
+It prints what failed and what was skipped. The last line counts. The exit status is 0 if nothing failed."""
+
+import contextlib
+import os
+import select
+import shutil
+import signal
+import socket
+import struct
+import subprocess
+import sys
+import tempfile
+
+from scripts import protocol_files, usage
+from tests import checks, clipboards, compositors
+from tests.checks import LONG, TOP, Failed, Skipped, can, comes_to_listen, end, has_come, need
+
+PACKAGE = os.path.join(TOP, "rust", "waywire")
+OUT = os.path.join(TOP, "out", "rust")
+INSTALLED = os.path.join(OUT, "installed")
+EXAMPLES = os.path.join(OUT, "debug", "examples")
+TABLES = os.path.join(TOP, "protocols")
+# The first id of the objects that a server makes.
+FIRST_SERVER_ID = 0xff000000
+
+
+def environment(**more):
+    return {**os.environ, "WAYWIRE_DIR": INSTALLED, "CARGO_TARGET_DIR": OUT, "CARGO_NET_OFFLINE": "true", **more}
+
+
+def run(words, timeout=LONG, **more):
+    """Runs a command in the package's folder, and returns its output."""
+    return checks.run(words, with_error=True, cwd=PACKAGE, env=environment(**more), timeout=timeout)
+
+
+class Running:
+    """A server at a path, which ends with the test."""
+
+    def __init__(self, words, path, **more):
+        self.said = tempfile.TemporaryFile()
+        self.process = subprocess.Popen(words, env=environment(**more), stdout=self.said, stderr=self.said)
+        if not comes_to_listen(self.process, path):
+            self.process.kill()
+            raise Failed(f"{words[0]}: it does not listen\n{self.output()}")
+
+    def output(self):
+        """Its output so far. The position at which it goes on writing does not change."""
+        said = self.said.fileno()
+        return os.pread(said, os.fstat(said).st_size, 0).decode()
+
+    def ended(self):
+        """Its output, once it has ended by itself."""
+        try:
+            status = self.process.wait(LONG)
+        except subprocess.TimeoutExpired:
+            self.stop()
+            raise Failed(f"{self.process.args[0]}: it does not end") from None
+        if status:
+            raise Failed(f"{self.process.args[0]}: status {status}\n{self.output()[-800:]}")
+        return self.output()
+
+    def stop(self):
+        end(self.process)
+
+
+def can_make_examples():
+    """Whether the examples can be built: this makes modules from the files of xdg-shell and of the core."""
+    return {"xdg-shell", "data-device"} <= set(protocol_files.found())
+
+
+def example(name):
+    if not can_make_examples():
+        raise Skipped("wayland-protocols or libwayland-dev is not installed")
+    return os.path.join(EXAMPLES, name)
+
+
+def example_with_data_control():
+    """The example compositor, if it has the protocol of wl-copy and wl-paste."""
+    if "data-control" not in protocol_files.found():
+        raise Skipped("wlr-data-control is not installed")
+    return example("compositor")
+
+
+def lints():
+    if can("the layout of Rust", "rustfmt"):
+        run(["cargo", "fmt", "--check"])
+    if subprocess.run(["cargo", "clippy", "--version"], capture_output=True).returncode:
+        raise Skipped("clippy is not installed")
+    targets = ["--all-targets"] if can_make_examples() else ["--lib", "--tests"]
+    run(["cargo", "clippy", *targets, "--", "-D", "warnings"])
+
+
+def tests():
+    run(["cargo", "test", *([] if can_make_examples() else ["--lib", "--tests"])])
+
+
+def scene_is_that_of_the_pair():
+    """The scene that the tests play has the same results with the pair in Rattle, whose program is compiled unproved."""
+    need("rt")
+    words = [os.path.join(TOP, "tools", "dev", "unproved"), "test_scenes"]
+    program = run(words, timeout=4 * LONG).splitlines()[-1]
+    if run([program, "tests/core.scenes"]) != "# tests/core.scenes\nevery message of the core passes: ok\n":
+        raise Failed("the pair has other results")
+
+
+def every_message_goes_by_its_typed_call():
+    """The messages of the core, and of the protocols whose files are installed."""
+    folder = os.path.join(OUT, "typed")
+    checks.run([sys.executable, "-m", "tests.every_typed_call", folder])
+    words = ["--offline", f"--manifest-path={folder}/Cargo.toml"]
+    if not subprocess.run(["cargo", "clippy", "--version"], capture_output=True).returncode:
+        run(["cargo", "clippy", "--all-targets", *words, "--", "-D", "warnings"])
+    run(["cargo", "test", *words])
+
+
+def documentation():
+    run(["cargo", "doc", "--no-deps"], RUSTDOCFLAGS="-D warnings")
+
+
+def documentation_without_the_library():
+    """It can be made if the library for C is not installed. Linking then says what is missing."""
+    env = environment(PKG_CONFIG_PATH="/nowhere", PKG_CONFIG_LIBDIR="/nowhere", RUSTDOCFLAGS="-D warnings",
+                      CARGO_TARGET_DIR=os.path.join(OUT, "without"))
+    del env["WAYWIRE_DIR"]
+    told = "libwaywire is not found"
+    for words, is_linked in ((["doc", "--no-deps"], False), (["test", "--test", "threads"], True)):
+        it = subprocess.run(["cargo", *words], cwd=PACKAGE, env=env, check=False, capture_output=True, text=True)
+        if told not in it.stderr or (it.returncode == 0) == is_linked:
+            raise Failed(f"cargo {words[0]}: status {it.returncode}\n{it.stderr[-800:]}")
+
+
+def examples_outside_the_repository():
+    """A copy of the installed package builds with the installed library, and needs nothing else."""
+    example("window")
+    with tempfile.TemporaryDirectory() as folder:
+        copy = os.path.join(folder, "copy")
+        shutil.copytree(os.path.join(INSTALLED, "share", "waywire", "rust"), copy)
+        env = environment(CARGO_TARGET_DIR=os.path.join(OUT, "outside"))
+        checks.run(["cargo", "build", "--examples"], with_error=True, cwd=copy, env=env, timeout=LONG)
+
+
+def no_error_under_valgrind():
+    """No invalid read or write, and no leak. Memory that Rust's test harness still reaches does not count."""
+    need("valgrind")
+    leaks = [f"--{it}=definite" for it in ("show-leak-kinds", "errors-for-leak-kinds")]
+    for test in ("core", "descriptors", "following", "more_tables", "scene", "socket", "threads", "typed"):
+        said = run(["cargo", "test", "--no-run", "--test", test])
+        program = os.path.join(PACKAGE, said.rpartition("(")[2].partition(")")[0])
+        run(["valgrind", "-q", "--leak-check=full", *leaks, "--error-exitcode=9", program, "--test-threads=1"])
+
+
+def window_at_our_compositor():
+    with tempfile.TemporaryDirectory() as folder:
+        path = os.path.join(folder, "wayland-test")
+        ours = Running([example("compositor"), path], path)
+        try:
+            run([example("window")], XDG_RUNTIME_DIR=folder, WAYLAND_DISPLAY="wayland-test")
+            if ours.ended() != "a picture of 64 by 64, its first pixel ff336699\n":
+                raise Failed(f"the compositor says {ours.output()!r}")
+        finally:
+            ours.stop()
+
+
+def client_of_weston_at_our_compositor():
+    compositors.serves_a_client_of_weston(example("compositor"))
+
+
+def client_of_gtk_at_our_compositor():
+    compositors.serves_a_client_of_gtk(example("compositor"))
+
+
+def texts_at_our_compositor():
+    clipboards.passes_texts(example_with_data_control())
+
+
+def clients_go_at_our_compositor():
+    clipboards.goes_on_without_a_client(example_with_data_control())
+
+
+def compiled(name, **headers):
+    """Compiles a program of the tests in C with headers of typed calls, each made from the file of a protocol.
+    Returns its path."""
+    program, stubs = os.path.join(OUT, name), os.path.join(OUT, "stubs")
+    os.makedirs(stubs, exist_ok=True)
+    for header, protocol in headers.items():
+        with open(os.path.join(stubs, header.replace("_", "-") + ".h"), "w", encoding="utf-8") as file:
+            file.write(checks.run(["tools/stubs-from-xml", protocol_files.found()[protocol]]))
+    folders = [f"-I{it}" for it in (f"{INSTALLED}/include", stubs)]
+    archive = os.path.join(INSTALLED, "lib", "libwaywire.a")
+    checks.run(["cc", "-std=gnu11", *folders, f"tests/c/{name}.c", archive, "-o", program])
+    return program
+
+
+def much_at_our_clipboard():
+    compositor = example_with_data_control()
+    clipboards.bears_much(compiled("clipboard", data_control="data-control"), compositor)
+
+
+def greedy_clients_at_our_compositor():
+    compositor = example("compositor")
+    program = compiled("greedy", wayland="data-device", xdg_shell="xdg-shell")
+    clipboards.bears_greedy_clients(program, compositor)
+
+
+def gtk_copies_and_pastes_at_our_compositor():
+    clipboards.serves_gtk([example("paste")], example_with_data_control())
+
+
+def foot_copies_at_our_compositor():
+    clipboards.serves_foot(example_with_data_control())
+
+
+def client_pastes_at_our_compositor():
+    clipboards.client_pastes_at_ours([example("paste")], [], example_with_data_control())
+
+
+def client_pastes_during_a_drag():
+    client = example("paste")
+    program = compiled("dragging", wayland="data-device", xdg_shell="xdg-shell")
+    clipboards.client_pastes_during_a_drag(program, [client], [])
+
+
+def client_pastes_at_sway():
+    clipboards.client_pastes_at_sway([example("paste")], [])
+
+
+def compositor_without_data_control():
+    """The compositor builds without the file of that protocol."""
+    example("compositor")
+    folder = os.path.join(OUT, "without-data-control")
+    run(["cargo", "build", "--example", "compositor"], DATA_CONTROL="", CARGO_TARGET_DIR=folder)
+
+
+def draws(folder, display, proxy):
+    """A client of the distribution draws through a proxy, which prints its messages."""
+    env = environment(XDG_RUNTIME_DIR=folder, WAYLAND_DISPLAY=display)
+    client = subprocess.Popen(["weston-simple-shm"], env=env, stderr=subprocess.DEVNULL)
+    try:
+        compositors.connects(client, os.path.join(folder, display))
+        # Its first picture comes after it has set its handler of the signal.
+        has_come(lambda: ".attach(" in proxy.output() or client.poll() is not None)
+        if not proxy.output() and client.poll() is not None:
+            raise Skipped("weston-simple-shm has not come up")
+        client.send_signal(signal.SIGINT)
+        if client.wait(LONG):
+            raise Failed(f"weston-simple-shm: status {client.returncode}")
+    finally:
+        client.kill()
+
+
+def at_a_compositor_of_the_distribution():
+    """The window at weston, and then through the proxy; a client of libwayland through the proxy."""
+    need("weston", "weston-simple-shm")
+    with tempfile.TemporaryDirectory() as folder:
+        outer = {"XDG_RUNTIME_DIR": folder, "WAYLAND_DISPLAY": "wayland-outer"}
+        words = ["weston", "--backend=headless-backend.so", "--socket=wayland-outer", "--idle-time=0"]
+        try:
+            weston = Running(words, os.path.join(folder, "wayland-outer"), XDG_RUNTIME_DIR=folder)
+        except Failed as why:
+            raise Skipped(f"it has not come up: {why}") from None
+        inner = {**outer, "WAYLAND_DISPLAY": "inner"}
+        try:
+            run([example("window")], **outer)
+            for client in (lambda _: run([example("window")], **inner),
+                           lambda proxy: draws(folder, "inner", proxy)):
+                path = os.path.join(folder, "inner")
+                proxy = Running([example("proxy"), path], path, **outer)
+                try:
+                    client(proxy)
+                    if ".attach(" not in proxy.ended():
+                        raise Failed(f"the proxy says {proxy.output()[-300:]!r}")
+                finally:
+                    proxy.stop()
+        finally:
+            weston.stop()
+
+
+def pasted(room, display, tables):
+    """A client pastes through a proxy, which prints the objects that the compositor makes."""
+    path = os.path.join(room, "pastes")
+    proxy = Running([example("proxy"), path, tables], path, WAYLAND_DISPLAY=display)
+    try:
+        client = subprocess.run(["wl-paste", "--no-newline"], env=environment(WAYLAND_DISPLAY=path), check=False,
+                                capture_output=True, timeout=LONG)
+        said = proxy.ended()
+    finally:
+        proxy.stop()
+    if client.stdout and f"(new id zwlr_data_control_offer_v1@{FIRST_SERVER_ID})" not in said:
+        raise Failed(f"no object of the compositor passes the proxy, which says {said[-800:]!r}")
+    return client.stdout.decode()
+
+
+def copies(proxy, path, pasted_there):
+    """A client copies through a proxy at a path, until its text is pasted. The proxy ends with it."""
+    client = subprocess.Popen(["wl-copy", "--foreground", "waywire"], env=environment(WAYLAND_DISPLAY=path))
+    try:
+        if not has_come(lambda: pasted_there() == "waywire"):
+            raise Failed(f"nothing is pasted; the proxy of the copy says {proxy.output()[-800:]!r}")
+    finally:
+        end(client)
+    proxy.ended()
+
+
+def clipboard_through_the_proxy():
+    """One client copies and another pastes, each through a proxy."""
+    need("sway", "wl-copy", "wl-paste")
+    tables = os.path.join(TABLES, "data-control.tables")
+    with tempfile.TemporaryDirectory(prefix="sway-") as room, tempfile.TemporaryFile() as said:
+        words, display, kept = compositors.sway(room, environment())
+        sway, listens = compositors.started(words, display, said, **kept)
+        try:
+            if not listens:
+                raise Skipped("sway has not come up")
+            path = os.path.join(room, "copies")
+            proxy = Running([example("proxy"), path, tables], path, WAYLAND_DISPLAY=display)
+            try:
+                copies(proxy, path, lambda: pasted(room, display, tables))
+            finally:
+                proxy.stop()
+        finally:
+            end(sway)
+
+
+def word(number):
+    return struct.pack("<I", number)
+
+
+def text(said):
+    data = said.encode() + b"\0"
+    return word(len(data)) + data + bytes(-len(data) % 4)
+
+
+class Wire:
+    """One side of a connection, played by these tests."""
+
+    def __init__(self, its_socket):
+        self.socket = its_socket
+        self.socket.settimeout(LONG)
+
+    def says(self, target, opcode, body=b"", descriptors=()):
+        data = struct.pack("<IHH", target, opcode, 8 + len(body)) + body
+        socket.send_fds(self.socket, [data], descriptors)
+
+    def bytes(self, length):
+        data = b""
+        while len(data) < length and (part := self.socket.recv(length - len(data))):
+            data += part
+        return data
+
+    def hears(self):
+        """The target and the opcode of the next message, and its arguments as 32-bit words."""
+        target, opcode, length = struct.unpack("<IHH", self.bytes(8))
+        return target, opcode, struct.unpack(f"<{length // 4 - 2}I", self.bytes(length - 8))
+
+
+@contextlib.contextmanager
+def played(manager, version, tables):
+    """A client and a compositor, played by these tests, with the proxy between them. The compositor has one global.
+    Has both sides, the compositor's registry, and the global's name at the client."""
+    with tempfile.TemporaryDirectory() as room, socket.socket(socket.AF_UNIX) as listener, \
+            socket.socket(socket.AF_UNIX) as its:
+        listener.bind(f"{room}/compositor")
+        listener.listen()
+        listener.settimeout(LONG)
+        words = [example("proxy"), f"{room}/proxy", os.path.join(TABLES, tables)]
+        proxy = Running(words, f"{room}/proxy", WAYLAND_DISPLAY=f"{room}/compositor")
+        try:
+            its.connect(f"{room}/proxy")
+            client, compositor = Wire(its), Wire(listener.accept()[0])
+            (_, _, (registry,)), (_, _, (callback,)) = compositor.hears(), compositor.hears()
+            compositor.says(registry, 0, word(1) + text(manager) + word(version))  # global
+            compositor.says(callback, 0, word(0))  # done
+            compositor.says(1, 1, word(callback))  # delete_id
+            client.says(1, 1, word(2))  # get_registry
+            _, _, (name, *_) = client.hears()
+            client.says(2, 0, word(name) + text(manager) + word(version) + word(3))  # bind
+            yield client, compositor, registry, name
+            client.socket.close()
+            proxy.ended()
+            compositor.socket.close()
+        finally:
+            proxy.stop()
+
+
+def proxy_between_sides_that_are_played():
+    """The compositor sends the client a descriptor for a data source that the client has destroyed: the proxy closes
+    it. If the compositor withdraws a global, the proxy withdraws it too."""
+    with played("wl_data_device_manager", 3, "data-device.tables") as (client, compositor, registry, name):
+        client.says(3, 0, word(4))  # create_data_source
+        client.says(4, 1)  # destroy
+        # get_registry, bind, create_data_source, destroy
+        _, _, (_, _, (source,)), ended = (compositor.hears() for _ in range(4))
+        if ended != (source, 1, ()):
+            raise Failed(f"the proxy does not destroy the source {source}: {ended}")
+        pasting, given = os.pipe()
+        compositor.says(source, 1, text("text/plain"), [given])  # send
+        os.close(given)
+        if not select.select([pasting], [], [], LONG)[0]:
+            raise Failed("the proxy keeps the descriptor")
+        os.close(pasting)
+        compositor.says(registry, 1, word(1))  # global_remove
+        told = client.hears(), client.hears()
+        if told != ((1, 1, (4,)), (2, 1, (name,))):  # delete_id, global_remove
+            raise Failed(f"the client is told {told}")
+
+
+def proxy_where_an_output_is_replaced():
+    """The compositor uses the id of an output again. The client gets a new output, with another id, and the events for
+    it."""
+    manager, version = "zwlr_output_manager_v1", 2
+    with played(manager, version, "output-management.tables") as (client, compositor, _, _):
+        _, (_, _, (*_, own)) = (compositor.hears() for _ in range(2))  # get_registry, bind
+        for it in range(3):
+            head = FIRST_SERVER_ID + it
+            compositor.says(own, 0, word(FIRST_SERVER_ID))  # head
+            compositor.says(FIRST_SERVER_ID, 4, word(it))  # enabled
+            compositor.says(FIRST_SERVER_ID, 9)  # finished
+            told = [client.hears() for _ in range(3)]
+            if told != [(3, 0, (head,)), (head, 4, (it,)), (head, 9, ())]:
+                raise Failed(f"the client is told {told}")
+
+
+TESTS_IN_ORDER = (lints, tests, every_message_goes_by_its_typed_call, scene_is_that_of_the_pair, documentation,
+                  documentation_without_the_library, examples_outside_the_repository, no_error_under_valgrind,
+                  window_at_our_compositor, client_of_weston_at_our_compositor, client_of_gtk_at_our_compositor,
+                  texts_at_our_compositor, clients_go_at_our_compositor, much_at_our_clipboard,
+                  greedy_clients_at_our_compositor,
+                  gtk_copies_and_pastes_at_our_compositor, foot_copies_at_our_compositor,
+                  client_pastes_at_our_compositor, client_pastes_during_a_drag, client_pastes_at_sway,
+                  compositor_without_data_control,
+                  at_a_compositor_of_the_distribution, clipboard_through_the_proxy, proxy_between_sides_that_are_played,
+                  proxy_where_an_output_is_replaced)
+
+
+def main():
+    usage.words(__doc__, most=0)
+    if not can("the library for Rust", "cargo", "make", "cc"):
+        return checks.counted(0, 0)
+    os.makedirs(OUT, exist_ok=True)
+    if not checks.make("install", f"PREFIX={INSTALLED}", "program=none"):
+        print("failed: the library for C is not built")
+        return checks.counted(0, 1)
+    return checks.count_functions(TESTS_IN_ORDER)

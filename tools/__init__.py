@@ -1,0 +1,1 @@
+"""The tools that users run. The repository's own programs import `tools.waywire`."""
