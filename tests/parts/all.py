@@ -3,8 +3,9 @@
     ./test all
 
 It first checks the layout, and stops if `rt fmt` would change a file. Then it runs the gate (every proof
-that no earlier run has kept, and the programs), the mutants that were not refused yet on this machine as
-the crates are now, and the tests that prove nothing.
+that no earlier run has kept, and the programs), and the mutants that were not refused yet on this machine as
+the crates are now. The tests that prove nothing run at once, as in `./test`; each part is printed when it has
+ended. The last part moves files of the user's away for a while, so it runs alone.
 
 At the end it lists what was skipped. For each part in which something failed, it says how that part ended,
 with the lines that say why. The last lines are the times of the gate and of the whole run, and the count."""
@@ -14,12 +15,14 @@ import re
 import signal
 import subprocess
 import sys
+import threading
+from concurrent.futures import ThreadPoolExecutor
 
 from scripts import usage
 from tests import checks
 
 PROGRAM = "crates/waywire/out/waywire"
-# The name of each part, and its command. If the first one fails, the others are not run.
+# The name of each part, and its command.
 PARTS = {
     "./test layout": ["./test", "layout"],
     "scripts.timed_gate": [sys.executable, "-m", "scripts.timed_gate"],
@@ -36,6 +39,19 @@ PARTS = {
     "./test picture": ["./test", "picture", PROGRAM],
     "./test pages": ["./test", "pages"],
 }
+# The steps, in order. Each has one list of parts, or several that run at once. If the first step fails, the others are
+# not run.
+STEPS = (
+    (("./test layout",),),
+    (("scripts.timed_gate", "scripts.mutants"),),
+    (
+        ("./test rattle",),
+        ("./test program", "./test compare", "./test memory"),
+        ("./test tools",),
+        ("./test c", "./test stubs", "./test rust", "./test libwayland", "./test picture"),
+    ),
+    (("./test pages",),),
+)
 GATE = "scripts.timed_gate"
 COUNTED = re.compile(r"([0-9]+) passed, ([0-9]+) failed")
 # How a part reports a failure: in the words of rt ci, of the prover or of Python's tests, or by `failed: `. The
@@ -78,6 +94,7 @@ class Whole:
     def __init__(self):
         self.passed = self.failed = 0
         self.skipped, self.wrong, self.gate = [], [], "the gate has not run"
+        self.alone = threading.Lock()
 
     def lose(self, count, head, lines):
         """Counts failures, and keeps what the part said about them."""
@@ -86,15 +103,29 @@ class Whole:
         if any(re.search(r"was killed|signal 9( |$)", it) for it in (*lines, head)):
             self.wrong.append("Signal 9 is mostly the system's, for lack of memory: free some, and run this again.")
 
-    def part(self, name, command):
-        """Runs a part, whose last line `N passed, M failed` is its count."""
-        lines = []
-        how = {"stdout": subprocess.PIPE, "stderr": subprocess.STDOUT, "text": True, "errors": "replace"}
-        with subprocess.Popen(command, cwd=checks.TOP, **how) as running:
-            for line in running.stdout:
-                print(line, end="", flush=True)
-                lines.append(line.rstrip("\n"))
-        status = running.returncode
+    def run(self, names, is_alone=True):
+        """Runs parts, one after another. What a part prints is shown as it comes, or, if other parts run at the same
+        time, once it has ended."""
+        for name in names:
+            lines = []
+            how = {"stdout": subprocess.PIPE, "stderr": subprocess.STDOUT, "text": True, "errors": "replace"}
+            with subprocess.Popen(PARTS[name], cwd=checks.TOP, **how) as running:
+                for line in running.stdout:
+                    if is_alone:
+                        print(line, end="", flush=True)
+                    lines.append(line.rstrip("\n"))
+            with self.alone:
+                if not is_alone:
+                    print(*lines, sep="\n", flush=True)
+                self.add(name, running.returncode, lines)
+
+    def step(self, lists):
+        with ThreadPoolExecutor(len(lists)) as pool:
+            for it in [pool.submit(self.run, names, len(lists) == 1) for names in lists]:
+                it.result()
+
+    def add(self, name, status, lines):
+        """Counts what a part came to. Its last line `N passed, M failed` is its count."""
         self.skipped += [f"{name}: {it.removeprefix('skipped: ')}" for it in lines if it.startswith("skipped: ")]
         if name == GATE and lines:
             self.gate = lines[-1]
@@ -126,9 +157,9 @@ def clock(seconds):
 
 def main():
     usage.words(__doc__, most=0)
-    whole = Whole()
-    for name, command in PARTS.items():
-        whole.part(name, command)
-        if whole.failed and name == "./test layout":
-            break
+    whole, (first, *others) = Whole(), STEPS
+    whole.step(first)
+    if not whole.failed:
+        for lists in others:
+            whole.step(lists)
     return whole.finish()

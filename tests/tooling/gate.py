@@ -323,6 +323,8 @@ class All(unittest.TestCase):
         names = {it.removesuffix(".py") for it in os.listdir(os.path.dirname(whole.__file__)) if it[0] != "_"}
         run = [it[1] for it in whole.PARTS.values() if it[0] == "./test"]
         self.assertEqual(sorted([*run, "all", "quick"]), sorted(names))
+        steps = [name for lists in whole.STEPS for names in lists for name in names]
+        self.assertEqual(steps, [*whole.PARTS])
         page = subprocess.run([f"{TOP}/test", "--help"], capture_output=True, text=True, check=True).stdout
         self.assertEqual(re.findall(r"(?m)^    ([a-z]+)", page), run)
 
