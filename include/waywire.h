@@ -820,7 +820,7 @@ uint64_t waywire_inspector_judged(const waywire_inspector *inspector);
  *     waywire_inspector_follow(inspector, sender, bytes, length);
  *     while (!waywire_inspector_ahead(inspector, sender, &message)) {
  *         waywire_status status = waywire_inspector_decode(inspector, sender, &message, &decoded);
- *         show(&message, status, &decoded);
+ *         print(&message, status, &decoded);
  *         waywire_inspector_go_past(inspector, sender);
  *     }
  *

@@ -124,7 +124,7 @@ static bool names(const struct asked *asked, const struct message *message)
 	return false;
 }
 
-bool is_shown(const struct options *options, const struct message *message)
+bool is_printed(const struct options *options, const struct message *message)
 {
 	bool is_wanted = !options->only.count;
 	for (size_t i = 0; i < options->only.count; i++)

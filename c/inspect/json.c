@@ -253,10 +253,10 @@ static void put_arguments(struct text *text, const struct message *message)
 /* ---- lines */
 
 /* Puts all of a message but the opening brace of its object and the closing one. */
-static void put_message_parts(struct text *text, const struct shown *shown, const struct message *message,
+static void put_message_parts(struct text *text, const struct printer *printer, const struct message *message,
 	const struct text *line)
 {
-	text_format(text, "\"type\":\"message\",\"client\":%u,\"number\":%" PRIu64, shown->number, message->number);
+	text_format(text, "\"type\":\"message\",\"client\":%u,\"number\":%" PRIu64, printer->number, message->number);
 	put_seconds(text, "time", message->seconds);
 	text_format(text, ",\"direction\":\"%s\",\"index\":%" PRIu64 ",\"piece\":%" PRIu64 ",\"offset\":%" PRIu64
 		",\"size\":%zu", message->from == CLIENT ? "request" : "event", message->index,
@@ -275,10 +275,10 @@ static void put_message_parts(struct text *text, const struct shown *shown, cons
 }
 
 /* Puts the messages that led to an error. */
-static void put_before(struct text *text, const struct shown *shown, const struct object *object)
+static void put_before(struct text *text, const struct printer *printer, const struct object *object)
 {
 	struct before before[MOST_BEFORE];
-	size_t count = history_before(shown->history, object, before);
+	size_t count = history_before(printer->history, object, before);
 	text_add(text, ",\"before\":[");
 	for (size_t i = 0; i < count; i++) {
 		text_format(text, "%s{\"number\":%" PRIu64, i ? "," : "", before[i].number);
@@ -289,42 +289,42 @@ static void put_before(struct text *text, const struct shown *shown, const struc
 }
 
 /* Puts what a wl_display.error says, in a line of its own. */
-static void print_error(const struct shown *shown, const struct message *message)
+static void print_error(const struct printer *printer, const struct message *message)
 {
 	struct text line = { NULL, 0, 0 };
 	if (!is_error(message) || message->status || message->arg_count != 3)
 		return;
 	const struct argument *args = message->args;
-	text_format(&line, "{\"type\":\"error\",\"client\":%u,\"number\":%" PRIu64, shown->number, message->number);
+	text_format(&line, "{\"type\":\"error\",\"client\":%u,\"number\":%" PRIu64, printer->number, message->number);
 	put_object_as(&line, "object", &args[0].object);
 	text_format(&line, ",\"code\":%" PRIu32, args[1].value.u);
 	put_named(&line, "text", (struct name){ args[2].value.bytes, args[2].value.length });
 	text_add(&line, ",\"names\":");
 	put_value_names(&line, &args[1].meaning, args[1].value.u);
-	put_before(&line, shown, &args[0].object);
+	put_before(&line, printer, &args[0].object);
 	print_line(&line);
 }
 
-void json_message(const struct shown *shown, const struct message *message, const struct text *line,
+void json_message(const struct printer *printer, const struct message *message, const struct text *line,
 	const struct beside *beside)
 {
 	struct text json = { NULL, 0, 0 };
 	text_add(&json, "{");
-	put_message_parts(&json, shown, message, line);
+	put_message_parts(&json, printer, message, line);
 	put_bytes(&json, "bytes", message->bytes, message->length);
 	text_format(&json, ",\"judged\":%s", message->is_judged ? "true" : "false");
 	if (beside->note)
 		put_words(&json, "note", beside->note);
 	print_line(&json);
-	print_error(shown, message);
+	print_error(printer, message);
 }
 
-void json_broken(const struct shown *shown, const struct breaking *breaking)
+void json_broken(const struct printer *printer, const struct breaking *breaking)
 {
 	const struct message *message = breaking->message;
 	struct text line = { NULL, 0, 0 };
-	text_format(&line, "{\"type\":\"broken\",\"client\":%u,\"number\":%" PRIu64 ",\"fault\":\"F%u\"", shown->number,
-		message->number, breaking->fault.number);
+	text_format(&line, "{\"type\":\"broken\",\"client\":%u,\"number\":%" PRIu64 ",\"fault\":\"F%u\"",
+		printer->number, message->number, breaking->fault.number);
 	put_text(&line, "words", breaking->words);
 	text_format(&line, ",\"direction\":\"%s\",\"offset\":%" PRIu64 ",\"size\":%zu",
 		message->from == CLIENT ? "request" : "event", message->offset, message->size);
@@ -335,7 +335,7 @@ void json_broken(const struct shown *shown, const struct breaking *breaking)
 		text_add(&line, "null");
 	else {
 		text_add(&line, "{");
-		put_message_parts(&line, shown, message, breaking->line);
+		put_message_parts(&line, printer, message, breaking->line);
 		text_add(&line, ",\"judged\":true}");
 	}
 	print_line(&line);
@@ -347,13 +347,13 @@ static double rounded(double seconds)
 	return (double)(int64_t)(seconds * 1e6 + 0.5) / 1e6;
 }
 
-void json_unanswered(const struct shown *shown, const struct question *question, double until)
+void json_unanswered(const struct printer *printer, const struct question *question, double until)
 {
 	const struct question_kind *kind = question->kind;
 	const struct object target = { .id = question->id, .birth = question->birth, .name = kind->interface };
 	double asked = question->seconds, waits = rounded(until) - rounded(asked);
 	struct text line = { NULL, 0, 0 };
-	text_format(&line, "{\"type\":\"unanswered\",\"client\":%u,\"number\":%" PRIu64, shown->number,
+	text_format(&line, "{\"type\":\"unanswered\",\"client\":%u,\"number\":%" PRIu64, printer->number,
 		question->number);
 	put_seconds(&line, "time", asked);
 	text_format(&line, ",\"direction\":\"%s\"", kind->from == CLIENT ? "request" : "event");
@@ -363,10 +363,10 @@ void json_unanswered(const struct shown *shown, const struct question *question,
 	print_line(&line);
 }
 
-void json_verdict(const struct shown *shown, const struct ending *ending)
+void json_verdict(const struct printer *printer, const struct ending *ending)
 {
 	struct text line = { NULL, 0, 0 };
-	text_format(&line, "{\"type\":\"verdict\",\"client\":%u,\"verdict\":\"%s\"", shown->number, ending->verdict);
+	text_format(&line, "{\"type\":\"verdict\",\"client\":%u,\"verdict\":\"%s\"", printer->number, ending->verdict);
 	put_text(&line, "words", ending->words);
 	text_format(&line, ",\"messages\":%" PRIu64 ",\"requests\":%" PRIu64 ",\"events\":%" PRIu64,
 		ending->requests + ending->events, ending->requests, ending->events);

@@ -18,14 +18,14 @@ static void lose(struct judging *judging, waywire_status status)
 {
 	if (judging->standing == LOST)
 		return;
-	notice("client %u is handed on unjudged from here: %s", judging->shown.number, waywire_strerror(status));
+	notice("client %u is handed on unjudged from here: %s", judging->printer.number, waywire_strerror(status));
 	judging->standing = LOST;
 }
 
 void judge_begin(struct judging *judging, const struct options *options, const waywire_tables *tables,
 	unsigned number)
 {
-	*judging = (struct judging){ .shown = { .options = options, .number = number, .history = history_new() },
+	*judging = (struct judging){ .printer = { .options = options, .number = number, .history = history_new() },
 		.follower = { .tables = tables, .limit = options->limit } };
 	waywire_status status = waywire_inspector_new(tables, options->limit, &judging->follower.inspector);
 	if (status)
@@ -37,7 +37,7 @@ void judge_free(struct judging *judging)
 	waywire_inspector_free(judging->follower.inspector);
 	stats_free(&judging->stats);
 	questions_free(&judging->questions);
-	history_free(judging->shown.history);
+	history_free(judging->printer.history);
 	text_free(&judging->reason);
 	text_free(&judging->verdict);
 }
@@ -64,12 +64,12 @@ static void print_by_line(struct judging *judging, struct message *message, cons
 	printed.is_red |= is_error(message);
 	judging->has_error |= is_error(message);
 	judging->counts[message->from]++;
-	if (judging->shown.options->stats)
+	if (judging->printer.options->stats)
 		stats_note(&judging->stats, message);
 	if (sees_all(judging))
 		message->answers = questions_note(&judging->questions, judging->follower.tables, message);
 	name_arguments(message);
-	print_message(&judging->shown, message, line, &printed);
+	print_message(&judging->printer, message, line, &printed);
 }
 
 /* Prints a message with the first of the library's lines, and removes that line. */
@@ -96,8 +96,8 @@ static void print_unjudged(struct judging *judging, struct message *message, con
 	int from = message->from;
 	if (message->is_bad_size) {
 		judging->is_lost[from] = true;
-		notice("client %u: its %s have no sizes from here, and are not printed any more", judging->shown.number,
-			from == CLIENT ? "requests" : "events");
+		notice("client %u: its %s have no sizes from here, and are not printed any more",
+			judging->printer.number, from == CLIENT ? "requests" : "events");
 		return;
 	}
 	put_message(&line, message);
@@ -162,7 +162,7 @@ static void print_broken_message(struct judging *judging, struct message *messag
 	name_arguments(message);
 	struct breaking breaking = { message, &line, &words, &judging->verdict, fault,
 		object_at_fault(&judging->follower, message, &fault) };
-	print_broken(&judging->shown, &breaking);
+	print_broken(&judging->printer, &breaking);
 	text_free(&line);
 	text_free(&words);
 }
@@ -285,10 +285,10 @@ void judge_end(struct judging *judging, double seconds)
 	if (judging->standing == LOST)
 		text_add(&words, "unjudged: out of memory");
 	if (judging->standing != LOST)
-		print_unanswered(&judging->shown, &judging->questions, until);
-	print_verdict(&judging->shown, &ending);
+		print_unanswered(&judging->printer, &judging->questions, until);
+	print_verdict(&judging->printer, &ending);
 	text_free(&words);
-	if (!judging->shown.options->stats || judging->shown.options->json)
+	if (!judging->printer.options->stats || judging->printer.options->json)
 		return;
 	stats_put(&words, &judging->stats, &judging->follower, &judging->questions, until);
 	print(words.bytes, words.length);

@@ -12,7 +12,7 @@ enum standing {
 };
 
 struct judging {
-	struct shown shown;
+	struct printer printer;
 	enum standing standing;
 	bool has_error;               /* wl_display.error has come: no later message is printed */
 	bool is_cut;                  /* a recording could not be read to its end */

@@ -29,7 +29,7 @@ static void notice_with(const char *format, va_list words)
 	length = strlen(line);
 	line[length++] = '\n';
 	if (write(STDERR_FILENO, line, length) < 0)
-		errno = 0; /* nobody is left to be told */
+		errno = 0; /* nobody is left to report it to */
 }
 
 void notice(const char *format, ...)
@@ -49,7 +49,7 @@ void fail(const char *format, ...)
 	exit(NOTHING_INSPECTED);
 }
 
-/* Waits until the output accepts something; once the tool was told to stop, for at most one second. */
+/* Waits until the output accepts something; once the tool was asked to stop, for at most one second. */
 static bool wait_for_output(void)
 {
 	struct pollfd polled = { output, POLLOUT, 0 };
@@ -127,6 +127,6 @@ void print_name(const char *display, bool is_aside)
 	if (file == output)
 		print(line, (size_t)length);
 	else if (write(file, line, (size_t)length) < 0)
-		errno = 0; /* nobody is left to be told */
+		errno = 0; /* nobody is left to report it to */
 	print_now();
 }

@@ -128,7 +128,7 @@ static void leave_unjudged(struct judging *judging, double seconds)
 	judging->is_part = true;
 	text_add(&judging->reason, "the recording begins in the middle of its session");
 	text_format(&words, "not judged: the recording begins %.6f s after its session", seconds);
-	print_words(&judging->shown, seconds, &words, false);
+	print_words(&judging->printer, seconds, &words, false);
 	text_free(&words);
 }
 

@@ -25,27 +25,27 @@ static void put_clock(struct text *text, double moment)
 		text_format(text, "%s.%03d ", clock, (int)((rounded - (double)whole) * 1000));
 }
 
-static void put_front(struct text *text, const struct shown *shown, double seconds)
+static void put_front(struct text *text, const struct printer *printer, double seconds)
 {
-	double since = seconds < 0 ? seconds : seconds + shown->start;
-	if (shown->options->time == TIME_DELTA) {
+	double since = seconds < 0 ? seconds : seconds + printer->start;
+	if (printer->options->time == TIME_DELTA) {
 		double delta = since - last_line;
 		last_line = since;
 		since = since < 0 ? since : delta > 0 ? delta : 0;
 	}
-	if (shown->options->time == TIME_CLOCK)
-		put_clock(text, since < 0 || shown->moment < 0 ? -1 : shown->moment + since);
-	else if (shown->options->time && since < 0)
+	if (printer->options->time == TIME_CLOCK)
+		put_clock(text, since < 0 || printer->moment < 0 ? -1 : printer->moment + since);
+	else if (printer->options->time && since < 0)
 		text_format(text, "%11s ", "-");
-	else if (shown->options->time)
+	else if (printer->options->time)
 		text_format(text, "%11.6f ", since);
-	if (shown->is_numbered)
-		text_format(text, "#%u ", shown->number);
+	if (printer->is_numbered)
+		text_format(text, "#%u ", printer->number);
 }
 
-static void put_red(struct text *text, const struct shown *shown, const struct text *words, bool is_red)
+static void put_red(struct text *text, const struct printer *printer, const struct text *words, bool is_red)
 {
-	bool is_coloured = is_red && shown->options->colour;
+	bool is_coloured = is_red && printer->options->colour;
 	text_add(text, is_coloured ? RED : "");
 	text_put(text, words->bytes, words->length);
 	text_add(text, is_coloured ? PLAIN "\n" : "\n");
@@ -78,10 +78,10 @@ static void put_coloured(struct text *text, const struct message *message, const
 }
 
 /* Puts a message's line, with the known names unless --no-names is given. */
-static void put_line(struct text *text, const struct shown *shown, const struct message *message,
+static void put_line(struct text *text, const struct printer *printer, const struct message *message,
 	const struct text *line)
 {
-	if (shown->options->no_names)
+	if (printer->options->no_names)
 		text_put(text, line->bytes, line->length);
 	else
 		put_line_with_names(text, message, line);
@@ -93,30 +93,30 @@ static void print_and_free(struct text *text)
 	text_free(text);
 }
 
-void print_words(const struct shown *shown, double seconds, const struct text *words, bool is_red)
+void print_words(const struct printer *printer, double seconds, const struct text *words, bool is_red)
 {
 	struct text text = { NULL, 0, 0 };
-	if (shown->options->json)
+	if (printer->options->json)
 		return;
-	put_front(&text, shown, seconds);
-	put_red(&text, shown, words, is_red);
+	put_front(&text, printer, seconds);
+	put_red(&text, printer, words, is_red);
 	print_and_free(&text);
 }
 
 /* The notice after a message from which on nothing is judged. */
-static void print_note(const struct shown *shown, const struct message *message, const char *note)
+static void print_note(const struct printer *printer, const struct message *message, const char *note)
 {
 	struct text words = { NULL, 0, 0 };
 	text_add(&words, note);
-	print_words(shown, message->seconds, &words, false);
+	print_words(printer, message->seconds, &words, false);
 	text_free(&words);
 }
 
 /* Prints the last messages about an object. */
-static void print_before(const struct shown *shown, double seconds, const struct object *object)
+static void print_before(const struct printer *printer, double seconds, const struct object *object)
 {
 	struct before before[MOST_BEFORE];
-	size_t count = history_before(shown->history, object, before);
+	size_t count = history_before(printer->history, object, before);
 	struct text words = { NULL, 0, 0 };
 	if (object->id == DISPLAY_ID)
 		text_add(&words, "the last requests before it:");
@@ -127,28 +127,28 @@ static void print_before(const struct shown *shown, double seconds, const struct
 	}
 	for (size_t i = 0; i < count; i++) {
 		if (!i)
-			print_words(shown, seconds, &words, false);
+			print_words(printer, seconds, &words, false);
 		words.length = 0;
 		text_format(&words, "  %c message %" PRIu64 ": ", before[i].from == CLIENT ? '>' : '<', before[i].index);
 		text_put(&words, before[i].line->bytes, before[i].line->length);
-		print_words(shown, seconds, &words, false);
+		print_words(printer, seconds, &words, false);
 	}
 	text_free(&words);
 }
 
-void print_message(const struct shown *shown, const struct message *message, const struct text *line,
+void print_message(const struct printer *printer, const struct message *message, const struct text *line,
 	const struct beside *beside)
 {
 	struct text text = { NULL, 0, 0 }, named = { NULL, 0, 0 };
-	bool is_asked = beside->is_red || beside->note || is_shown(shown->options, message);
-	if (is_asked && shown->options->json) {
-		json_message(shown, message, line, beside);
+	bool is_asked = beside->is_red || beside->note || is_printed(printer->options, message);
+	if (is_asked && printer->options->json) {
+		json_message(printer, message, line, beside);
 	} else if (is_asked) {
-		put_front(&text, shown, message->seconds);
+		put_front(&text, printer, message->seconds);
 		text_add(&text, beside->is_marked ? "? " : "");
-		put_line(&named, shown, message, line);
-		if (beside->is_red || !shown->options->colour)
-			put_red(&text, shown, &named, beside->is_red);
+		put_line(&named, printer, message, line);
+		if (beside->is_red || !printer->options->colour)
+			put_red(&text, printer, &named, beside->is_red);
 		else {
 			put_coloured(&text, message, &named);
 			text_add(&text, "\n");
@@ -156,52 +156,52 @@ void print_message(const struct shown *shown, const struct message *message, con
 		text_free(&named);
 		print_and_free(&text);
 		if (beside->note)
-			print_note(shown, message, beside->note);
+			print_note(printer, message, beside->note);
 		if (is_error(message) && message->arg_count)
-			print_before(shown, message->seconds, &message->args[0].object);
+			print_before(printer, message->seconds, &message->args[0].object);
 	}
-	history_note(shown->history, message, line);
+	history_note(printer->history, message, line);
 }
 
 /* If there are other clients, appends the client to a line about its whole session. */
-static void put_who(struct text *text, const struct shown *shown)
+static void put_who(struct text *text, const struct printer *printer)
 {
-	if (shown->is_numbered && shown->who && *shown->who)
-		text_format(text, " (%s)", shown->who);
+	if (printer->is_numbered && printer->who && *printer->who)
+		text_format(text, " (%s)", printer->who);
 }
 
 /* Prints the line of a verdict. */
-static void print_verdict_line(const struct shown *shown, double seconds, const struct text *verdict, bool is_red)
+static void print_verdict_line(const struct printer *printer, double seconds, const struct text *verdict, bool is_red)
 {
 	struct text line = { NULL, 0, 0 };
 	text_put(&line, verdict->bytes, verdict->length);
-	put_who(&line, shown);
-	print_words(shown, seconds, &line, is_red);
+	put_who(&line, printer);
+	print_words(printer, seconds, &line, is_red);
 	text_free(&line);
 }
 
-void print_broken(const struct shown *shown, const struct breaking *breaking)
+void print_broken(const struct printer *printer, const struct breaking *breaking)
 {
 	double seconds = breaking->message->seconds;
 	struct text line = { NULL, 0, 0 };
-	if (shown->options->json)
-		json_broken(shown, breaking);
+	if (printer->options->json)
+		json_broken(printer, breaking);
 	else {
-		put_line(&line, shown, breaking->message, breaking->line);
-		print_words(shown, seconds, &line, true);
+		put_line(&line, printer, breaking->message, breaking->line);
+		print_words(printer, seconds, &line, true);
 		text_free(&line);
-		print_words(shown, seconds, breaking->words, true);
+		print_words(printer, seconds, breaking->words, true);
 		if (breaking->object.id)
-			print_before(shown, seconds, &breaking->object);
-		print_verdict_line(shown, seconds, breaking->verdict, true);
+			print_before(printer, seconds, &breaking->object);
+		print_verdict_line(printer, seconds, breaking->verdict, true);
 	}
-	history_note(shown->history, breaking->message, breaking->line);
+	history_note(printer->history, breaking->message, breaking->line);
 }
 
-void print_verdict(const struct shown *shown, const struct ending *ending)
+void print_verdict(const struct printer *printer, const struct ending *ending)
 {
-	if (shown->options->json)
-		json_verdict(shown, ending);
+	if (printer->options->json)
+		json_verdict(printer, ending);
 	else if (!ending->is_said)
-		print_verdict_line(shown, ending->seconds, ending->words, ending->is_red);
+		print_verdict_line(printer, ending->seconds, ending->words, ending->is_red);
 }

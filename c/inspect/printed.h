@@ -23,8 +23,8 @@ struct filter {
 /* Adds the names in an option, separated by commas. Ends the tool if the tables have no such name. */
 void filter_read(struct filter *filter, const waywire_tables *tables, const char *option, const char *names);
 
-/* Whether a message is shown, by --only and --except. */
-bool is_shown(const struct options *options, const struct message *message);
+/* Whether a message is printed, by --only and --except. */
+bool is_printed(const struct options *options, const struct message *message);
 
 /* ---- words (lines.c) */
 
@@ -128,8 +128,8 @@ size_t history_before(const struct history *history, const struct object *object
 
 /* ---- a client (printed.c, json.c) */
 
-/* The client whose lines are printed. */
-struct shown {
+/* Prints the lines of a client. */
+struct printer {
 	const struct options *options;
 	unsigned number;   /* the client's */
 	bool is_numbered;  /* whether lines begin with its number */
@@ -147,7 +147,7 @@ struct beside {
 };
 
 /* Prints a message; `line` is its line. */
-void print_message(const struct shown *shown, const struct message *message, const struct text *line,
+void print_message(const struct printer *printer, const struct message *message, const struct text *line,
 	const struct beside *beside);
 
 /* Prints the message that breaks a rule, what is wrong in words, and the verdict. */
@@ -157,10 +157,10 @@ struct breaking {
 	struct fault fault;
 	struct object object; /* the object because of which it does; with id 0 if there is none */
 };
-void print_broken(const struct shown *shown, const struct breaking *breaking);
+void print_broken(const struct printer *printer, const struct breaking *breaking);
 
 /* Prints a sentence. */
-void print_words(const struct shown *shown, double seconds, const struct text *words, bool is_red);
+void print_words(const struct printer *printer, double seconds, const struct text *words, bool is_red);
 
 /* The verdict at the end. */
 struct ending {
@@ -173,11 +173,11 @@ struct ending {
 	bool was_cut;        /* the session went on when its recording had no room left */
 	bool is_unknown;     /* a recording does not say when its session ended */
 };
-void print_verdict(const struct shown *shown, const struct ending *ending);
+void print_verdict(const struct printer *printer, const struct ending *ending);
 
 /* Prints what was asked and not answered by this time, in seconds: in words, what has waited for a second or longer
  * (unanswered.c). */
-void print_unanswered(const struct shown *shown, const struct questions *questions, double until);
+void print_unanswered(const struct printer *printer, const struct questions *questions, double until);
 
 /* JSON (json.c): each prints one line. */
 struct head {
@@ -189,11 +189,11 @@ struct head {
 };
 void json_head(const struct head *head);
 void json_client(unsigned number, const char *name, long process);
-void json_message(const struct shown *shown, const struct message *message, const struct text *line,
+void json_message(const struct printer *printer, const struct message *message, const struct text *line,
 	const struct beside *beside);
-void json_broken(const struct shown *shown, const struct breaking *breaking);
-void json_unanswered(const struct shown *shown, const struct question *question, double until);
-void json_verdict(const struct shown *shown, const struct ending *ending);
+void json_broken(const struct printer *printer, const struct breaking *breaking);
+void json_unanswered(const struct printer *printer, const struct question *question, double until);
+void json_verdict(const struct printer *printer, const struct ending *ending);
 void json_bad_line(size_t line, const char *words);
 
 #endif

@@ -177,7 +177,7 @@ int read_recording(const struct options *options, const struct known *known)
 	waywire_status status = next_piece(&reading);
 	print_head(options, known, &reading.comments);
 	judge_begin(&judging, options, known->tables, 1);
-	judging.shown.moment = read_moment(reading.comments.started);
+	judging.printer.moment = read_moment(reading.comments.started);
 	if (reading.comments.from >= 0 && !status)
 		part_read(&judging, reading.text.bytes, reading.piece.begin, reading.comments.from);
 	status = pass_pieces(&reading, &judging, status);

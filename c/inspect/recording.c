@@ -34,7 +34,7 @@ static void find_name(struct client *client)
 	fclose(file);
 	client->name[strcspn(client->name, "\n")] = 0;
 	for (char *character = client->name; *character;) {
-		size_t size = shown_character((unsigned char *)character, strlen(character));
+		size_t size = printable_character((unsigned char *)character, strlen(character));
 		if (!size)
 			*character = '?';
 		character += size ? size : 1;

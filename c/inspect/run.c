@@ -25,7 +25,7 @@ struct run {
 	bool is_full;       /* no client could be accepted: try again soon */
 	bool was_full;      /* that was already reported */
 	bool is_later;      /* a way is to be tried again soon, even if nothing is ready */
-	int stops;          /* how often it was told to stop */
+	int stops;          /* how often it was asked to stop */
 	struct timespec stop_again;
 };
 

@@ -19,15 +19,15 @@ static double seconds_since(const struct shared *shared)
  * who the client is. */
 static void number_lines(struct session *session, const struct shared *shared)
 {
-	struct shown *shown = &session->judging.shown;
+	struct printer *printer = &session->judging.printer;
 	struct text words = { NULL, 0, 0 };
-	if (shown->is_numbered || (shared->session_count < 2 && shared->options->command))
+	if (printer->is_numbered || (shared->session_count < 2 && shared->options->command))
 		return;
-	shown->is_numbered = true;
+	printer->is_numbered = true;
 	if (!*session->who)
 		return;
 	text_format(&words, "is %s", session->who);
-	print_words(shown, seconds_since(shared) - session->connected, &words, false);
+	print_words(printer, seconds_since(shared) - session->connected, &words, false);
 	text_free(&words);
 }
 
@@ -158,9 +158,9 @@ struct session *session_new(struct shared *shared, int client, int compositor)
 	}
 	recording_begin(&made->recording, shared->options, shared->known, &made->client);
 	judge_begin(&made->judging, shared->options, shared->known->tables, made->client.number);
-	made->judging.shown.start = made->connected;
-	made->judging.shown.moment = shared->moment;
-	made->judging.shown.who = made->who;
+	made->judging.printer.start = made->connected;
+	made->judging.printer.moment = shared->moment;
+	made->judging.printer.who = made->who;
 	if (shared->options->json)
 		json_client(made->client.number, *made->client.name ? made->client.name : NULL,
 			(long)made->client.process);

@@ -119,7 +119,7 @@ size_t character_length(const unsigned char *bytes, size_t length, uint32_t *cha
 	return size;
 }
 
-size_t shown_character(const unsigned char *bytes, size_t length)
+size_t printable_character(const unsigned char *bytes, size_t length)
 {
 	uint32_t character;
 	size_t size = character_length(bytes, length, &character);
@@ -151,7 +151,7 @@ void text_put_line(struct text *text, const char *line, size_t length)
 		text_put(text, line, plain);
 		line += plain;
 		length -= plain;
-		size_t size = shown_character(bytes, escaped(line, length, bytes));
+		size_t size = printable_character(bytes, escaped(line, length, bytes));
 		if (size > 1)
 			text_put(text, bytes, size);
 		else if (length)
@@ -167,7 +167,7 @@ void text_put_quoted(struct text *text, const char *bytes, size_t length)
 	const unsigned char *at = (const unsigned char *)bytes;
 	text_add(text, "\"");
 	while (length) {
-		size_t size = *at == '"' || *at == '\\' ? 0 : shown_character(at, length);
+		size_t size = *at == '"' || *at == '\\' ? 0 : printable_character(at, length);
 		if (size)
 			text_put(text, at, size);
 		else

@@ -48,7 +48,7 @@ void *room_for_one(void *array, size_t count, size_t size);
 
 /* The length of the character of UTF-8 at the front of some bytes that may be shown as it is: no control
  * character, and none that turns the direction of writing. 0 if there is none. */
-size_t shown_character(const unsigned char *bytes, size_t length);
+size_t printable_character(const unsigned char *bytes, size_t length);
 
 /* The length of the character of UTF-8 at the front of some bytes; 0 if there is none. */
 size_t character_length(const unsigned char *bytes, size_t length, uint32_t *character);

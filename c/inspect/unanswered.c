@@ -133,25 +133,25 @@ void unanswered_put(struct text *text, const struct questions *questions, double
 	free(groups.groups);
 }
 
-void print_unanswered(const struct shown *shown, const struct questions *questions, double until)
+void print_unanswered(const struct printer *printer, const struct questions *questions, double until)
 {
 	struct text lines = { NULL, 0, 0 };
-	if (shown->options->json) {
+	if (printer->options->json) {
 		size_t count;
 		const struct question **open = questions_open(questions, &count);
 		for (size_t i = 0; i < count; i++)
-			json_unanswered(shown, open[i], until);
+			json_unanswered(printer, open[i], until);
 		free(open);
 		return;
 	}
-	if (shown->options->stats)
+	if (printer->options->stats)
 		return; /* it lists all */
 	unanswered_put(&lines, questions, until, LONG_WAIT, MOST_LINES);
 	for (const char *line = lines.bytes; line && *line;) {
 		size_t length = strcspn(line, "\n");
 		struct text words = { NULL, 0, 0 };
 		text_put(&words, line, length);
-		print_words(shown, until, &words, false);
+		print_words(printer, until, &words, false);
 		text_free(&words);
 		line += length + 1;
 	}

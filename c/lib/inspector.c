@@ -18,7 +18,7 @@ size_t waywire_c_inspector_id_count(const struct handle *, bool of_server);
 uint32_t waywire_c_inspector_announced(const struct handle *, uint32_t name, uint16_t interface);
 
 /* What an export reports about a piece, besides its bytes. */
-struct told_piece {
+struct reported_piece {
 	uint32_t sender;
 	uint32_t token_count;
 	size_t length;
@@ -27,7 +27,7 @@ struct told_piece {
 };
 
 uint32_t waywire_c_recording_next(const void *text, size_t length, size_t line, void *bytes, size_t room,
-	struct told_piece *);
+	struct reported_piece *);
 
 /* These have the layout that the exports give them. */
 SAME(known, sizeof(waywire_known) == 16 && offsetof(waywire_known, interface) == 12
@@ -37,7 +37,7 @@ SAME(followed, sizeof(waywire_followed) == 96 && offsetof(waywire_followed, obje
 	&& offsetof(waywire_followed, made_interface) == 88 && offsetof(waywire_followed, is_read) == 90);
 SAME(judgement, sizeof(waywire_judgement) == 72 && offsetof(waywire_judgement, fault) == 56
 	&& offsetof(waywire_judgement, sender) == 64);
-SAME(told_piece, sizeof(struct told_piece) == 32 && offsetof(struct told_piece, left) == 16);
+SAME(reported_piece, sizeof(struct reported_piece) == 32 && offsetof(struct reported_piece, left) == 16);
 
 /* ---- an inspector */
 
@@ -202,7 +202,7 @@ waywire_status waywire_recording_next(const void *text, size_t length, size_t fr
 	size_t room, waywire_piece *piece)
 {
 	const void *to = bytes;
-	struct told_piece told = { 0, 0, 0, 0, 0 };
+	struct reported_piece reported = { 0, 0, 0, 0, 0 };
 	if (!piece)
 		return WAYWIRE_NULL;
 	waywire_status status = slice(&text, length, 1);
@@ -212,17 +212,17 @@ waywire_status waywire_recording_next(const void *text, size_t length, size_t fr
 		return status;
 	if (from > length || line > PTRDIFF_MAX)
 		return WAYWIRE_BAD_VALUE;
-	status = waywire_c_recording_next((const char *)text + from, length - from, line, (void *)to, room, &told);
+	status = waywire_c_recording_next((const char *)text + from, length - from, line, (void *)to, room, &reported);
 	if (status == WAYWIRE_BAD_LINE)
-		piece->line = told.line;
+		piece->line = reported.line;
 	if (status)
 		return status;
-	size_t behind = length - told.left;
-	piece->sender = told.sender;
-	piece->token_count = told.token_count;
-	piece->length = told.length;
+	size_t behind = length - reported.left;
+	piece->sender = reported.sender;
+	piece->token_count = reported.token_count;
+	piece->length = reported.length;
 	piece->begin = last_line(text, from, behind);
 	piece->behind = behind;
-	piece->line = told.line;
+	piece->line = reported.line;
 	return status;
 }

@@ -157,7 +157,7 @@ struct waywire_end {
 	struct handle handle;
 	waywire_tables *tables;
 	struct users users;
-	size_t untold; /* the tokens that came and that no report has told */
+	size_t unreported; /* the tokens that came and that no report had yet */
 	uint32_t tokens[WAYWIRE_MAX_ARGS];
 };
 
@@ -179,7 +179,7 @@ static waywire_status new_end(maker *make, const waywire_tables *tables, const w
 	}
 	end->tables = used(tables);
 	memset(&end->users, 0, sizeof end->users);
-	end->untold = 0;
+	end->unreported = 0;
 	*made = end;
 	return WAYWIRE_OK;
 }
@@ -277,7 +277,7 @@ bool waywire_end_is_drained(const waywire_end *end)
 /* Counts the tokens that an end has taken in. A failed end takes nothing in. */
 static waywire_status after_feed(waywire_end *end, bool has_failed, const waywire_amounts *fed)
 {
-	end->untold += fed->tokens;
+	end->unreported += fed->tokens;
 	return has_failed ? WAYWIRE_FAILED : WAYWIRE_OK;
 }
 
@@ -408,9 +408,9 @@ waywire_status waywire_end_next(waywire_end *end, waywire_report *report)
 		return WAYWIRE_NULL;
 	waywire_status status = waywire_c_end_next(&end->handle, report, report->args,
 		WAYWIRE_MAX_ARGS);
-	if (end->untold) {
+	if (end->unreported) {
 		list_tokens(report, end->tokens);
-		end->untold -= report->token_count;
+		end->unreported -= report->token_count;
 	}
 	report->user = user_of(&end->users, report->target);
 	report->replaced_user = report->replaced.id ? user_of(&end->users, report->replaced) : NULL;

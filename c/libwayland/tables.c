@@ -29,15 +29,15 @@
 /* ---- what a message has, whether a struct or the tables say it */
 
 /* An argument: its letter in a table text. The letter is `N` if an event makes an object. */
-struct shown_argument {
+struct described_argument {
 	char letter;
 	const char *interface; /* null for any */
 	size_t length;
 };
 
-struct shown_message {
+struct described_message {
 	size_t count;
-	struct shown_argument args[WAYWIRE_MAX_ARGS];
+	struct described_argument args[WAYWIRE_MAX_ARGS];
 };
 
 /* Whether a table text can have this name for an interface. */
@@ -47,18 +47,18 @@ static bool is_name(const char *name)
 	return length && length <= MOST_NAME && !name[length];
 }
 
-/* Shows a message of a struct. False if it is malformed. An event without an interface for a new
+/* Describes a message of a struct. False if it is malformed. An event without an interface for a new
  * object has its id as a number. */
-static bool show_struct(struct shown_message *shown, const struct wl_message *message,
+static bool describe_struct(struct described_message *described, const struct wl_message *message,
 	waywire_sender sender)
 {
 	struct signature signature;
 	if (!message->name || !message->signature
 		|| !read_signature(&signature, message->signature))
 		return false;
-	shown->count = signature.count;
+	described->count = signature.count;
 	for (size_t i = 0; i < signature.count; i++) {
-		struct shown_argument *arg = &shown->args[i];
+		struct described_argument *arg = &described->args[i];
 		char letter = signature.letters[i];
 		bool is_object = letter == 'o' || letter == 'n';
 		const struct wl_interface *type = NULL;
@@ -92,17 +92,17 @@ static char letter_of(uint32_t kind)
 	return 'h';
 }
 
-/* Shows a message of the tables. False if they have none of this opcode. */
-static bool show_tables(struct shown_message *shown, const waywire_tables *tables,
+/* Describes a message of the tables. False if they have none of this opcode. */
+static bool describe_tables(struct described_message *described, const waywire_tables *tables,
 	uint16_t interface, waywire_sender sender, size_t opcode)
 {
 	waywire_message message;
 	if (waywire_tables_message(tables, interface, sender, (uint16_t)opcode, &message, NULL,
 			NULL))
 		return false;
-	shown->count = message.arg_count;
+	described->count = message.arg_count;
 	for (size_t i = 0; i < message.arg_count; i++) {
-		struct shown_argument *arg = &shown->args[i];
+		struct described_argument *arg = &described->args[i];
 		waywire_kind kind;
 		waywire_tables_kind(tables, interface, sender, (uint16_t)opcode, i, &kind);
 		arg->letter = letter_of(kind.kind);
@@ -115,12 +115,12 @@ static bool show_tables(struct shown_message *shown, const waywire_tables *table
 }
 
 /* Whether two messages have the same arguments. */
-static bool are_same(const struct shown_message *one, const struct shown_message *other)
+static bool are_same(const struct described_message *one, const struct described_message *other)
 {
 	if (one->count != other->count)
 		return false;
 	for (size_t i = 0; i < one->count; i++) {
-		const struct shown_argument *a = &one->args[i], *b = &other->args[i];
+		const struct described_argument *a = &one->args[i], *b = &other->args[i];
 		if (a->letter != b->letter || a->length != b->length
 			|| (a->length && memcmp(a->interface, b->interface, a->length)))
 			return false;
@@ -141,7 +141,7 @@ static const struct wl_message *messages_of(const struct wl_interface *interface
 /* Whether a struct is one that tables can have. If not, it says so on stderr. */
 static bool is_well_formed(const struct wl_interface *interface)
 {
-	struct shown_message shown;
+	struct described_message described;
 	if (!is_name(interface->name)) {
 		log_line("an interface has a name that is not of a to z, 0 to 9 and _\n");
 		return false;
@@ -154,7 +154,7 @@ static bool is_well_formed(const struct wl_interface *interface)
 			return false;
 		}
 		for (size_t opcode = 0; opcode < count; opcode++)
-			if (!show_struct(&shown, &messages[opcode], sender)) {
+			if (!describe_struct(&described, &messages[opcode], sender)) {
 				log_line("%s: its %s %zu is malformed\n", interface->name,
 					sender ? "event" : "request", opcode);
 				return false;
@@ -174,14 +174,14 @@ static bool is_fixed(uint16_t index)
 static bool is_in_tables(const waywire_tables *tables, uint16_t interface, waywire_sender sender,
 	size_t opcode, const struct wl_message *message)
 {
-	struct shown_message shown, wanted;
+	struct described_message described, wanted;
 	struct signature signature;
 	if (interface == REGISTRY && sender == WAYWIRE_FROM_CLIENT && !opcode)
 		return read_signature(&signature, message->signature) && signature.count == 4
 			&& !memcmp(signature.letters, "usun", 4);
-	return show_struct(&shown, message, sender)
-		&& show_tables(&wanted, tables, interface, sender, opcode)
-		&& are_same(&shown, &wanted);
+	return describe_struct(&described, message, sender)
+		&& describe_tables(&wanted, tables, interface, sender, opcode)
+		&& are_same(&described, &wanted);
 }
 
 static size_t count_in_tables(const waywire_tables *tables, uint16_t interface,
@@ -301,7 +301,7 @@ static void add(struct text *text, const char *words)
 
 /* Null is allowed wherever it can be: copies of an interface may differ in that, and the struct of
  * each proxy decides for its own messages. */
-static void add_argument(struct text *text, const struct shown_argument *arg)
+static void add_argument(struct text *text, const struct described_argument *arg)
 {
 	add(text, arg->letter == 's' || arg->letter == 'o' ? " ?" : " ");
 	add_bytes(text, &arg->letter, 1);
@@ -316,13 +316,13 @@ static void add_argument(struct text *text, const struct shown_argument *arg)
 static void add_message(struct text *text, waywire_sender sender, size_t opcode,
 	const struct wl_message *message)
 {
-	struct shown_message shown;
+	struct described_message described;
 	char name[32];
-	show_struct(&shown, message, sender);
+	describe_struct(&described, message, sender);
 	snprintf(name, sizeof name, "%s m%zu", sender ? "event" : "request", opcode);
 	add(text, name);
-	for (size_t i = 0; i < shown.count; i++)
-		add_argument(text, &shown.args[i]);
+	for (size_t i = 0; i < described.count; i++)
+		add_argument(text, &described.args[i]);
 	add(text, "\n");
 }
 
@@ -414,10 +414,10 @@ static bool have_same(const struct wl_interface *one, const struct wl_interface 
 		const struct wl_message *messages = messages_of(one, sender, &count);
 		const struct wl_message *others = messages_of(other, sender, &other_count);
 		for (size_t opcode = 0; opcode < count && opcode < other_count; opcode++) {
-			struct shown_message shown, other_shown;
-			show_struct(&shown, &messages[opcode], sender);
-			show_struct(&other_shown, &others[opcode], sender);
-			if (!are_same(&shown, &other_shown))
+			struct described_message described, other_described;
+			describe_struct(&described, &messages[opcode], sender);
+			describe_struct(&other_described, &others[opcode], sender);
+			if (!are_same(&described, &other_described))
 				return false;
 		}
 	}

@@ -46,7 +46,7 @@ struct wl_interface {
 };
 
 /* How a wl_proxy begins. The struct is private in libwayland, but Mesa and others read its first
- * field, to tell a wl_display from other pointers. */
+ * field, to distinguish a wl_display from other pointers. */
 struct wl_object {
 	const struct wl_interface *interface;
 	const void *implementation;

@@ -234,7 +234,7 @@ static int is_ready(waywire_connection *connection)
 	return room;
 }
 
-/* Ends a connection with too many objects; a server tells its client. */
+/* Ends a connection with too many objects; a server reports it to its client. */
 static int has_too_many(waywire_connection *connection)
 {
 	static const char text[] = "too many objects";

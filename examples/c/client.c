@@ -1,6 +1,6 @@
 /* A client: opens a window of one colour over xdg-shell, and closes it once the compositor has
  * taken the picture in. With --paste, it prints the text that is copied before it closes the
- * window: a compositor tells only the client that has the keyboard focus.
+ * window: a compositor sends it only to the client that has the keyboard focus.
  *
  *     client [--paste] */
 #define _GNU_SOURCE

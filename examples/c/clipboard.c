@@ -1,4 +1,4 @@
-/* The clipboard: keeps which source is the selection, tells each device of it by an offer, and
+/* The clipboard: keeps which source is the selection, offers it to each device, and
  * hands the descriptors of readers to the source's client. The text itself does not pass here. */
 #include "clipboard.h"
 
@@ -97,12 +97,12 @@ static waywire_object make_offer(struct device *device)
 	return made;
 }
 
-static void tell(struct device *device)
+static void send_selection(struct device *device)
 {
 	static const waywire_object none;
 	struct client *client = device->client;
 	waywire_object offer = selection ? make_offer(device) : none;
-	device->told = change;
+	device->sent = change;
 	may(client, device->protocol->selection(client->server, device->object, offer));
 }
 
@@ -114,31 +114,31 @@ void new_device(struct client *client, waywire_object object,
 	devices = device;
 }
 
-/* Tells the devices of a client that do not know the selection, once the client has read what was
- * written before. So a client that sets one selection after another takes others no room: they are
- * told of the last one. */
-static void tell_client(struct client *client)
+/* Sends the selection to the devices of a client that do not know it, once the client has read what
+ * was written before. So a client that sets one selection after another takes others no room: they
+ * get the last one. */
+static void send_to_client(struct client *client)
 {
 	waywire_connection_flush(client->connection);
 	if (waywire_connection_wants_write(client->connection))
 		return;
 	for (struct device *device = devices; device; device = device->next)
-		if (device->client == client && device->told != change
+		if (device->client == client && device->sent != change
 				&& (!device->protocol->needs_focus || focus == client))
-			tell(device);
+			send_selection(device);
 }
 
-void tell_selection(void)
+void send_selections(void)
 {
 	for (struct client *client = clients; client; client = client->next)
-		tell_client(client);
+		send_to_client(client);
 }
 
-void tell_selection_at_focus(struct client *client)
+void send_selection_at_focus(struct client *client)
 {
 	for (struct device *device = devices; device; device = device->next)
 		if (device->protocol->needs_focus && device->client == client)
-			tell(device);
+			send_selection(device);
 }
 
 /* The reader's descriptor goes to the client of the source. If that is not the selection any more,

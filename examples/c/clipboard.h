@@ -11,7 +11,7 @@
 
 /* What differs between the two protocols: rules, and the events of their objects. */
 struct clipboard_protocol {
-	bool needs_focus; /* a device is told of the selection while its client has the focus */
+	bool needs_focus; /* a device gets the selection while its client has the focus */
 	bool sets_once;   /* a source that was the selection cannot be set again */
 	waywire_status (*data_offer)(waywire_server server, waywire_object device,
 		waywire_object *offer);
@@ -34,13 +34,13 @@ struct source {
 	char *types[MOST_TYPES];
 };
 
-/* Who is told of the selection: data of a device. */
+/* Who gets the selection: data of a device. */
 struct device {
 	struct device *next;
 	struct client *client;
 	const struct clipboard_protocol *protocol;
 	waywire_object object;
-	uint64_t told; /* the last change of the selection that it knows */
+	uint64_t sent; /* the last change of the selection that it knows */
 };
 
 /* An offer of a source, which may be gone: data of the offer's object. */
@@ -59,10 +59,10 @@ void add_type(struct source *source, const char *type);
 void set_selection(struct device *device, waywire_object source);
 void receive(const struct offer *offer, const char *type, int fd);
 
-/* Tells devices of the selection that do not know it: all of them, and those of a client that is
- * about to get the focus. */
-void tell_selection(void);
-void tell_selection_at_focus(struct client *client);
+/* Sends the selection to devices that do not know it: to all of them, and to those of a client that
+ * is about to get the focus. */
+void send_selections(void);
+void send_selection_at_focus(struct client *client);
 
 /* Serves the client's objects of a protocol. */
 void serve_data_device(struct client *client);

@@ -56,7 +56,7 @@ void focus_on(struct client *client)
 	leave();
 	focus = client;
 	focused_surface = client->window.surface;
-	tell_selection_at_focus(client);
+	send_selection_at_focus(client);
 	for (size_t i = 0; i < MOST_DEVICES; i++) {
 		if (is_live(client, client->keyboards[i]))
 			enter_keyboard(client, client->keyboards[i]);

@@ -105,7 +105,7 @@ static void on_sync(void *data, waywire_wl_display display, waywire_wl_callback 
 
 static const struct waywire_wl_display_requests display_requests = { .sync = on_sync };
 
-static void tell_output(struct client *client, waywire_wl_output output)
+static void send_output(struct client *client, waywire_wl_output output)
 {
 	waywire_server server = client->server;
 	must(waywire_wl_output_send_geometry(server, output, 0, 0, 340, 190,
@@ -130,7 +130,7 @@ static void on_bind(void *data, waywire_wl_registry registry, uint32_t name, con
 			WAYWIRE_WL_SEAT_CAPABILITY_POINTER
 			| WAYWIRE_WL_SEAT_CAPABILITY_KEYBOARD));
 	} else if (!strcmp(interface, WAYWIRE_WL_OUTPUT_NAME)) {
-		tell_output(client, waywire_wl_output_of(made));
+		send_output(client, waywire_wl_output_of(made));
 	}
 }
 
@@ -203,7 +203,7 @@ static bool accept_client(const waywire_listening_socket *listening)
 }
 
 /* Says why a client's connection has ended, unless the client has closed it. */
-static void tell_end(const struct client *client)
+static void report_end(const struct client *client)
 {
 	const waywire_failure *failure = waywire_connection_failure(client->connection);
 	if (failure && (failure->error == EPIPE || failure->error == ECONNRESET))
@@ -231,7 +231,7 @@ static void end_those_that_failed(void)
 			link = &(*link)->next;
 			continue;
 		}
-		tell_end(*link);
+		report_end(*link);
 		end_client(link);
 	}
 }
@@ -323,7 +323,7 @@ static void run(const char *name, FILE *script, bool stays)
 			&& (stays || clients || !had_clients)) {
 		had_clients |= clients != NULL;
 		find_focus();
-		tell_selection();
+		send_selections();
 		if (script)
 			play_next(script);
 	}

@@ -49,14 +49,14 @@ static void broken(const void *bytes, size_t length)
 	struct link link;
 	waywire_server server;
 	waywire_report report;
-	unsigned char told[256];
+	unsigned char error[256];
 	int client = serve(&link, &server);
 	size_t before = count_open();
 	send_with_descriptors(client, bytes, length);
 	MUST(waywire_socket_fill(link.socket, link.end) == (ssize_t)length && count_open() == before + MOST);
 	MUST(waywire_is_fault(waywire_end_next(server.end, &report)));
 	MUST(!waywire_socket_flush(link.socket, link.end));
-	MUST(recv(client, told, sizeof told, MSG_DONTWAIT) >= 20);
+	MUST(recv(client, error, sizeof error, MSG_DONTWAIT) >= 20);
 	end(&link);
 	MUST(count_open() == before - 1);
 	close(client);

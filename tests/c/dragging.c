@@ -1,4 +1,4 @@
-/* A compositor for one client that pastes. Once the client has shown its window, it is told the selection, and at the
+/* A compositor for one client that pastes. Once the client has shown its window, it gets the selection, and at the
  * same time something is dragged over the window.
  *
  *     dragging SOCKET

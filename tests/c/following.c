@@ -26,7 +26,7 @@ static const char tables_text[] =
  * digits. */
 struct step {
 	const char *said;
-	const char *told;
+	const char *reported;
 };
 
 struct scene {
@@ -243,7 +243,7 @@ static waywire_sender read_step(const char *said, struct data *data)
 
 /* ---- what is said */
 
-static struct line told_by(const waywire_followed *message)
+static struct line reported_by(const waywire_followed *message)
 {
 	struct line line = { "", 0 };
 	put_interface(&line, message->object.interface);
@@ -314,7 +314,7 @@ static struct line all_told(void)
 	for (int from = WAYWIRE_FROM_CLIENT; from <= WAYWIRE_FROM_SERVER; from++) {
 		waywire_followed message;
 		if (!waywire_inspector_ahead(inspector, (waywire_sender)from, &message))
-			put(&line, "; %llu %s", (unsigned long long)message.number, told_by(&message).text);
+			put(&line, "; %llu %s", (unsigned long long)message.number, reported_by(&message).text);
 	}
 	return line;
 }
@@ -427,11 +427,11 @@ static void read_front(const struct scene *scene, const struct step *step, waywi
 	waywire_followed message;
 	size_t size = (size_t)data->bytes[6] | (size_t)data->bytes[7] << 8;
 	MUST(!waywire_inspector_ahead(inspector, sender, &message));
-	must_say(scene->name, told_by(&message).text, step->told);
+	must_say(scene->name, reported_by(&message).text, step->reported);
 	MUST(message.number == ++counts->number && message.index == ++counts->index[sender]);
 	MUST(message.offset == counts->offset[sender] && message.size == size);
 	MUST(message.opcode == (data->bytes[4] | data->bytes[5] << 8));
-	/* Of one with a bad size all that came is told, also what was said behind it. */
+	/* Of one with a bad size all that came is reported, also what was said behind it. */
 	MUST(!memcmp(message.bytes, data->bytes, message.length < data->length ? message.length : data->length));
 	MUST(message.length == size || size < 8 || size > MOST);
 	counts->offset[sender] += size;
@@ -450,7 +450,7 @@ static void must_be_none(waywire_sender sender)
 /* Whether the bytes of a message's first part are a message already: of a bad size 8 are enough. */
 static bool is_in_front(const struct step *step, const struct data *data, size_t cut)
 {
-	return step->told && (cut >= data->length || (cut >= 8 && !strchr(step->said, '.')));
+	return step->reported && (cut >= data->length || (cut >= 8 && !strchr(step->said, '.')));
 }
 
 /* Plays the messages one by one, each cut at a place. */
@@ -468,7 +468,7 @@ static void play_cut(const struct scene *scene, size_t cut)
 		else
 			must_be_none(sender);
 		give(sender, data.bytes + first, data.length - first);
-		if (!is_whole && step->told)
+		if (!is_whole && step->reported)
 			read_front(scene, step, sender, &data, &counts);
 		must_be_none(sender);
 	}
@@ -492,7 +492,7 @@ static void play_joined(const struct scene *scene)
 		give(*step->said == '>' ? WAYWIRE_FROM_CLIENT : WAYWIRE_FROM_SERVER, piece, length);
 		for (; step < end; step++) {
 			waywire_sender sender = read_step(step->said, &data);
-			if (step->told)
+			if (step->reported)
 				read_front(scene, step, sender, &data, &counts);
 			else
 				must_be_none(sender);

@@ -37,7 +37,7 @@ static waywire_status grow(waywire_client client, const char *text)
 }
 
 /* The index of an interface in the tables that an end has now. */
-static uint16_t place_of(const waywire_end *end, const char *name)
+static uint16_t index_of(const waywire_end *end, const char *name)
 {
 	uint16_t index;
 	MUST(!waywire_tables_interface(waywire_end_tables(end), name, &index));
@@ -47,7 +47,7 @@ static uint16_t place_of(const waywire_end *end, const char *name)
 static uint32_t newest(const waywire_end *end, const char *name)
 {
 	uint32_t version;
-	MUST(!waywire_tables_version(waywire_end_tables(end), place_of(end, name), &version));
+	MUST(!waywire_tables_version(waywire_end_tables(end), index_of(end, name), &version));
 	return version;
 }
 
@@ -56,7 +56,7 @@ static bool is_live(const waywire_end *end, waywire_object object, const char *i
 {
 	uint16_t index;
 	uint32_t found;
-	return !waywire_end_live(end, object, &index, &found) && index == place_of(end, interface)
+	return !waywire_end_live(end, object, &index, &found) && index == index_of(end, interface)
 		&& found == version;
 }
 
@@ -97,8 +97,8 @@ static struct pair open_pair(void)
 	waywire_tables_free(few);
 	waywire_tables_free(more);
 	waywire_tables_free(all);
-	MUST(!waywire_server_add_global(pair.server, place_of(pair.server.end, "thing"), 3, NULL));
-	MUST(!waywire_server_add_global(pair.server, place_of(pair.server.end, "later"), 7, NULL));
+	MUST(!waywire_server_add_global(pair.server, index_of(pair.server.end, "thing"), 3, NULL));
+	MUST(!waywire_server_add_global(pair.server, index_of(pair.server.end, "later"), 7, NULL));
 	pair.registry = get_registry(pair.client);
 	reads(pair.client.end, pair.server.end);
 	MUST(!waywire_server_announce(pair.server, NULL));
@@ -142,7 +142,7 @@ static void hears(struct pair pair, waywire_object thing, uint16_t opcode, waywi
 	MUST(!waywire_end_send(pair.server.end, thing, opcode, &arg, 1, NULL, NULL));
 	waywire_report report = reads(pair.server.end, pair.client.end);
 	MUST(waywire_object_equal(report.target, thing) && report.opcode == opcode && report.arg_count == 1);
-	MUST(report.interface == place_of(pair.client.end, "thing") && report.version == version);
+	MUST(report.interface == index_of(pair.client.end, "thing") && report.version == version);
 	MUST(report.args[0].kind == arg.kind && report.args[0].i == arg.i && report.args[0].u == arg.u);
 }
 
@@ -177,12 +177,12 @@ static void in_steps(void)
 	waywire_object thing, other, turning;
 	waywire_client client = pair.client;
 	int user;
-	uint16_t index = place_of(client.end, "thing");
+	uint16_t index = index_of(client.end, "thing");
 	MUST(!waywire_client_bind(client, pair.registry, THING, "thing", 2, &thing));
 	MUST(!waywire_end_set_user(client.end, thing, &user));
 	reads(client.end, pair.server.end);
 	stays(pair, thing, &user);
-	MUST(!grow(client, second) && place_of(client.end, "thing") == index && newest(client.end, "thing") == 4);
+	MUST(!grow(client, second) && index_of(client.end, "thing") == index && newest(client.end, "thing") == 4);
 	stays(pair, thing, &user);
 	/* a global that was remembered still is, with its version */
 	MUST(waywire_client_bind(client, pair.registry, THING, "thing", 4, &other) == WAYWIRE_BAD_BIND);
@@ -199,7 +199,7 @@ static void in_steps(void)
 	asks(pair, turning, TURN, waywire_int(-5));
 	hears(pair, turning, TURNED, waywire_int(-6), 7);
 	/* and those of the third */
-	MUST(!grow(client, third) && place_of(client.end, "thing") == index && newest(client.end, "thing") == 5);
+	MUST(!grow(client, third) && index_of(client.end, "thing") == index && newest(client.end, "thing") == 5);
 	stays(pair, thing, &user);
 	asks(pair, turning, TURN, waywire_int(-7));
 	waywire_arg name[] = { waywire_string("a name"), waywire_of(thing) };

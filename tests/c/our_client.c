@@ -200,11 +200,11 @@ static waywire_object request(waywire_object target, uint16_t opcode, const wayw
 
 static waywire_object make(waywire_object target, uint16_t opcode)
 {
-	waywire_arg index = waywire_new();
-	return request(target, opcode, &index, 1);
+	waywire_arg arg = waywire_new();
+	return request(target, opcode, &arg, 1);
 }
 
-static void told(const waywire_report *report)
+static void announced(const waywire_report *report)
 {
 	char interface[32];
 	uint32_t name = report->args[0].u;
@@ -258,7 +258,7 @@ static void heard(const waywire_report *report)
 	default:
 		MUST(report->kind == WAYWIRE_MESSAGE);
 		if (waywire_object_equal(report->target, registry))
-			told(report);
+			announced(report);
 		else if (waywire_object_equal(report->target, pointer_at))
 			pointed(report);
 		else if (waywire_object_equal(report->target, keyboard))

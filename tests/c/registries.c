@@ -59,7 +59,7 @@ static size_t announce(void)
 	return count;
 }
 
-static uint16_t place_of(const char *interface)
+static uint16_t index_of(const char *interface)
 {
 	uint16_t index;
 	MUST(!waywire_tables_interface(tables, interface, &index));
@@ -73,10 +73,10 @@ static void make_server(size_t globals)
 	uint32_t of_fixes, of_compositor;
 	next_id = 2;
 	MUST(!waywire_server_new(tables, &sizes, &server));
-	MUST(!waywire_server_add_global(server, place_of(WAYWIRE_WL_FIXES_NAME), 1, &of_fixes));
-	MUST(!waywire_server_add_global(server, place_of(WAYWIRE_WL_COMPOSITOR_NAME), 1, &of_compositor));
+	MUST(!waywire_server_add_global(server, index_of(WAYWIRE_WL_FIXES_NAME), 1, &of_fixes));
+	MUST(!waywire_server_add_global(server, index_of(WAYWIRE_WL_COMPOSITOR_NAME), 1, &of_compositor));
 	for (size_t i = 2; i < globals; i++)
-		MUST(!waywire_server_add_global(server, place_of(WAYWIRE_WL_COMPOSITOR_NAME), 1, NULL));
+		MUST(!waywire_server_add_global(server, index_of(WAYWIRE_WL_COMPOSITOR_NAME), 1, NULL));
 	uint32_t registry = get_registry();
 	MUST(announce() == globals);
 	fixes = bind(registry, of_fixes, WAYWIRE_WL_FIXES_NAME);
@@ -136,19 +136,19 @@ static size_t replaces(uint32_t first, uint32_t open)
 }
 
 /* All registries get the events, the client's first one too. */
-static size_t tells(uint32_t first, uint32_t open)
+static size_t sends_events(uint32_t first, uint32_t open)
 {
 	uint32_t name;
-	size_t told = 0, removed = 0, count;
+	size_t sent = 0, removed = 0, count;
 	(void)first;
-	MUST(!waywire_server_add_global(server, place_of(WAYWIRE_WL_COMPOSITOR_NAME), 1, &name));
+	MUST(!waywire_server_add_global(server, index_of(WAYWIRE_WL_COMPOSITOR_NAME), 1, &name));
 	while ((count = announce()))
-		told += count;
+		sent += count;
 	MUST(!waywire_server_withdraw(server, name));
 	while ((count = announce()))
 		removed += count;
-	MUST(told == open + 1 && removed == open + 1);
-	return told + removed;
+	MUST(sent == open + 1 && removed == open + 1);
+	return sent + removed;
 }
 
 static const struct {
@@ -156,7 +156,7 @@ static const struct {
 	size_t (*done)(uint32_t first, uint32_t open);
 } works[] = {
 	{ "destroys", destroys }, { "announces", announces }, { "opens", opens }, { "replaces", replaces },
-	{ "tells", tells },
+	{ "tells", sends_events },
 };
 
 __attribute__((noinline)) size_t measured(size_t work, uint32_t first, uint32_t open);

@@ -12,19 +12,19 @@ static FILE *recording;
 static waywire_inspector *inspector;
 
 /* The lines of what passed, by the inspector, and of what the ends reported. */
-static char passed[4096], told[4096];
+static char passed[4096], reported[4096];
 
-static void tell(waywire_sender sender, const waywire_report *report)
+static void add_report(waywire_sender sender, const waywire_report *report)
 {
-	size_t length = strlen(told);
-	length += waywire_report_line(tables, sender, report, told + length, sizeof told - length - 2);
-	strcpy(told + length, "\n");
+	size_t length = strlen(reported);
+	length += waywire_report_line(tables, sender, report, reported + length, sizeof reported - length - 2);
+	strcpy(reported + length, "\n");
 }
 
 /* A line of what one end read. */
 static void show(const char *arrow, const waywire_report *report)
 {
-	tell(*arrow == '-' ? WAYWIRE_FROM_CLIENT : WAYWIRE_FROM_SERVER, report);
+	add_report(*arrow == '-' ? WAYWIRE_FROM_CLIENT : WAYWIRE_FROM_SERVER, report);
 	if (report->kind == WAYWIRE_DELETED) {
 		printf("%s deleted %u/%u\n", arrow, report->target.id, (unsigned)report->target.birth);
 		return;
@@ -189,7 +189,7 @@ int main(int argc, char **argv)
 	puts("# Made by tests/c/session.c, which prints what each end reads.");
 	play(most);
 	agree();
-	MUST(*told && !strcmp(told, passed));
+	MUST(*reported && !strcmp(reported, passed));
 	waywire_inspector_free(inspector);
 	waywire_end_free(client.end);
 	waywire_end_free(server.end);
