@@ -8,6 +8,7 @@ lib.rt exports it or its type, or if C calls it. The output is a page in Markdow
 import glob
 import os
 import re
+from collections.abc import Container, Mapping
 from typing import NamedTuple
 
 from scripts import crates, usage
@@ -60,13 +61,13 @@ class Function(NamedTuple):
 
     name: str
     says: str
-    clauses: list
+    clauses: list[Clause]
     is_law: bool
 
 
-def value_types(top):
+def value_types(top: str) -> set[str]:
     """Returns the types of values that the specs/ folders define or pass on."""
-    found = set()
+    found = set[str]()
     for path in glob.glob(f"{top}/crates/*/specs/*.antt"):
         with open(path, encoding="utf-8") as file:
             matches = (TYPE.match(it) or PASSED.match(it) for it in file)
@@ -74,7 +75,7 @@ def value_types(top):
     return found
 
 
-def citations(lines, names, types):
+def citations(lines: list[str], names: Container[str], types: set[str]) -> dict[str, str]:
     """Returns the definitions of these crates that a file may cite, by its words for them."""
     found = {}
     for used in filter(None, map(USE.match, lines)):
@@ -86,7 +87,7 @@ def citations(lines, names, types):
     return found
 
 
-def first_cited(text, cited, lends=""):
+def first_cited(text: str, cited: Mapping[str, str], lends: str = "") -> str:
     """Returns the first definition that a clause's text cites; an empty word for none.
 
     A clause of what a loan leaves (`ensures*`) begins with the row of a type, which is passed over."""
@@ -94,7 +95,7 @@ def first_cited(text, cited, lends=""):
     return next((it for it in words if not (lends and it.endswith("_row"))), "")
 
 
-def exports(path):
+def exports(path: str) -> tuple[set[str], set[str]]:
     """Returns the modules and the names that a lib.rt exports."""
     if not os.path.exists(path):
         return set(), set()
@@ -104,15 +105,17 @@ def exports(path):
     return {"lib", *re.findall(r"(?m)^pub mod (\w+);", text)}, set(re.findall(r"\w+", uses))
 
 
-def sentence(comment):
+def sentence(comment: list[str]) -> str:
     """Returns the first sentence of a comment's lines."""
     first = " ".join(comment).partition("  ")[0].strip()
     return re.split(r"(?<=\.) (?=[A-Z`])", first)[0].rstrip(":.") + "." if first else ""
 
 
-def owner_of(head):
+def owner_of(head: str) -> Owner:
     """Returns the owner that the head of an impl or a trait names, without its parameters."""
-    public, kind, rest = OWNER.match(head).groups()
+    found = OWNER.match(head)
+    assert found
+    public, kind, rest = found.groups()
     depth, plain = 0, ""
     for char in rest.partition(" where ")[0]:
         depth += (char == "<") - (char == ">")
@@ -122,9 +125,11 @@ def owner_of(head):
     return Owner(kind == "trait", public == "pub", words[0] if between else "", words[1])
 
 
-def clauses_of(lines, at, cited):
+def clauses_of(lines: list[str], at: int, cited: Mapping[str, str]) -> tuple[list[Clause], int]:
     """Returns the clauses of the function that begins at a line, and where its head ends."""
-    found, depth = [], START.match(lines[at])[1]
+    start = START.match(lines[at])
+    assert start
+    found, depth = [], start[1]
     while True:
         clause, text = CLAUSE.match(lines[at]), lines[at]
         if clause:
@@ -140,7 +145,7 @@ def clauses_of(lines, at, cited):
         at += 1
 
 
-def is_listed(start, owner, clauses):
+def is_listed(start: re.Match[str], owner: Owner | None, clauses: list[Clause]) -> bool:
     """Whether a function is public, or a method that says more than its trait."""
     if not owner:
         return not start[1] and start[2].startswith("pub ")
@@ -149,12 +154,14 @@ def is_listed(start, owner, clauses):
     return bool(owner.trait and clauses) or start[2].startswith("pub ")
 
 
-def functions(path, names, types):
+def functions(path: str, names: Container[str], types: set[str]) -> list[Function]:
     """Returns the public functions of a file, in source order."""
     with open(path, encoding="utf-8") as file:
         lines = file.read().split("\n")
     cited, is_laws = citations(lines, names, types), path.endswith("/laws.rt")
-    found, comment, owner, at = [], [], None, 0
+    found: list[Function] = []
+    comment: list[str] = []
+    owner, at = None, 0
     while at < len(lines):
         line = lines[at]
         start, said, output = START.match(line), re.match(" *///(.*)", line), OUTPUT.match(line)
@@ -179,7 +186,7 @@ def functions(path, names, types):
     return found
 
 
-def modules(top, name, names, types):
+def modules(top: str, name: str, names: Container[str], types: set[str]) -> dict[str, list[Function]]:
     """Returns the public functions of a crate, by its modules that have some."""
     folder = f"{top}/crates/{name}/src"
     public, exported = exports(f"{folder}/lib.rt")
@@ -190,7 +197,7 @@ def modules(top, name, names, types):
             it
             for it in functions(path, names, types)
             if module in public
-            or re.match(r"\w+", it.name)[0] in exported
+            or re.split(r"\W", it.name)[0] in exported
             or it.name.startswith("waywire_c_")
         ]
         if listed:
@@ -198,7 +205,7 @@ def modules(top, name, names, types):
     return found
 
 
-def written(function):
+def written(function: Function) -> str:
     """Returns the line of a function."""
     parts = []
     for kind in ("requires", "ensures"):
@@ -215,7 +222,7 @@ def written(function):
     return f"- {'**law** ' if function.is_law else ''}`{function.name}`" + (f": {says}" if says else "")
 
 
-def page(top=crates.TOP):
+def page(top: str = crates.TOP) -> list[str]:
     """Returns the lines of the page."""
     found, types, out = crates.read(top), value_types(top), [HEAD]
     for kind, title in KINDS.items():

@@ -18,11 +18,11 @@ SOURCE = f"{crates.TOP}/protocols/core/core.xml"
 LAW = "constant is the opcode of the message with its name: the law `opcodes_are_of_their_names`."
 
 
-def comments(*lines):
+def comments(*lines: str) -> list[str]:
     return [word for it in lines for word in ("--comment", it)]
 
 
-def module(side, plural, writer, example):
+def module(side: str, plural: str, writer: str, example: str) -> list[str]:
     return ["stubs-from-xml", "--rattle", side,
             *comments(f"The opcodes of the core interfaces' {plural}, which a {writer} writes.",
                       "", f"{example} in the core tables. Each", LAW)]
@@ -51,7 +51,7 @@ FILES = {
 FIRST_LINE = b"// Made by tools/dev/core-files.\n"
 
 
-def text_of(name, before):
+def text_of(name: str, before: bytes) -> bytes:
     """The text of a file, which has this text now. Raises `BadProtocol` if a list has no word for
     what the protocol has, and `CalledProcessError` if a tool has refused the protocol, and has said why."""
     if name in core_lists.PARTS:
@@ -62,7 +62,7 @@ def text_of(name, before):
     return FIRST_LINE + text if name.endswith(".rt") else text
 
 
-def main():
+def main() -> int:
     words, differ = usage.words(__doc__, "--check", most=0), 0
     for name in [*FILES, *core_lists.PARTS]:
         path = f"{crates.TOP}/{name}"

@@ -2,8 +2,9 @@
 protocols/core/core.xml: the interfaces as definitions and as code, and the opcodes with the names of their messages."""
 
 import itertools
+from collections.abc import Iterable, Iterator
 
-from tools.waywire.protocol import BadProtocol
+from tools.waywire.protocol import Argument, BadProtocol, Interface, Message
 
 # What every valid table has, in specs/Fixed.antt of wl_rules; the other interfaces are in
 # specs/Core.antt of wl_sigs.
@@ -37,16 +38,16 @@ ENDS = "End of what is generated."
 DESTROYS = "Rattle.wl_sigs.specs.Destroys.TheVariants"
 
 
-def is_fixed(interface):
+def is_fixed(interface: Interface) -> bool:
     return interface.name in FIXED
 
 
-def place_word(name):
+def place_word(name: str) -> str:
     """The name that the definitions have for an interface's place."""
     return name.removeprefix("wl_")
 
 
-def kind(interface, message, arg, language):
+def kind(interface: Interface, message: Message, arg: Argument, language: int) -> str:
     """The word for an argument: in a definition if `language` is 0, in the code if it is 1."""
     words = KINDS.get((arg.type, arg.null, arg.interface is not None))
     if words is None:
@@ -57,13 +58,13 @@ def kind(interface, message, arg, language):
     return words[language].format(name.upper() if language else place_word(name))
 
 
-def kinds(interface, message, language):
+def kinds(interface: Interface, message: Message, language: int) -> list[str]:
     return [kind(interface, message, it, language) for it in message.args]
 
 
-def filled(head, words, tail, widest=WIDEST):
+def filled(head: str, words: Iterable[str], tail: str, widest: int = WIDEST) -> Iterator[str]:
     """Lines with as many of the words as each has room for between `head` and `tail`."""
-    line = []
+    line: list[str] = []
     for word in words:
         if line and len(f"{head}{', '.join([*line, word])}{tail}") > widest:
             yield f"{head}{', '.join(line)}{tail}"
@@ -76,7 +77,7 @@ def filled(head, words, tail, widest=WIDEST):
 # Definitions.
 
 
-def destroyed(interface, message):
+def destroyed(interface: Interface, message: Message) -> str:
     """What a message destroys, as a definition has it."""
     place = DESTROYS_ARGUMENT.get((interface.name, message.name))
     if place is not None:
@@ -84,7 +85,7 @@ def destroyed(interface, message):
     return "Target" if message.destroys else "Nothing"
 
 
-def message_definition(interface, message):
+def message_definition(interface: Interface, message: Message) -> list[str]:
     head = f'      message (codes "{message.name}") {message.since}'
     listed = " ∷ ".join([*kinds(interface, message, 0), "[]"])
     tail = f"({listed}) {destroyed(interface, message)} ∷"
@@ -92,14 +93,14 @@ def message_definition(interface, message):
     return [line] if len(line) <= WIDEST else [head, f"      {tail}"]
 
 
-def side_definition(interface, name, messages):
+def side_definition(interface: Interface, name: str, messages: list[Message]) -> list[str]:
     if not messages:
         return [f"  {name} = [];"]
     lines = [line for it in messages for line in message_definition(interface, it)]
     return [f"  {name} =", *lines, "      [];"]
 
 
-def definition(interface):
+def definition(interface: Interface) -> list[str]:
     head = "abbrev pub" if is_fixed(interface) else "abbrev"
     return [
         f"{head} {interface.name} : Interface",
@@ -113,18 +114,18 @@ def definition(interface):
     ]
 
 
-def place_definition(interface, place):
+def place_definition(interface: Interface, place: int) -> list[str]:
     head, word = "abbrev pub" if is_fixed(interface) else "abbrev", place_word(interface.name)
     return [f"{head} {word} : Iface", f"{word} = record {{ 0 = {place} }}", ""]
 
 
-def fixed_definitions(interfaces):
+def fixed_definitions(interfaces: list[Interface]) -> list[str]:
     """The part of specs/Fixed.antt: of fixed interfaces that follow each other first the places."""
     lines = []
-    for fixed, group in itertools.groupby(enumerate(interfaces), lambda it: is_fixed(it[1])):
+    for fixed, places in itertools.groupby(enumerate(interfaces), lambda it: is_fixed(it[1])):
         if not fixed:
             continue
-        group = [(it, place) for place, it in group]
+        group = [(it, place) for place, it in places]
         *names, last = (it.name for it, _ in group)
         what = f"indices of {', '.join(names)} and" if names else "index of"
         lines.append(f"-- the {what} {last}")
@@ -133,11 +134,11 @@ def fixed_definitions(interfaces):
     return lines[:-1]
 
 
-def words_in(texts):
+def words_in(texts: Iterable[str]) -> set[str]:
     return {word for text in texts for word in text.replace("(", " ").replace(")", " ").split()}
 
 
-def core_definitions(interfaces):
+def core_definitions(interfaces: list[Interface]) -> list[str]:
     """The text of specs/Core.antt."""
     others = [(it, place) for place, it in enumerate(interfaces) if not is_fixed(it)]
     said = [(it, message) for it, _ in others for _, message in it.messages()]
@@ -176,11 +177,11 @@ def core_definitions(interfaces):
 SIDES = ("request", "event")
 
 
-def messages_of(interface, side):
+def messages_of(interface: Interface, side: str) -> list[Message]:
     return interface.requests if side == "request" else interface.events
 
 
-def opcode_modules(interfaces):
+def opcode_modules(interfaces: list[Interface]) -> list[str]:
     """The first part of specs/Opcodes.antt: the modules of constants that it reads."""
     return [
         f"use Rattle.wl_sigs.specs.declared.{side}.{it.name}.TheConstants as {side}_{it.name}"
@@ -190,7 +191,7 @@ def opcode_modules(interfaces):
     ]
 
 
-def opcodes_by_name(interfaces):
+def opcodes_by_name(interfaces: list[Interface]) -> list[str]:
     """Its second part: each constant with the name of its message."""
     lines = [
         "-- each constant, by its module's name and its own, both in lower case",
@@ -215,7 +216,7 @@ def opcodes_by_name(interfaces):
 # The code.
 
 
-def laid_out(opens, items, closes, depth, ends=""):
+def laid_out(opens: str, items: list[list[str]], closes: str, depth: int, ends: str = "") -> list[str]:
     """Items between brackets, indented by `depth` spaces and laid out as by `rt fmt`: on one line if there is
     room, otherwise one item per line, with `ends` after the last one. An item is a list of lines, and so is the
     result."""
@@ -228,7 +229,7 @@ def laid_out(opens, items, closes, depth, ends=""):
     return [opens, *lines, closes]
 
 
-def message_code(interface, message, depth):
+def message_code(interface: Interface, message: Message, depth: int) -> list[str]:
     """The lines of a message, indented by `depth` spaces."""
     words = kinds(interface, message, 1)
     if all(it.isidentifier() and len(it) <= SHORT for it in words):
@@ -243,7 +244,7 @@ def message_code(interface, message, depth):
     return laid_out("message!(", items + [["destroys"]] * message.destroys, ")", depth)
 
 
-def side_code(interface, name, messages):
+def side_code(interface: Interface, name: str, messages: list[Message]) -> list[str]:
     """The lines of one side of an interface, which is a field of a record."""
     head, depth = f"{name}: &[", 8
     if len(messages) == 1:
@@ -255,7 +256,7 @@ def side_code(interface, name, messages):
     return [*lines[:-1], f"{lines[-1]},"]
 
 
-def interface_code(interface):
+def interface_code(interface: Interface) -> list[str]:
     return [
         "    CoreInterface {",
         f'        name: b"{interface.name}",',
@@ -266,7 +267,7 @@ def interface_code(interface):
     ]
 
 
-def core_code(interfaces):
+def core_code(interfaces: list[Interface]) -> list[str]:
     """The part of src/core_interfaces.rt."""
     messages = [message for it in interfaces for _, message in it.messages()]
     named = {arg.interface for it in messages for arg in it.args}
@@ -295,7 +296,7 @@ PARTS = {
 WHOLE = (f"{SIGS}/specs/Core.antt",)
 
 
-def with_parts(name, text, parts):
+def with_parts(name: str, text: str, parts: list[list[str]]) -> str:
     """A file's text with the lines of these parts between its marks. Raises `BadProtocol` if it
     lacks a mark."""
     comment = "//" if name.endswith(".rt") else "--"
@@ -311,7 +312,7 @@ def with_parts(name, text, parts):
     return "".join(made)
 
 
-def text_of(name, before, interfaces):
+def text_of(name: str, before: str, interfaces: list[Interface]) -> str:
     """The text of a file of lists, which has this text now."""
     parts = [make(interfaces) for make in PARTS[name]]
     if name in WHOLE:

@@ -9,6 +9,7 @@ reads both; scripts in shell ask it."""
 import os
 import re
 import sys
+from collections.abc import Iterator, Mapping
 from typing import NamedTuple
 
 TOP = os.path.dirname(os.path.dirname(os.path.realpath(__file__)))
@@ -20,12 +21,12 @@ class Crate(NamedTuple):
 
     name: str
     kind: str
-    uses: list
+    uses: list[str]
     line: str = ""
     folder: str = ""
 
 
-def listed(path):
+def listed(path: str) -> Iterator[tuple[str, str, str, list[str]]]:
     """Returns the lines of a list of crates as (kind, first word, line, the words behind the colon).
 
     A heading is a comment `# KIND: WHAT IT IS` below an empty line."""
@@ -41,16 +42,16 @@ def listed(path):
             before = line.strip()
 
 
-def read(top=TOP):
+def read(top: str = TOP) -> dict[str, Crate]:
     """Returns the crates of a repository that are proved, by name, in the order of their lines."""
     found = listed(f"{top}/crates.txt")
     return {name: Crate(name, kind, uses, line, f"crates/{name}") for kind, name, line, uses in found}
 
 
-def read_unproved(top=TOP):
+def read_unproved(top: str = TOP) -> dict[str, Crate]:
     """Returns the crates of a repository that are not proved, likewise. A line names the folder of each; here it has
     the form of crates.txt. Older trees have no such crates."""
-    found = {}
+    found: dict[str, Crate] = {}
     if not os.path.exists(f"{top}/unproved.txt"):
         return found
     for kind, folder, _, uses in listed(f"{top}/unproved.txt"):
@@ -59,16 +60,16 @@ def read_unproved(top=TOP):
     return found
 
 
-def read_all(top=TOP):
+def read_all(top: str = TOP) -> dict[str, Crate]:
     """Returns all crates of a repository, the proved ones first."""
     return {**read(top), **read_unproved(top)}
 
 
-def below(crates):
+def below(crates: Mapping[str, Crate]) -> dict[str, set[str]]:
     """Returns, for each crate, the names of all crates of the repository that it uses, directly or not."""
     found = {}
 
-    def visit(name):
+    def visit(name: str) -> set[str]:
         if name not in found:
             own = {it for it in crates[name].uses if it in crates}
             found[name] = own.union(*map(visit, own))
@@ -79,12 +80,12 @@ def below(crates):
     return found
 
 
-def lowest_first(crates, name):
+def lowest_first(crates: Mapping[str, Crate], name: str) -> list[str]:
     """Returns the names of all crates that a crate uses, directly or not, and its own name last. Each comes
     after those below it."""
-    found = {}
+    found: dict[str, None] = {}
 
-    def visit(name):
+    def visit(name: str) -> None:
         if name not in found and name in crates:
             for it in crates[name].uses:
                 visit(it)
@@ -94,7 +95,7 @@ def lowest_first(crates, name):
     return [*found]
 
 
-def longest_chain_first(crates, name):
+def longest_chain_first(crates: Mapping[str, Crate], name: str) -> list[str]:
     """Returns the same names, the crate first: by how many of them stand above each, one on another."""
     order = lowest_first(crates, name)[::-1]
     above = dict.fromkeys(order, 0)
@@ -105,7 +106,7 @@ def longest_chain_first(crates, name):
     return sorted(order, key=lambda it: (-above[it], -order.index(it)))
 
 
-def nearest(crates):
+def nearest(crates: Mapping[str, Crate]) -> dict[str, list[str]]:
     """Returns, for each crate, those that it names and does not also use through another."""
     under = below(crates)
     found = {}
@@ -115,7 +116,7 @@ def nearest(crates):
     return found
 
 
-def main(words):
+def main(words: list[str]) -> int:
     crates = read()
     if len(words) < 2 or not {*words[1:]} <= {*crates}:
         print(__doc__.strip(), file=sys.stderr)

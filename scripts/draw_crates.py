@@ -7,6 +7,7 @@ leads down to each crate that it names, unless another crate in between already 
 `./test tools` compares docs/crates.svg with the output of this tool."""
 
 import sys
+from collections.abc import Iterable, Mapping
 
 from scripts import crates, usage
 
@@ -15,11 +16,11 @@ BOX, HEIGHT, GAP, STEP, MARGIN, TITLE = 118, 26, 16, 60, 20, 28
 ROOMS = {"theory": "#8e5ea2", "library": "#2f6fab", "program": "#3a8a5f", "example": "#b3702b"}
 
 
-def levels_of(nearest):
+def levels_of(nearest: Mapping[str, list[str]]) -> dict[str, int]:
     """Returns how many crates stand below each, one on another."""
     found = {}
 
-    def visit(name):
+    def visit(name: str) -> int:
         if name not in found:
             found[name] = 1 + max(map(visit, nearest[name]), default=-1)
         return found[name]
@@ -29,17 +30,20 @@ def levels_of(nearest):
     return found
 
 
-def rows_of(names, levels):
+def rows_of(names: Iterable[str], levels: Mapping[str, int]) -> dict[int, list[str]]:
     """Returns the crates of a room, a list for each level that has some."""
-    rows = {}
+    rows: dict[int, list[str]] = {}
     for name in names:
         rows.setdefault(levels[name], []).append(name)
     return rows
 
 
-def place(found, nearest, levels):
+def place(found: Mapping[str, crates.Crate], nearest: Mapping[str, list[str]],
+          levels: Mapping[str, int]) -> tuple[list[tuple[str, float, float]], dict[str, float], float]:
     """Returns the rooms as (kind, left, width), and the middle of each crate's box."""
-    rooms, middles, left = [], {}, MARGIN
+    rooms: list[tuple[str, float, float]] = []
+    middles: dict[str, float] = {}
+    left: float = MARGIN
     for kind in ROOMS:
         rows = rows_of([it for it in found if found[it].kind == kind], levels)
         most = max(map(len, rows.values()), default=0)
@@ -50,7 +54,7 @@ def place(found, nearest, levels):
             row = rows[level]
             # Those whose lines lead to the left stand on the left.
             ends = {it: [middles[low] for low in nearest[it] if low in middles] for it in row}
-            row.sort(key=lambda it, ends=ends: sum(ends[it]) / max(len(ends[it]), 1))
+            row.sort(key={it: sum(its) / max(len(its), 1) for it, its in ends.items()}.__getitem__)
             share = width / len(row)
             middles.update({it: left + share * (at + 0.5) for at, it in enumerate(row)})
         rooms.append((kind, left, width))
@@ -58,7 +62,7 @@ def place(found, nearest, levels):
     return rooms, middles, left - GAP + MARGIN
 
 
-def line(start, end, colour):
+def line(start: tuple[float, float], end: tuple[float, float], colour: str) -> str:
     (x, y), (to_x, to_y) = start, end
     bend = min((to_y - y) / 2, 3 * STEP)
     points = (x, y + bend), (to_x, to_y - bend), (to_x, to_y)
@@ -67,18 +71,18 @@ def line(start, end, colour):
     return f'<path d="{path}" fill="none" stroke="{colour}" stroke-opacity="0.55"/>'
 
 
-def box(left, top, size, look):
+def box(left: float, top: float, size: tuple[float, float], look: str) -> str:
     """Returns a rectangle: its place, its size, and how it looks."""
     width, height = size
     place = f'x="{left:.0f}" y="{top}" width="{width}" height="{height}"'
     return f"<rect {place} {look}/>"
 
 
-def text(middle, base, look, words):
+def text(middle: float, base: float, look: str, words: str) -> str:
     return f'<text x="{middle:.0f}" y="{base}" {look}>{words}</text>'
 
 
-def drawn(found):
+def drawn(found: Mapping[str, crates.Crate]) -> list[str]:
     """Returns the lines of the SVG."""
     nearest = crates.nearest(found)
     levels = levels_of(nearest)
@@ -109,7 +113,7 @@ def drawn(found):
     return [*out, "</svg>"]
 
 
-def main():
+def main() -> int:
     found = crates.read()
     strange = sorted({it.kind for it in found.values()} - {*ROOMS})
     if strange:

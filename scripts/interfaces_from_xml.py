@@ -13,16 +13,17 @@ name is not valid in C.
 import argparse
 import os
 import sys
+from collections.abc import Iterable, Iterator, Sequence
 
 from tools.waywire import protocol
-from tools.waywire.protocol import BadProtocol
+from tools.waywire.protocol import Argument, BadProtocol, Interface, Message
 
 LETTERS = {"int": "i", "uint": "u", "fixed": "f", "string": "s", "object": "o", "new_id": "n", "array": "a", "fd": "h"}
 # The most arguments that a message has.
 MOST = 20
 
 
-def slots(arg):
+def slots(arg: Argument) -> Iterator[tuple[str, str | None]]:
     """An argument in the signature: pairs of letters and an interface. A new id of any interface comes after the
     name and the version of its interface."""
     if arg.type == "new_id" and not arg.interface:
@@ -30,23 +31,23 @@ def slots(arg):
     yield "?" * arg.null + LETTERS[arg.type], arg.interface
 
 
-def slots_of(message):
+def slots_of(message: Message) -> list[tuple[str, str | None]]:
     return [it for arg in message.args for it in slots(arg)]
 
 
-def signature(message):
+def signature(message: Message) -> str:
     since = str(message.since) if message.since > 1 else ""
     return since + "".join(letter for letter, _ in slots_of(message))
 
 
-def types_name(interface, side, message):
+def types_name(interface: Interface, side: str, message: Message) -> str:
     """The name of the array of a message's types. Messages that name no interface share one array."""
     if any(named for _, named in slots_of(message)):
         return f"{interface.name}_{side}_{message.name}_types"
     return "no_types"
 
 
-def types_lines(interface, side, message):
+def types_lines(interface: Interface, side: str, message: Message) -> Iterator[str]:
     name = types_name(interface, side, message)
     if name != "no_types":
         yield f"static const struct wl_interface *{name}[] = {{"
@@ -54,7 +55,7 @@ def types_lines(interface, side, message):
         yield "};"
 
 
-def messages_lines(interface, side, messages):
+def messages_lines(interface: Interface, side: str, messages: list[Message]) -> Iterator[str]:
     """The array of an interface's requests or events; nothing if it has none."""
     if messages:
         yield f"static const struct wl_message {interface.name}_{side}s[] = {{"
@@ -63,7 +64,7 @@ def messages_lines(interface, side, messages):
         yield "};"
 
 
-def interface_lines(interface):
+def interface_lines(interface: Interface) -> Iterator[str]:
     for side, message in interface.messages():
         yield from types_lines(interface, side, message)
     sides = (("request", interface.requests), ("event", interface.events))
@@ -76,7 +77,7 @@ def interface_lines(interface):
     yield "};"
 
 
-def check(interfaces):
+def check(interfaces: list[Interface]) -> None:
     """Raises `BadProtocol` if the C would not compile, or if libwayland would refuse it."""
     names = [it.name for it in interfaces]
     for interface in interfaces:
@@ -90,7 +91,7 @@ def check(interfaces):
                     raise BadProtocol(f"{interface.name}.{message.name} names {named}, which is in no file")
 
 
-def text_of(paths):
+def text_of(paths: Iterable[str]) -> str:
     """The C for these files."""
     interfaces = [it for path in paths for it in protocol.read(path).interfaces]
     check(interfaces)
@@ -103,7 +104,7 @@ def text_of(paths):
     return "\n".join(lines) + "\n"
 
 
-def main(arguments=None):
+def main(arguments: Sequence[str] | None = None) -> int:
     parser = argparse.ArgumentParser(
         prog="interfaces-from-xml",
         description="Prints the interfaces of Wayland protocol files as C for libwayland: a struct wl_interface for each."

@@ -12,7 +12,7 @@ GROUPS = (
 )
 
 
-def read(path):
+def read(path: str) -> bytes:
     try:
         with open(path, "rb") as file:
             return file.read()
@@ -20,7 +20,7 @@ def read(path):
         return b""
 
 
-def processors():
+def processors() -> int:
     """Returns how many processors there are to use: those that this process may run on, or fewer by
     the quota of its control group."""
     found = len(os.sched_getaffinity(0))
@@ -30,17 +30,17 @@ def processors():
     return found
 
 
-def number_in(path, form):
+def number_in(path: str, form: bytes) -> int | None:
     """Returns the number that a file has behind some words, or None."""
     found = re.search(form, read(path), re.MULTILINE)
     return int(found[1]) if found else None
 
 
-def free():
+def free() -> int:
     """Returns the memory that is free, in bytes, under the limit of the control group, too."""
     found = [1024 * (number_in("/proc/meminfo", rb"^MemAvailable: +(\d+)") or 0)]
-    for limit, used, form in GROUPS:
-        limit, used = number_in(limit, rb"^(\d+)"), number_in(used, form)
+    for at_limit, in_use, form in GROUPS:
+        limit, used = number_in(at_limit, rb"^(\d+)"), number_in(in_use, form)
         if limit is not None and used is not None:
             found.append(limit - used)
     return min(found)

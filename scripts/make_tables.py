@@ -15,6 +15,7 @@ import re
 import shutil
 import subprocess
 import sys
+from collections.abc import Mapping
 
 from scripts import crates, usage
 from scripts.protocol_files import BY_HAND, PACKAGES, PROTOCOLS, RAISED, found
@@ -29,7 +30,7 @@ WORDINGS = {
 }
 
 
-def licence(name, path):
+def licence(name: str, path: str) -> str:
     """What is said of the licence of a text's file."""
     with open(path, encoding="utf-8") as file:
         text = " ".join(file.read().split())
@@ -42,20 +43,20 @@ def licence(name, path):
 
 
 @functools.cache
-def origin(package):
+def origin(package: str) -> str:
     """The package with the version that is installed, or alone if that is not known."""
     words = ["dpkg-query", "--show", "--showformat", "${Package} ${Version}", package]
     said = subprocess.run(words, capture_output=True, text=True).stdout if shutil.which(words[0]) else ""
     return said or package
 
 
-def first_line(name):
+def first_line(name: str) -> str:
     """The first line of a text: what it is made of."""
     it = PROTOCOLS[name]
     return f"Made by tools/tables-from-xml from {os.path.basename(it.path)} of {origin(it.package)}."
 
 
-def raised(name, text):
+def raised(name: str, text: str) -> str:
     """The text with its interfaces in the version of `RAISED`, if it has one."""
     if name not in RAISED:
         return text
@@ -65,12 +66,12 @@ def raised(name, text):
     return head + said + first + rest
 
 
-def origin_of(name, files):
+def origin_of(name: str, files: Mapping[str, str]) -> list[str]:
     """The first lines of a text: what it is made of, and what is said of the licence."""
     return [first_line(name), f"It states facts of that protocol, {licence(name, files[name])}."]
 
 
-def names_of(name, files):
+def names_of(name: str, files: Mapping[str, str]) -> str:
     """The names of the same protocol, but for those that the core's file has."""
     core = {it.split(" ")[0] for it in protocol_names.lines_of(protocol.read(f"{TEXTS}/core/core.xml").interfaces)}
     lines = protocol_names.lines_of(protocol.read(files[name]).interfaces)
@@ -78,7 +79,7 @@ def names_of(name, files):
     return "".join(f"{it}\n" for it in [*(f"# {one}" for one in origin_of(name, files)), *kept])
 
 
-def text_of(name, files):
+def text_of(name: str, files: Mapping[str, str]) -> str | None:
     """The text of this name, or None if a file is not there or cannot be read."""
     named = PROTOCOLS[name].names
     for needed in (name, *named):
@@ -93,7 +94,7 @@ def text_of(name, files):
     return raised(name, output.getvalue()) if status == 0 else None
 
 
-def main(names):
+def main(names: list[str]) -> int:
     files, status = found(), 0
     if unknown := [it for it in names if it not in PROTOCOLS]:
         by_hand = [it for it in unknown if it in BY_HAND]

@@ -8,6 +8,7 @@ if the program is built."""
 import re
 import subprocess
 import sys
+from collections.abc import Iterable
 
 from scripts import crates
 
@@ -25,10 +26,11 @@ RECORDINGS = (
 )
 
 
-def helped(program, *words):
+def helped(program: str, *words: str) -> dict[str, list[str]]:
     """Returns the help of a command as its first lines and its sections, by name."""
     text = subprocess.run([program, *words, "--help"], check=True, capture_output=True).stdout.decode()
-    sections, name = {"": []}, ""
+    sections: dict[str, list[str]] = {"": []}
+    name = ""
     for line in text.splitlines():
         match = re.fullmatch(r"(\w+):\s*(.*)", line)
         if match:
@@ -39,29 +41,29 @@ def helped(program, *words):
     return sections
 
 
-def entries(lines):
+def entries(lines: Iterable[str]) -> list[tuple[str, ...]]:
     """Returns (word, what it does) for each line of a list."""
     return [tuple(re.split(r"\s{2,}", line, maxsplit=1)) for line in lines]
 
 
-def escaped(text):
+def escaped(text: str) -> str:
     return text.replace("\\", "\\e").replace("-", "\\-").replace("`", "").replace("'", "\\(aq")
 
 
-def first_small(text):
+def first_small(text: str) -> str:
     return text[:1].lower() + text[1:]
 
 
-def listed(lines):
+def listed(lines: Iterable[str]) -> list[str]:
     out = []
     for word, *what in entries(lines):
         out += [".TP", f"\\fB{escaped(word)}\\fR", escaped(what[0]) if what else ""]
     return out
 
 
-def statuses():
+def statuses() -> dict[str, list[str]]:
     """Returns (status, when) for each status of docs/FORMATS.md's table, in its order."""
-    found = {}
+    found: dict[str, list[str]] = {}
     with open(f"{crates.TOP}/docs/FORMATS.md", encoding="utf-8") as file:
         for line in file:
             match = re.fullmatch(r"\| (\d) \|(.*?)\| (.*?) \|\s*", line)
@@ -71,13 +73,13 @@ def statuses():
     return found
 
 
-def copyright_line():
+def copyright_line() -> str:
     with open(f"{crates.TOP}/LICENSE", encoding="utf-8") as file:
         said = next(line.strip() for line in file if line.startswith("Copyright"))
     return said.replace("©", "\\(co")
 
 
-def page(program, version):
+def page(program: str, version: str) -> str:
     whole = helped(program)
     names = [name for name, *_ in entries(whole["Commands"]) if name != "help"]
     out = [f'.TH WAYWIRE 1 "" "waywire {version}"', ".SH NAME", f"waywire \\- {escaped(first_small(whole[''][0]))}",
@@ -98,7 +100,7 @@ def page(program, version):
     return "\n".join(out) + "\n"
 
 
-def main():
+def main() -> None:
     if len(sys.argv) != 2 or sys.argv[1].startswith("-"):
         sys.exit(__doc__.strip())
     said = subprocess.run([sys.argv[1], "--version"], check=True, capture_output=True).stdout.decode()

@@ -8,6 +8,7 @@ the earlier ones made."""
 import glob
 import os
 import re
+from collections.abc import Generator, Iterable, Mapping
 from typing import NamedTuple
 
 BATCH = "mutants.edit"
@@ -28,22 +29,22 @@ class Function(NamedTuple):
     """A function: the module that it is written in, and how the prover may name it, the likeliest first."""
 
     module: str
-    names: tuple
+    names: tuple[str, ...]
 
 
 class Mutant:
     """A mutant: its crate, its name, and what it puts in place of what, file by file."""
 
-    def __init__(self, crate, name):
+    def __init__(self, crate: str, name: str) -> None:
         self.crate, self.name = crate, name
-        self.pairs = []
-        self.functions = []
+        self.pairs: list[tuple[str, str, str]] = []
+        self.functions: list[Function] = []
 
     @property
-    def label(self):
+    def label(self) -> str:
         return f"{self.crate}/{self.name}"
 
-    def steps(self, texts):
+    def steps(self, texts: Mapping[str, str]) -> Generator[dict[str, str], None, dict[str, str]]:
         """Yields, for each pair, the texts before it. Returns the texts with this mutant."""
         texts = dict(texts)
         for path, old, new in self.pairs:
@@ -58,7 +59,7 @@ class Mutant:
             texts[path] = texts[path].replace(old, new)
         return texts
 
-    def applied(self, texts):
+    def applied(self, texts: Mapping[str, str]) -> dict[str, str]:
         """Returns the texts with this mutant."""
         steps = self.steps(texts)
         while True:
@@ -67,7 +68,7 @@ class Mutant:
             except StopIteration as end:
                 return end.value
 
-    def looks_at(self, texts):
+    def looks_at(self, texts: Mapping[str, str]) -> None:
         """Finds out which functions it edits in the code as it stands."""
         if not self.pairs:
             raise BadEdit("it has no 'old:' and 'new:' pair")
@@ -79,7 +80,7 @@ class Mutant:
         self.functions = [*dict.fromkeys(filter(None, found))]
 
 
-def read_edits(crate, path):
+def read_edits(crate: str, path: str) -> list[Mutant]:
     """Returns the mutants in a file: several with a name each, or one that has the file's name."""
     found, file_named, old = [], None, None
     with open(path, encoding="utf-8") as file:
@@ -95,12 +96,12 @@ def read_edits(crate, path):
             old = text
         elif line.startswith("new:"):
             found = found or [Mutant(crate, os.path.basename(path)[: -len(".edit")])]
-            found[-1].pairs.append((file_named, old, text))
+            found[-1].pairs.append((file_named or "", old or "", text))
             old = None
     return found or [Mutant(crate, os.path.basename(path)[: -len(".edit")])]
 
 
-def mutants_of(folder, others=False):
+def mutants_of(folder: str, others: bool = False) -> list[Mutant]:
     """Returns the mutants of a crate in must-fail/, and the others too if they are asked for."""
     paths = sorted(glob.glob(f"{folder}/must-fail/*.edit"))
     if others and os.path.isfile(f"{folder}/{BATCH}"):
@@ -108,7 +109,7 @@ def mutants_of(folder, others=False):
     return [it for path in paths for it in read_edits(os.path.basename(folder), path)]
 
 
-def texts_of(folder, parts=("src",)):
+def texts_of(folder: str, parts: Iterable[str] = ("src",)) -> dict[str, str]:
     """Returns the files in these parts of a crate, by their paths."""
     texts = {}
     for part in parts:
@@ -120,14 +121,15 @@ def texts_of(folder, parts=("src",)):
     return texts
 
 
-def items_at(text, place):
+def items_at(text: str, place: int) -> list[tuple[int, str, str]]:
     """Returns the items that a place of a file lies in, the outermost first: how far each is indented, its
     kind, and what its first line has behind that."""
-    found, lines = [], text[: place + len(text[place:].partition("\n")[0])].split("\n")
+    found: list[tuple[int, str, str]] = []
+    lines = text[: place + len(text[place:].partition("\n")[0])].split("\n")
     for number, line in enumerate(lines, 1):
         item, closes = ITEM.match(line), CLOSES.fullmatch(line)
-        if item or closes and number < len(lines):
-            indent = len((item or closes)[1])
+        if outer := item or (closes if number < len(lines) else None):
+            indent = len(outer[1])
             while found and found[-1][0] >= indent:
                 found.pop()
         if item:
@@ -135,7 +137,7 @@ def items_at(text, place):
     return found
 
 
-def function_at(path, text, place):
+def function_at(path: str, text: str, place: int) -> Function | None:
     """Returns the function at a place of a file, or nothing. The prover names a method by the module of its type,
     which may be another one, but it knows a function by the end of its name, too."""
     items = items_at(text, place)
@@ -143,19 +145,25 @@ def function_at(path, text, place):
         items.pop()
     if not items:
         return None
-    name = re.match(r"\W*(\w+)", items.pop()[2])[1]
+    name = first_word(items.pop()[2])
     outer = [it for it in path[: -len(".rt")].split("/")[1:] if it not in ("lib", "main", "mod")]
-    types = []
+    types: list[str] = []
     for _, kind, rest in items:
         if kind == "impl":
             types = types_of(rest)
         elif kind in ("mod", "trait"):
-            outer.append(re.match(r"\W*(\w+)", rest)[1])
+            outer.append(first_word(rest))
     names = [f"{it}::{name}" for it in types] or ["::".join([*outer, name])]
     return Function("::".join(outer), tuple(dict.fromkeys([*names, name])))
 
 
-def types_of(header):
+def first_word(rest: str) -> str:
+    """Returns the name that the rest of an item's first line begins with."""
+    found = re.match(r"\W*(\w+)", rest)
+    return found[1] if found else ""
+
+
+def types_of(header: str) -> list[str]:
     """Returns how the prover may name a type in the names of the methods of an impl, by what its first line
     has after `impl`: the type, or the type and the trait."""
     header = re.split(r" where\b| \{|$", header.replace("->", "  "))[0]
@@ -174,7 +182,7 @@ def types_of(header):
     return [*dict.fromkeys(map("".join, (whole, own[:1] + words, own[:1] + words[:1])))]
 
 
-def words_of(text):
+def words_of(text: str) -> list[str]:
     """Returns the names in a type, each without its path and without lifetimes."""
     text = re.sub(r"'\w+|\b(mut|dyn)\b", " ", text)
     return [it.rpartition("::")[2] for it in re.findall(r"[\w:]*\w", text)]

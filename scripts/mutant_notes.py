@@ -10,22 +10,21 @@ import hashlib
 import os
 import tempfile
 
-from scripts import mutant_edits
+from scripts import mutant_edits, toolchain
 
 # What the checksums begin with: another number where the tool judges otherwise.
 FORM = "1"
 
 
-def default_folder():
+def default_folder() -> str:
     cache = os.environ.get("XDG_CACHE_HOME", "")
     cache = cache if os.path.isabs(cache) else os.path.expanduser("~/.cache")
     return f"{cache}/waywire/mutants"
 
 
-def sum_of(*texts):
+def sum_of(*texts: str) -> str:
     whole = hashlib.sha256()
-    for it in texts:
-        it = it.encode()
+    for it in map(str.encode, texts):
         whole.update(b"%d\n%b" % (len(it), it))
     return whole.hexdigest()
 
@@ -33,10 +32,11 @@ def sum_of(*texts):
 class Keys:
     """The checksums of mutants over the crates of a tree."""
 
-    def __init__(self, clone, toolchain_line):
-        self.clone, self.toolchain_line, self.sums = clone, toolchain_line, {}
+    def __init__(self, clone: toolchain.Clone, toolchain_line: str) -> None:
+        self.clone, self.toolchain_line = clone, toolchain_line
+        self.sums: dict[str, str] = {}
 
-    def of_crate(self, name):
+    def of_crate(self, name: str) -> str:
         """The checksum of a crate's own files and line."""
         if name not in self.sums:
             texts = mutant_edits.texts_of(f"{self.clone.top}/crates/{name}", mutant_edits.PARTS)
@@ -44,7 +44,7 @@ class Keys:
             self.sums[name] = sum_of(name, self.clone.crates[name].line, *flat)
         return self.sums[name]
 
-    def of(self, mutant):
+    def of(self, mutant: mutant_edits.Mutant) -> str:
         pairs = [it or "" for pair in mutant.pairs for it in pair]
         crates = [self.of_crate(it) for it in self.clone.below(mutant.crate)]
         return sum_of(FORM, self.toolchain_line, str(len(pairs)), *pairs, *crates)
@@ -53,16 +53,16 @@ class Keys:
 class Notes:
     """A folder of notes, each a small file that is written whole."""
 
-    def __init__(self, folder):
+    def __init__(self, folder: str) -> None:
         self.folder = folder
 
-    def of(self, key):
+    def of(self, key: str) -> str:
         """Returns what is noted under a checksum, or nothing."""
         with contextlib.suppress(OSError, ValueError), open(f"{self.folder}/{key}", encoding="utf-8") as file:
             return file.read().strip()
         return ""
 
-    def write(self, key, label, where):
+    def write(self, key: str, label: str, where: str) -> None:
         """Notes where a mutant was refused. If the folder cannot be written, nothing is kept."""
         day = datetime.datetime.now(datetime.timezone.utc).date()
         with contextlib.suppress(OSError):

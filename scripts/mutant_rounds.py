@@ -9,9 +9,12 @@ function the prover does not know by name, is tried alone by a check of the whol
 
 import os
 import shutil
+from collections.abc import Callable, Iterable, Mapping
 from typing import NamedTuple
 
 from scripts import mutant_edits
+from scripts.mutant_edits import Function, Mutant
+from scripts.mutant_prover import Answer, Prover
 
 
 class Result(NamedTuple):
@@ -21,7 +24,7 @@ class Result(NamedTuple):
     is_refused: bool
     what: str
 
-    def line(self):
+    def line(self) -> str:
         said = f"refused ({self.what})" if self.is_refused else self.what
         return f"{self.mutant.label}: {said}"
 
@@ -29,7 +32,7 @@ class Result(NamedTuple):
 class Trial:
     """The mutants of a crate. `say` takes each result as soon as it is known."""
 
-    def __init__(self, prover, source, room, say):
+    def __init__(self, prover: Prover, source: str, room: str, say: Callable[[Result], object]) -> None:
         self.prover, self.room, self.say = prover, room, say
         self.folder, self.kept = f"{room}/crate", f"{room}/kept"
         for part in mutant_edits.PARTS:
@@ -37,14 +40,17 @@ class Trial:
                 shutil.copytree(f"{source}/{part}", f"{self.folder}/{part}")
         os.mkdir(self.kept)
         self.sound = mutant_edits.texts_of(self.folder)
-        self.left, self.wholly, self.alone = [], [], set()
+        self.left: list[Mutant] = []
+        self.wholly: list[Mutant] = []
+        self.alone: set[Mutant] = set()
         # For each mutant, the functions whose mutants hide what it comes to.
-        self.apart = {}
+        self.apart: dict[Mutant, set[str]] = {}
         # How the prover names each function, and the functions that are proved without a mutant.
-        self.named, self.proved = {}, set()
+        self.named: dict[Function, str] = {}
+        self.proved: set[str] = set()
         self.rounds, self.seconds = 0, 0.0
 
-    def run(self, mutants):
+    def run(self, mutants: Iterable[Mutant]) -> None:
         """Tries all of these mutants."""
         for it in mutants:
             try:
@@ -63,21 +69,22 @@ class Trial:
         for it in self.wholly:
             self.try_wholly(it)
 
-    def settle(self, mutant, is_refused, what):
+    def settle(self, mutant: Mutant, is_refused: bool, what: str) -> None:
         if mutant in self.left:
             self.left.remove(mutant)
         self.say(Result(mutant, is_refused, what))
 
-    def below_crate(self, name):
+    def below_crate(self, name: str) -> str:
         return name.removeprefix(f"{self.prover.crate}::")
 
-    def control(self):
+    def control(self) -> None:
         """Checks the functions of all mutants as they stand."""
         functions = dict.fromkeys(it for mutant in self.left for it in mutant.functions)
-        names, answer = {it: [*it.names] for it in functions}, None
+        names = {it: [*it.names] for it in functions}
+        answer: Answer | None = None
         while names:
             answer = self.checked({}, self.kept, [it[0] for it in names.values()])
-            unfit, fitting = answer.unfit() or ("", [])
+            unfit, fitting = answer.unfit() or ("", list[str]())
             again = [it for it in names if names[it][0] == unfit]
             if not again:
                 break
@@ -88,12 +95,12 @@ class Trial:
             answer = None
         for function, (name, *_) in names.items():
             whole = f"{self.prover.crate}::{name}"
-            found = [it for it in answer.verdicts if it == whole or it.endswith(f"::{name}")]
+            found = [it for it in answer.verdicts if it == whole or it.endswith(f"::{name}")] if answer else []
             self.named.update({function: it for it in found if it == whole or len(found) == 1})
         self.proved |= answer.proved() if answer else set()
         self.judge_control(answer)
 
-    def other_names(self, function, names, fitting):
+    def other_names(self, function: Function, names: list[str], fitting: list[str]) -> list[str]:
         """Returns the names to try after one that fits no function, or several: these."""
         if fitting:
             module = f"{self.prover.crate}::{function.module}::"
@@ -101,11 +108,11 @@ class Trial:
             return [self.below_crate(near[0])] if len(near) == 1 else []
         return names[1:]
 
-    def judge_control(self, answer):
+    def judge_control(self, answer: Answer | None) -> None:
         """Sets apart the mutants whose functions have no name, and gives up on those whose functions are not
         proved as they stand."""
         for mutant in [*self.left]:
-            functions = [self.named.get(it) for it in mutant.functions]
+            functions = [self.named.get(it, "") for it in mutant.functions]
             if answer and not answer.has_ended():
                 self.settle(mutant, False, f"NOT TRIED: without it {answer.end()}")
             elif not all(functions):
@@ -116,10 +123,10 @@ class Trial:
                 why = f"{self.below_crate(lacking)} is not proved without it"
                 self.settle(mutant, False, f"NOT TRIED: {why}")
 
-    def functions_of(self, mutant):
+    def functions_of(self, mutant: Mutant) -> list[str]:
         return [self.named[it] for it in mutant.functions]
 
-    def checked(self, texts, kept, only):
+    def checked(self, texts: Mapping[str, str], kept: str, only: Iterable[str] | None) -> Answer:
         """Checks the crate with these texts in place of its own."""
         for path, text in {**self.sound, **texts}.items():
             with open(f"{self.folder}/{path}", "w", encoding="utf-8") as file:
@@ -128,7 +135,7 @@ class Trial:
         self.seconds += answer.seconds
         return answer
 
-    def tried(self, texts, only):
+    def tried(self, texts: Mapping[str, str], only: Iterable[str] | None) -> Answer:
         """Checks the crate with these texts over a copy of what the control kept."""
         over = f"{self.room}/over"
         shutil.copytree(self.kept, over)
@@ -138,9 +145,10 @@ class Trial:
         finally:
             shutil.rmtree(over)
 
-    def choose(self):
+    def choose(self) -> tuple[list[Mutant], Mapping[str, str]]:
         """Returns the mutants of the next round, which fit together, and the texts with them."""
-        chosen, texts, edited = [], self.sound, set()
+        texts: Mapping[str, str] = self.sound
+        chosen, edited = list[Mutant](), set[str]()
         for it in self.left:
             functions = {*self.functions_of(it)}
             is_alone = chosen and (it in self.alone or chosen[0] in self.alone)
@@ -155,11 +163,11 @@ class Trial:
             edited |= functions
         return chosen, texts
 
-    def hides(self, functions, chosen):
+    def hides(self, functions: set[str], chosen: list[Mutant]) -> bool:
         """Returns whether a mutant of these functions hides what one of the chosen comes to."""
         return any(functions & self.apart.get(it, set()) for it in chosen)
 
-    def round(self):
+    def round(self) -> None:
         """Tries some mutants at once. Each is refused, or is tried otherwise later."""
         chosen, texts = self.choose()
         functions = dict.fromkeys(it for mutant in chosen for it in self.functions_of(mutant))
@@ -175,7 +183,7 @@ class Trial:
         else:
             self.judge(chosen, answer)
 
-    def judge(self, chosen, answer):
+    def judge(self, chosen: list[Mutant], answer: Answer) -> None:
         """Says which of the mutants of a round are refused for their own sake, and which others are to be tried
         apart or alone."""
         refused = {*answer.refused()}
@@ -190,12 +198,12 @@ class Trial:
             if not others:
                 self.alone.add(mutant)
 
-    def named_in(self, functions, refused):
+    def named_in(self, functions: list[str], refused: Iterable[str]) -> str:
         """Returns the names of these functions, or those of the functions among the refused ones."""
         own = [it for it in functions if it in refused]
         return ", ".join(self.below_crate(it) for it in own or sorted(refused))
 
-    def judge_alone(self, mutant, answer, unread):
+    def judge_alone(self, mutant: Mutant, answer: Answer, unread: str) -> None:
         """Says what a mutant came to that was tried alone. If it is not refused there, it is tried by a check of
         the whole crate."""
         functions, refused = self.functions_of(mutant), answer.refused()
@@ -212,7 +220,7 @@ class Trial:
         else:
             self.judge_others(mutant, refused)
 
-    def judge_others(self, mutant, refused):
+    def judge_others(self, mutant: Mutant, refused: list[str]) -> None:
         """Says that a mutant is refused in another function than its own; if it is in none, it is to be tried by
         a check of the whole crate."""
         first = next((it for it in refused if self.is_proved_without(it)), None)
@@ -222,13 +230,13 @@ class Trial:
             self.left.remove(mutant)
             self.wholly.append(mutant)
 
-    def is_proved_without(self, function):
+    def is_proved_without(self, function: str) -> bool:
         """Returns whether a function is proved without a mutant, and asks the prover if that is not known."""
         if function not in self.proved:
             self.proved |= self.checked({}, self.kept, [self.below_crate(function)]).proved()
         return function in self.proved
 
-    def try_wholly(self, mutant):
+    def try_wholly(self, mutant: Mutant) -> None:
         """Tries a mutant by a check of the whole crate, in which it may be refused anywhere."""
         answer = self.tried(mutant.applied(self.sound), None)
         unread = answer.unread({path for path, *_ in mutant.pairs})

@@ -26,6 +26,7 @@ import subprocess
 import sys
 import tempfile
 import threading
+from collections.abc import Iterable, Mapping
 from concurrent.futures import ThreadPoolExecutor
 
 from scripts import crates, machine, mutant_edits, mutant_notes, mutant_prover, mutant_rounds, toolchain
@@ -34,7 +35,7 @@ from scripts import crates, machine, mutant_edits, mutant_notes, mutant_prover, 
 MEMORY_EACH = 3_000_000_000
 
 
-def asked():
+def asked() -> argparse.Namespace:
     parser = argparse.ArgumentParser(
         prog="mutants", description=__doc__, formatter_class=argparse.RawDescriptionHelpFormatter
     )
@@ -49,7 +50,7 @@ def asked():
     return words
 
 
-def mutants_by_crate(names, others):
+def mutants_by_crate(names: list[str], others: bool) -> dict[str, list[mutant_edits.Mutant]]:
     """Returns the mutants of these crates, or of all, by crate."""
     found = {}
     for name in names or sorted(os.listdir(f"{crates.TOP}/crates")):
@@ -57,7 +58,7 @@ def mutants_by_crate(names, others):
     return {name: mutants for name, mutants in found.items() if mutants}
 
 
-def has_libraries(clone, names):
+def has_libraries(clone: toolchain.Clone, names: list[str]) -> bool:
     """Whether `rt ci` left these libraries in a clone, and they are newer than what they are made of."""
     made = [toolchain.rlib(clone.top, it) for it in names]
     if not all(map(os.path.isdir, made)) or any(toolchain.is_of_another_command(clone.top, it) for it in names):
@@ -67,7 +68,7 @@ def has_libraries(clone, names):
     return clone.are_of_one_run(clone.top, toolchain.kit(), names)
 
 
-def with_libraries(clone, tried, room):
+def with_libraries(clone: toolchain.Clone, tried: Iterable[str], room: str) -> toolchain.Clone | None:
     """Returns a clone with the libraries below these crates: this one, or a copy in which they are built now;
     None if they cannot be built."""
     names = [*dict.fromkeys(it for crate in tried for it in clone.below(crate)[:-1])]
@@ -86,7 +87,7 @@ def with_libraries(clone, tried, room):
 class Copy(toolchain.Clone):
     """A copy that has the libraries of a clone, and the lines of these crates."""
 
-    def __init__(self, clone, top, names):
+    def __init__(self, clone: toolchain.Clone, top: str, names: list[str]) -> None:
         super().__init__(top)
         self.crates = {it: clone.crates[it] for it in names}
 
@@ -94,22 +95,22 @@ class Copy(toolchain.Clone):
 class Results:
     """What the mutants came to."""
 
-    def __init__(self, keys, notes):
+    def __init__(self, keys: mutant_notes.Keys, notes: mutant_notes.Notes) -> None:
         self.keys, self.notes = keys, notes
         self.passed = self.failed = 0
         self.lock = threading.Lock()
 
-    def say(self, text):
+    def say(self, text: str) -> None:
         with self.lock:
             print(text, flush=True)
 
-    def add(self, result):
+    def add(self, result: mutant_rounds.Result) -> None:
         with self.lock:
             print(result.line(), flush=True)
             self.passed += result.is_refused
             self.failed += not result.is_refused
 
-    def not_noted(self, mutants, anew):
+    def not_noted(self, mutants: list[mutant_edits.Mutant], anew: bool) -> list[mutant_edits.Mutant]:
         """Returns the mutants that are not noted as refused, or all if they are tried anew. The others are
         counted."""
         left = []
@@ -123,17 +124,17 @@ class Results:
                 left.append(it)
         return left
 
-    def is_unchanged(self, name):
+    def is_unchanged(self, name: str) -> bool:
         """Whether the sources of a crate and of those below it are as they were."""
         now = mutant_notes.Keys(self.keys.clone, "")
         return all(now.of_crate(it) == self.keys.of_crate(it) for it in now.clone.below(name))
 
 
-def try_crate(prover, source, mutants, results):
+def try_crate(prover: mutant_prover.Prover, source: str, mutants: list[mutant_edits.Mutant], results: Results) -> float:
     """Tries the mutants of a crate, notes what is refused, and returns the processor seconds."""
     refused = []
 
-    def say(result):
+    def say(result: mutant_rounds.Result) -> None:
         if result.is_refused:
             refused.append(result)
         results.add(result)
@@ -149,16 +150,17 @@ def try_crate(prover, source, mutants, results):
     return trial.seconds
 
 
-def dearest_first(clone, by_crate):
+def dearest_first(clone: toolchain.Clone, by_crate: Mapping[str, list[mutant_edits.Mutant]]) -> list[str]:
     """Returns the crates by what their mutants are likely to cost: their number, times the size of the code."""
-    def cost(name):
+    def cost(name: str) -> int:
         texts = mutant_edits.texts_of(f"{clone.top}/crates/{name}", mutant_edits.PARTS)
         return len(by_crate[name]) * sum(map(len, texts.values()))
 
     return sorted(by_crate, key=cost, reverse=True)
 
 
-def try_all(clone, over, by_crate, results):
+def try_all(clone: toolchain.Clone, over: toolchain.Clone, by_crate: Mapping[str, list[mutant_edits.Mutant]],
+            results: Results) -> float:
     """Tries the mutants of several crates at once, and returns the processor seconds."""
     lanes = max(1, min(machine.processors(), machine.free() // MEMORY_EACH, len(by_crate)))
     kit, processes, tries = toolchain.kit(), mutant_prover.Processes(), []
@@ -175,7 +177,7 @@ def try_all(clone, over, by_crate, results):
                 processes.stop()
 
 
-def main():
+def main() -> int:
     words = asked()
     if not toolchain.has_toolchain("mutants"):
         return toolchain.NOT_BUILT

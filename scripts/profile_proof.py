@@ -31,6 +31,7 @@ import subprocess
 import sys
 import tempfile
 import time
+from collections.abc import Mapping
 from typing import NamedTuple
 
 from scripts import toolchain, usage
@@ -55,7 +56,7 @@ class Part(NamedTuple):
     seconds: float = 0.0
 
 
-def part_of(crate, module, at=0.0):
+def part_of(crate: str, module: str, at: float = 0.0) -> Part:
     """Returns the part that a module of the prover is, by its name."""
     name = re.sub(rf"^Rattle-{crate}-|\.decls$", "", module)
     library, _, path = name.partition(".")
@@ -78,7 +79,7 @@ def part_of(crate, module, at=0.0):
     return Part("::".join(function), kind, at)
 
 
-def used_by(session):
+def used_by(session: int) -> float:
     """Returns the processor seconds of the processes of a session, with those that have ended below them."""
     seconds = 0.0
     for it in os.listdir("/proc"):
@@ -94,15 +95,15 @@ def used_by(session):
 class Clock:
     """What a process has used of a processor, by the time of day."""
 
-    def __init__(self, began):
+    def __init__(self, began: float) -> None:
         self.times, self.used = [began], [0.0]
 
-    def note(self, now, seconds):
+    def note(self, now: float, seconds: float) -> None:
         self.times.append(now)
         # A process that has ended just now gives no figure.
         self.used.append(max(seconds, self.used[-1]))
 
-    def at(self, time_of_day):
+    def at(self, time_of_day: float) -> float:
         """Returns the seconds at this time, between those that were noted before and after it."""
         place = bisect.bisect_left(self.times, time_of_day)
         if place == 0:
@@ -114,12 +115,12 @@ class Clock:
         return first + (second - first) * (time_of_day - before) / (after - before)
 
 
-def run(command, folder, log):
+def run(command: list[str], folder: str, log: str) -> tuple[int, Clock]:
     """Runs a command in a folder, and returns its status and the clock of its process."""
     clock = Clock(time.time())
     with open(log, "wb") as file:
-        how = {"stdin": subprocess.DEVNULL, "stdout": file, "stderr": subprocess.STDOUT}
-        process = subprocess.Popen(command, cwd=folder, start_new_session=True, **how)
+        process = subprocess.Popen(command, cwd=folder, start_new_session=True, stdin=subprocess.DEVNULL,
+                                   stdout=file, stderr=subprocess.STDOUT)
         try:
             while process.poll() is None:
                 clock.note(time.time(), used_by(process.pid))
@@ -129,7 +130,7 @@ def run(command, folder, log):
     return process.returncode, clock
 
 
-def parts_in(folder, crate, clock):
+def parts_in(folder: str, crate: str, clock: Clock) -> list[Part]:
     """Returns the parts of a proof, in the order in which they were written below a folder."""
     found = []
     for at, _, names in os.walk(folder):
@@ -145,7 +146,7 @@ def parts_in(folder, crate, clock):
     return found
 
 
-def words_of(clone, crate, below, folder):
+def words_of(clone: toolchain.Clone, crate: str, below: str, folder: str) -> list[str]:
     """Returns the words with which the toolchain in this folder checks a crate over the libraries in a room."""
     found = clone.crates[crate]
     is_program = os.path.exists(f"{clone.top}/crates/{crate}/src/main.rt")
@@ -164,16 +165,16 @@ def words_of(clone, crate, below, folder):
     return words
 
 
-def rows(seconds, whole, count):
+def rows(seconds: Mapping[str, float], whole: float, count: int) -> list[str]:
     """Returns lines for the dearest of some things, by their names."""
     order = sorted(seconds.items(), key=lambda it: -it[1])
     return [f"{took:8.1f} s {took / whole:5.0%}  {name}" for name, took in order[:count] if took >= 0.05]
 
 
-def summary(crate, parts, clock):
+def summary(crate: str, parts: list[Part], clock: Clock) -> tuple[list[str], list[str]]:
     """Returns the lines that say what a crate's proof took, and its functions that took more than a tenth."""
     whole = clock.used[-1] or 1.0
-    functions, kinds = collections.Counter(), collections.Counter()
+    functions, kinds = collections.defaultdict[str, float](float), collections.defaultdict[str, float](float)
     for it in parts:
         kinds[it.kind] += it.seconds
         if it.function:
@@ -186,22 +187,22 @@ def summary(crate, parts, clock):
     return lines, [f"{crate}: {it} ({functions[it] / whole:.0%})" for it in dear]
 
 
-def libraries(clone, asked, room):
+def libraries(clone: toolchain.Clone, asked: list[str], room: str) -> bool:
     """Proves the libraries below some crates in a room, or takes what is kept of them. Returns whether
     they are there."""
     names = [it for crate in asked for it in clone.below(crate)[:-1]]
     if not names:
         return True
-    clone.copy(room, dict.fromkeys(names))
+    clone.copy(room, [*dict.fromkeys(names)])
     with open(f"{room}/log", "wb") as log:
-        how = {"stdin": subprocess.DEVNULL, "stdout": log, "stderr": subprocess.STDOUT, "check": False}
-        status = subprocess.run(["rt", "ci"], cwd=room, **how).returncode
+        status = subprocess.run(["rt", "ci"], cwd=room, stdin=subprocess.DEVNULL, stdout=log,
+                                stderr=subprocess.STDOUT, check=False).returncode
     if status:
         sys.stderr.write(toolchain.last_lines(f"{room}/log"))
     return not status
 
 
-def profile(clone, crate, room, folder):
+def profile(clone: toolchain.Clone, crate: str, room: str, folder: str) -> list[str] | None:
     """Proves a crate, prints what that took, and returns its dear functions; None if it is not proved."""
     own, kept = f"{room}/{crate}", f"{room}/kept/{crate}"
     os.makedirs(kept)
@@ -218,7 +219,7 @@ def profile(clone, crate, room, folder):
     return dear
 
 
-def main():
+def main() -> int:
     asked, clone = usage.words(__doc__, least=1), toolchain.Clone()
     unknown = [it for it in asked if it not in clone.crates]
     if unknown:

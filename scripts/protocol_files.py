@@ -125,7 +125,7 @@ class Text(NamedTuple):
 
     package: str
     path: str
-    names: tuple = ()
+    names: tuple[str, ...] = ()
 
 
 PROTOCOLS = {
@@ -135,12 +135,12 @@ PROTOCOLS = {
 }
 
 
-def names_of(name):
+def names_of(name: str) -> tuple[str, ...]:
     """The texts whose interfaces a text names."""
     return BY_HAND[name] if name in BY_HAND else PROTOCOLS[name].names
 
 
-def folder(package):
+def folder(package: str) -> str:
     """The folder of a package's files. That of wayland-protocols is found as the Makefile of the examples
     finds it."""
     pattern = PACKAGES[package][0]
@@ -151,14 +151,14 @@ def folder(package):
     return next(iter(sorted(glob.glob(pattern))), pattern)
 
 
-def found():
+def found() -> dict[str, str]:
     """The files that are there, by the names of their texts."""
     folders = {it: folder(it) for it in PACKAGES}
     paths = {name: os.path.join(folders[it.package], it.path) for name, it in PROTOCOLS.items()}
     return {name: path for name, path in sorted(paths.items()) if os.path.exists(path)}
 
 
-def without_text():
+def without_text() -> list[tuple[str, str]]:
     """The files in the packages' folders from which no text is made: their packages and paths."""
     made = {*found().values()}
     return [

@@ -28,6 +28,7 @@ import os
 import shutil
 import sys
 import time
+from collections.abc import Iterable, Mapping
 from typing import NamedTuple
 
 from scripts import crates
@@ -47,23 +48,23 @@ class Record(NamedTuple):
 
     how: str
     toolchain: str
-    sums: dict
+    sums: dict[str, str]
 
-    def is_for_a_package(self):
+    def is_for_a_package(self) -> bool:
         return self.how in (WHOLE, TAKEN)
 
 
-def place(top=crates.TOP):
+def place(top: str = crates.TOP) -> str:
     """The folder of the archive that was built in a tree."""
     return f"{top}/crates/{LIBRARY}/out"
 
 
-def sum_of_file(path):
+def sum_of_file(path: str) -> str:
     with open(path, "rb") as file:
         return hashlib.sha256(file.read()).hexdigest()
 
 
-def of_sources(listed, tops):
+def of_sources(listed: Mapping[str, crates.Crate], tops: Mapping[str, str]) -> dict[str, str]:
     """The checksums of what waywire_c is made from: each crate's files, from the tree or the copy in which
     it lies, and its line of crates.txt."""
     found = {}
@@ -78,24 +79,24 @@ def of_sources(listed, tops):
     return found
 
 
-def of_tree(top):
+def of_tree(top: str) -> dict[str, str]:
     listed = crates.read(top)
     return of_sources(listed, dict.fromkeys(listed, top))
 
 
-def of_archives(folder):
+def of_archives(folder: str) -> dict[str, str]:
     """The checksums of the two archives in a folder."""
     paths = {it: f"{folder}/{it}" for it in (ARCHIVE, MEMORY)}
     return {it: sum_of_file(path) for it, path in paths.items() if os.path.isfile(path)}
 
 
-def write(folder, record):
+def write(folder: str, record: Record) -> None:
     with open(f"{folder}/{SUMS}", "w", encoding="utf-8") as file:
         file.write(f"{record.how} {record.toolchain}\n")
         file.writelines(f"{found}  {name}\n" for name, found in record.sums.items())
 
 
-def read(folder):
+def read(folder: str) -> Record | None:
     """The record of a folder; None if it has none."""
     with contextlib.suppress(OSError), open(f"{folder}/{SUMS}", encoding="utf-8") as file:
         how, _, toolchain = file.readline().strip().partition(" ")
@@ -104,7 +105,14 @@ def read(folder):
     return None
 
 
-def leave(folder, record, archive, memory, then):
+def record_of(folder: str) -> Record:
+    """The record of a folder that has one."""
+    found = read(folder)
+    assert found
+    return found
+
+
+def leave(folder: str, record: Record, archive: str, memory: str, then: int) -> None:
     """Puts an archive, the memory functions and their record into a folder, with this time in nanoseconds. A
     run that is ended here leaves no archive."""
     os.makedirs(folder, exist_ok=True)
@@ -118,7 +126,7 @@ def leave(folder, record, archive, memory, then):
     os.replace(f"{folder}/{ARCHIVE}.new", f"{folder}/{ARCHIVE}")
 
 
-def difference(folder, record, top):
+def difference(folder: str, record: Record, top: str) -> str | None:
     """The first file of which a record has another checksum than a tree has, or the archives beside it; None
     if there is none."""
     there = {**of_archives(folder), **of_tree(top)}
@@ -128,7 +136,7 @@ def difference(folder, record, top):
     return None
 
 
-def why_not(folder, top):
+def why_not(folder: str, top: str) -> str | None:
     """Why an archive in a folder is not one that was proved from the sources of a tree; None if it is."""
     record = read(folder)
     if not record:
@@ -139,27 +147,27 @@ def why_not(folder, top):
     return name and f"it was proved with another {name}"
 
 
-def say(what):
+def say(what: str) -> None:
     print(f"make: {what}", file=sys.stderr, flush=True)
 
 
-def check(folder, top=crates.TOP):
+def check(folder: str, top: str = crates.TOP) -> int:
     why = why_not(folder, top)
     if why:
         say(f"the archive of {folder} is not taken: {why}")
         return 1
-    say(f"{folder} has an archive that was proved from these sources, with {read(folder).toolchain}")
+    say(f"{folder} has an archive that was proved from these sources, with {record_of(folder).toolchain}")
     return 0
 
 
-def take(folders, top=crates.TOP):
+def take(folders: Iterable[str], top: str = crates.TOP) -> int:
     """Takes the archive of the first folder that has one for this tree. A folder without an archive is not
     mentioned."""
     began = time.time_ns()
     for folder in (it for it in dict.fromkeys(folders) if os.path.exists(f"{it}/{SUMS}")):
         if check(folder, top):
             continue
-        record = read(folder)
+        record = record_of(folder)
         sources = {name: it for name, it in record.sums.items() if name not in (ARCHIVE, MEMORY)}
         taken = Record(TAKEN, record.toolchain, sources)
         leave(place(top), taken, f"{folder}/{ARCHIVE}", f"{folder}/{MEMORY}", began)
@@ -168,7 +176,7 @@ def take(folders, top=crates.TOP):
     return 1
 
 
-def pack(folder, top=crates.TOP):
+def pack(folder: str, top: str = crates.TOP) -> int:
     """Puts the archive of this tree into a folder, if it can go into a package."""
     why = why_not(place(top), top)
     if why:
@@ -177,13 +185,13 @@ def pack(folder, top=crates.TOP):
     os.makedirs(folder, exist_ok=True)
     for name in (ARCHIVE, MEMORY):
         shutil.copyfile(f"{place(top)}/{name}", f"{folder}/{name}")
-    write(folder, read(place(top))._replace(how=WHOLE))
+    write(folder, record_of(place(top))._replace(how=WHOLE))
     for name in (ARCHIVE, MEMORY, SUMS):
         os.chmod(f"{folder}/{name}", 0o644)
     return 0
 
 
-def main(words):
+def main(words: list[str]) -> int:
     verb, folders = words[:1], words[1:]
     if verb == ["take"]:
         return take(folders)

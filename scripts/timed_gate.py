@@ -27,6 +27,8 @@ import sys
 import tempfile
 import threading
 import time
+from collections.abc import Mapping
+from typing import Any
 
 from scripts import crates, machine, toolchain, usage
 
@@ -40,7 +42,7 @@ LEFT_OUT = (".git", "out", "target", "__pycache__", "must-fail")
 MEMORY_EACH = 5_500_000_000
 
 
-def part_of(process):
+def part_of(process: str) -> tuple[str, str] | None:
     """Returns the crate and the part of the gate that a process of the prover works on."""
     words = machine.read(f"{process}/cmdline").decode(errors="replace").split("\0")
     if "--crate-name" not in words or os.path.basename(words[0]) != "rattle":
@@ -54,7 +56,7 @@ def part_of(process):
     return crate, "mutants" if is_edited else "proof"
 
 
-def seconds_of(process):
+def seconds_of(process: str) -> tuple[bytes, float] | None:
     """Returns when a process began, which tells it from a later one, and its processor seconds."""
     fields = machine.read(f"{process}/stat").rpartition(b")")[2].split()
     if len(fields) < 20:
@@ -62,33 +64,35 @@ def seconds_of(process):
     return fields[19], (int(fields[11]) + int(fields[12])) / TICKS
 
 
-def parent_of(process):
+def parent_of(process: str) -> str | None:
     fields = machine.read(f"{process}/stat").rpartition(b")")[2].split()
     return f"/proc/{int(fields[1])}" if len(fields) > 1 else None
 
 
-def is_below(process, parents):
+def is_below(process: str, parents: dict[str, str | None]) -> bool:
     """Returns whether this script started the process, itself or through others."""
-    while process in parents:
-        if process == f"/proc/{os.getpid()}":
+    at: str | None = process
+    while at in parents:
+        if at == f"/proc/{os.getpid()}":
             return True
-        process = parents[process]
+        at = parents[at]
     return False
 
 
 class Meter(threading.Thread):
     """Notes what each process of the prover has taken so far."""
 
-    def __init__(self):
+    def __init__(self) -> None:
         super().__init__(daemon=True)
-        self.taken = {}
+        # The part of the gate and the seconds of each process, by when it began too.
+        self.taken: dict[tuple[str, bytes], tuple[tuple[str, str], float]] = {}
         self.is_over = threading.Event()
 
-    def run(self):
+    def run(self) -> None:
         while not self.is_over.wait(0.5):
             self.look()
 
-    def look(self):
+    def look(self) -> None:
         processes = glob.glob("/proc/[0-9]*")
         parents = {it: parent_of(it) for it in processes}
         for process in processes:
@@ -97,15 +101,15 @@ class Meter(threading.Thread):
                 began, seconds = found
                 self.taken[process, began] = part, seconds
 
-    def minutes(self):
-        table = {}
+    def minutes(self) -> dict[str, dict[str, float]]:
+        table: dict[str, dict[str, float]] = {}
         for (crate, part), seconds in self.taken.values():
             row = table.setdefault(crate, dict.fromkeys(PARTS, 0.0))
             row[part] += seconds / 60
         return table
 
 
-def rows(table, names):
+def rows(table: Mapping[str, Mapping[str, float]], names: list[str]) -> list[str]:
     """Returns the lines of the table, the crates in this order, with a line for all."""
     lines = ["| Crate | Proof | Mutants | In all |", "|---|---|---|---|"]
     order = [it for it in names if it in table] + sorted(it for it in table if it not in names)
@@ -117,18 +121,18 @@ def rows(table, names):
     return [*lines, f"| All | {' | '.join(f'{it:.1f}' for it in sums)} | {sum(sums):.1f} |"]
 
 
-def has(crate, part):
+def has(crate: str, part: str) -> bool:
     """Returns whether a crate has this part of the gate."""
     return part == "proof" or bool(glob.glob(f"{crates.TOP}/crates/{crate}/must-fail/*.edit"))
 
 
-def lacking(table, names):
+def lacking(table: Mapping[str, Mapping[str, float]], names: list[str]) -> list[str]:
     """Returns the parts of the gate that have no figure, each with its crate."""
     owed = [(it, part) for it in names for part in PARTS if has(it, part)]
     return [f"{it} ({part})" for it, part in owed if not table.get(it, {}).get(part)]
 
 
-def write(text):
+def write(text: str) -> None:
     """Puts the figures between the two marks of docs/GATE.md."""
     with open(PAGE, encoding="utf-8") as file:
         page = file.read()
@@ -137,23 +141,23 @@ def write(text):
         file.write(before + BEGINS + text + ENDS + after)
 
 
-def commit():
+def commit() -> str:
     """Returns the commit that the tree was at, marked where a file differs from it."""
     words = ["git", "describe", "--always", "--dirty", "--match="]
-    how = {"cwd": crates.TOP, "stdout": subprocess.PIPE, "text": True, "check": False}
+    how: dict[str, Any] = {"cwd": crates.TOP, "stdout": subprocess.PIPE, "text": True, "check": False}
     return subprocess.run(words, **how).stdout.strip()
 
 
-def takes_anew():
+def takes_anew() -> bool:
     """Returns whether this toolchain's `rt ci` knows the word `--anew`. It is asked where there is
     no crate: what it does not know makes it print how it is used."""
-    how = {"stdin": subprocess.DEVNULL, "stdout": subprocess.PIPE, "stderr": subprocess.STDOUT}
     with tempfile.TemporaryDirectory() as room:
-        ran = subprocess.run(["rt", "ci", "--anew"], cwd=room, check=False, **how)
+        ran = subprocess.run(["rt", "ci", "--anew"], cwd=room, check=False, stdin=subprocess.DEVNULL,
+                             stdout=subprocess.PIPE, stderr=subprocess.STDOUT)
     return b"usage:" not in ran.stdout
 
 
-def in_lanes():
+def in_lanes() -> Mapping[str, str]:
     """Returns the environment in which `rt` proves each crate in one process, as many crates at
     once as there are processors. Left to itself it gives a crate more processes where processors
     are idle, which take more processor time in all (docs/DECISIONS.md). With RT_JOBS it does not
@@ -168,10 +172,12 @@ class Measured:
     """What commands came to: the first status that is not 0, the table, and the minutes of the processor and of the
     clock of each."""
 
-    def __init__(self):
-        self.status, self.table, self.spent = 0, {}, []
+    def __init__(self) -> None:
+        self.status = 0
+        self.table: dict[str, dict[str, float]] = {}
+        self.spent: list[tuple[float, float]] = []
 
-    def run(self, command, folder=crates.TOP, env=None):
+    def run(self, command: list[str], folder: str = crates.TOP, env: Mapping[str, str] | None = None) -> None:
         """Runs a command, unless one before it failed."""
         if self.status:
             return
@@ -188,13 +194,13 @@ class Measured:
             for part, minutes in row.items():
                 own[part] += minutes
 
-    def told(self, number):
+    def told(self, number: int) -> str:
         """How long the command with this number took."""
         whole, wall = self.spent[number]
         return f"{whole:.1f} processor minutes in {wall:.1f} minutes"
 
 
-def take_back(clone, tree, began):
+def take_back(clone: toolchain.Clone, tree: str, began: str) -> None:
     """Puts what the gate built in a copy of the tree in its place in the clone, as old as the beginning of the run.
     A library there of another command of `rt` stays."""
     for name in clone.crates:
@@ -210,7 +216,7 @@ def take_back(clone, tree, began):
             toolchain.put(program, clone.proved(name), began)
 
 
-def run_gate(run, env, anew):
+def run_gate(run: Measured, env: Mapping[str, str] | None, anew: bool) -> None:
     """Runs `rt ci` over a copy of the tree without mutants. A program of an earlier tree is removed, so that no test
     takes it for that of this one."""
     clone = toolchain.Clone()
@@ -226,7 +232,7 @@ def run_gate(run, env, anew):
         take_back(clone, tree, began)
 
 
-def figures(run, env, day, tree):
+def figures(run: Measured, env: Mapping[str, str], day: str, tree: str) -> str:
     """The text for the page: what all took, and the table."""
     gate, mutants, rattle = map(run.told, range(3))
     lanes = f" with RT_JOBS={env['RT_JOBS']}" if "RT_JOBS" in env else ""
@@ -242,7 +248,7 @@ def figures(run, env, day, tree):
     return "\n".join([*lines, "", *rows(run.table, [*crates.read()]), ""])
 
 
-def write_figures(env):
+def write_figures(env: Mapping[str, str]) -> int:
     """Measures all with nothing kept, and writes the figures to docs/GATE.md. Returns the exit status."""
     day, tree, run = datetime.date.today().isoformat(), commit(), Measured()
     run_gate(run, env, takes_anew())
@@ -259,7 +265,7 @@ def write_figures(env):
     return 0
 
 
-def main():
+def main() -> int:
     command = usage.words(__doc__, "--write", most=None, is_command=True)
     env, run = in_lanes(), Measured()
     if command == ["--write"]:

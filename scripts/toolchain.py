@@ -40,7 +40,8 @@ import subprocess
 import sys
 import tempfile
 import time
-from typing import Any
+from collections.abc import Iterable, Iterator
+from typing import Any, NoReturn
 
 from scripts import crates, proved_archive
 
@@ -48,39 +49,40 @@ ALL = ("src", "specs", "proofs")
 LIBRARY = "waywire_c"
 # The status if nothing could be built.
 NOT_BUILT = 70
+Process = subprocess.Popen[bytes]
 QUIET: dict[str, Any] = {"stdin": subprocess.DEVNULL, "stderr": subprocess.STDOUT}
 
 
-def kit():
+def kit() -> str:
     """The folder of the toolchain."""
     ran = subprocess.run(["rt", "doc"], stdout=subprocess.PIPE, text=True, check=True)
     return os.path.dirname(ran.stdout.strip())
 
 
-def version():
+def version() -> str:
     """The name of the toolchain, and that of its logic."""
-    how = {"stdout": subprocess.PIPE, "stderr": subprocess.DEVNULL, "text": True, "check": False}
+    how: dict[str, Any] = {"stdout": subprocess.PIPE, "stderr": subprocess.DEVNULL, "text": True, "check": False}
     return subprocess.run(["rt", "version"], **how).stdout.strip()
 
 
-def rlib(top, crate):
+def rlib(top: str, crate: str) -> str:
     """The library of a crate as a run of `rt ci` over the repository in `top` leaves it."""
     return f"{top}/crates/{crate}/out/rlib/{crate}.rlib"
 
 
-def format_of(library):
+def format_of(library: str) -> bytes:
     """The text of a library that says what it was built by and over; nothing if it has none."""
     with contextlib.suppress(OSError), open(f"{library}/format", "rb") as file:
         return file.read()
     return b""
 
 
-def is_of_another_command(top, crate):
+def is_of_another_command(top: str, crate: str) -> bool:
     """Whether the file in the place of the gate's library was built by another command of rt."""
     return os.path.exists(f"{top}/crates/{crate}/out/rlib/stamp")
 
 
-def put(made, place, began):
+def put(made: str, place: str, began: str) -> None:
     """Puts a program in its place, as old as the file with which its making began."""
     with replacing(place) as new:
         shutil.copyfile(made, new)
@@ -89,7 +91,7 @@ def put(made, place, began):
 
 
 @contextlib.contextmanager
-def replacing(place):
+def replacing(place: str) -> Iterator[str]:
     """A file to write, of this process alone, that then takes the place of another."""
     handle, new = tempfile.mkstemp(dir=os.path.dirname(place))
     os.close(handle)
@@ -101,12 +103,12 @@ def replacing(place):
             os.unlink(new)
 
 
-def as_old_as(path, other):
+def as_old_as(path: str, other: str) -> None:
     at = os.stat(other).st_mtime_ns
     os.utime(path, ns=(at, at))
 
 
-def end(processes):
+def end(processes: Iterable[Process]) -> None:
     """Ends processes, by force those that have not ended after twenty seconds."""
     for it in processes:
         it.terminate()
@@ -121,27 +123,27 @@ def end(processes):
 class Clone:
     """A clone of the repository: its crates, and what runs have left in it."""
 
-    def __init__(self, top=crates.TOP):
+    def __init__(self, top: str = crates.TOP) -> None:
         self.top = top
         self.crates = crates.read(top)
         # The libraries of a run over a copy. They are one file since they hold sources, which the
         # gate refuses where no crate has them.
         self.packed = f"{top}/out/libraries.tar"
 
-    def below(self, crate):
+    def below(self, crate: str) -> list[str]:
         """All crates that a crate uses, directly or not, lowest first, and the crate itself last."""
         return crates.lowest_first(self.crates, crate)
 
-    def libraries(self):
+    def libraries(self) -> list[str]:
         return self.below(LIBRARY)[:-1]
 
-    def out(self, crate):
+    def out(self, crate: str) -> str:
         return f"{self.top}/crates/{crate}/out"
 
-    def proved(self, crate):
+    def proved(self, crate: str) -> str:
         return f"{self.out(crate)}/{crate}"
 
-    def is_older(self, path, names):
+    def is_older(self, path: str, names: list[str]) -> bool:
         """Whether a file is older than a file or a folder in these parts of some crates."""
         before = os.stat(path).st_mtime_ns
         for folder in (f"{self.top}/crates/{name}/{part}" for name in names for part in ALL):
@@ -151,11 +153,11 @@ class Clone:
                     return True
         return False
 
-    def is_old(self, program, crate):
+    def is_old(self, program: str, crate: str) -> bool:
         """Whether a program is not there, or older than what it is made of."""
         return not os.access(program, os.X_OK) or self.is_older(program, self.below(crate))
 
-    def copy(self, room, names):
+    def copy(self, room: str, names: list[str]) -> None:
         """Copies crates into a room, without mutants, and makes a file `began` that is as old as
         the beginning."""
         os.makedirs(f"{room}/crates")
@@ -165,13 +167,13 @@ class Clone:
             os.mkdir(f"{room}/crates/{name}")
             for part in glob.glob("*", root_dir=folder):
                 if part not in ("out", "must-fail"):
-                    copy = shutil.copytree if os.path.isdir(f"{folder}/{part}") else shutil.copy
+                    copy: Any = shutil.copytree if os.path.isdir(f"{folder}/{part}") else shutil.copy
                     copy(f"{folder}/{part}", f"{room}/crates/{name}/{part}")
         with open(f"{room}/crates.txt", "w", encoding="utf-8") as file:
             file.writelines(f"{self.crates[name].line}\n" for name in names)
         shutil.copy(f"{self.top}/HANDLES", room)
 
-    def pack_libraries(self, room):
+    def pack_libraries(self, room: str) -> bool:
         """Packs the libraries of a run over a copy, if it left all of them, as old as that run's
         beginning. Returns whether what there was could be written."""
         made = [rlib(".", it) for it in self.libraries()]
@@ -186,7 +188,7 @@ class Clone:
             return False
         return True
 
-    def copy_of_the_gate(self, room):
+    def copy_of_the_gate(self, room: str) -> bool:
         """Copies the libraries that the gate left into a room, if each crate has one, and the
         oldest of them is newer than all sources. Returns whether it did."""
         names = self.libraries()
@@ -201,7 +203,7 @@ class Clone:
             shutil.copytree(rlib(self.top, name), rlib(room, name), symlinks=True)
         return True
 
-    def copy_of_the_packed(self, room):
+    def copy_of_the_packed(self, room: str) -> bool:
         """Unpacks those of a run over a copy into a room, if they are newer than all sources.
         Returns whether it did."""
         if not os.path.isfile(self.packed) or self.is_older(self.packed, self.libraries()):
@@ -209,19 +211,19 @@ class Clone:
         ran = subprocess.run(["tar", "-C", room, "-xf", self.packed], check=False)
         return not ran.returncode
 
-    def are_of_one_run(self, room, folder, names=None):
+    def are_of_one_run(self, room: str, folder: str, names: list[str] | None = None) -> bool:
         """Whether the libraries in a room are of one run of the toolchain in this folder. Each has
         a file `format`, which names the compiler, as it does in the toolchain's own libraries, and
         has the checksum of that file of each library that this one was built over."""
         formats = {it: format_of(rlib(room, it)) for it in (self.libraries() if names is None else names)}
         sums = {it: hashlib.sha256(text).hexdigest() for it, text in formats.items()}
-        lines = [format_of(f"{folder}/rlibs/std.rlib"), *formats.values()]
-        lines = [it.split() for text in lines for it in text.decode(errors="replace").splitlines()]
+        texts = [format_of(f"{folder}/rlibs/std.rlib"), *formats.values()]
+        lines = [it.split() for text in texts for it in text.decode(errors="replace").splitlines()]
         compilers = {it[1] for it in lines if it[:1] == ["rattle-build"] and len(it) > 1}
-        over = [it[1:3] for it in lines if it[:1] == ["over"] and len(it) > 2]
+        over = [(it[1], it[2]) for it in lines if it[:1] == ["over"] and len(it) > 2]
         return len(compilers) < 2 and all(sums.get(it, own) == own for it, own in over)
 
-    def take_libraries(self, room, folder):
+    def take_libraries(self, room: str, folder: str) -> str | None:
         """Puts the libraries of one run into a room, and returns where that run left them; None if this clone
         has no libraries for the toolchain in this folder."""
         places = {"crates/NAME/out/rlib": self.copy_of_the_gate,
@@ -240,23 +242,24 @@ class Build:
     clone. The file of times has, of the last run that proved all of its crates, each crate and the
     seconds since the run began."""
 
-    def __init__(self, clone, crate):
+    def __init__(self, clone: Clone, crate: str) -> None:
         self.clone, self.crate, self.who = clone, crate, who(crate)
         self.log, self.times = f"{clone.out(crate)}/build.log", f"{clone.out(crate)}/build.times"
-        self.begin, self.names, self.told = time.monotonic(), clone.below(crate), []
+        self.begin, self.names = time.monotonic(), clone.below(crate)
+        self.told: list[tuple[str, int]] = []
         self.is_over_kept = False
         os.makedirs(clone.out(crate), exist_ok=True)
         self.before = {}
         with contextlib.suppress(OSError), open(self.times, encoding="utf-8") as file:
             self.before = dict(it.split() for it in file if len(it.split()) == 2)
 
-    def say(self, what):
+    def say(self, what: str) -> None:
         print(f"{self.who}: {what}", file=sys.stderr, flush=True)
 
-    def seconds(self):
+    def seconds(self) -> int:
         return int(time.monotonic() - self.begin)
 
-    def begins(self, what):
+    def begins(self, what: str) -> None:
         """Says what is known of a run before it begins."""
         open(self.log, "w", encoding="utf-8").close()
         number, known = len(self.names), "how long that takes here is not known yet"
@@ -264,7 +267,7 @@ class Build:
             known = f"from nothing it took {self.before['all']} s here"
         self.say(f"proving and building {what}: {number} crate{'s' * (number != 1)}; {known}")
 
-    def tell(self, crate):
+    def tell(self, crate: str) -> None:
         """Says of a crate that it is proved, and when it was before."""
         now, before = self.seconds(), ""
         self.told.append((crate, now))
@@ -272,19 +275,20 @@ class Build:
             before = f"; before after {self.before[crate]} of {self.before['all']} s"
         self.say(f"{crate} is proved ({len(self.told)} of {len(self.names)}, {now} s{before})")
 
-    def logged(self, words, folder):
+    def logged(self, words: list[str], folder: str) -> bool:
         """Runs a command in a folder, and returns whether it ended well."""
         with open(self.log, "ab") as log:
             ran = subprocess.run(words, cwd=folder, stdout=log, check=False, **QUIET)
         return not ran.returncode
 
-    def prove(self, room, names):
+    def prove(self, room: str, names: list[str]) -> bool:
         """Proves crates in a copy, each by a run of the gate's command, once those below it are proved. Then
         that command builds all of them there. Two runs go at once, because one run cannot use more than two
         processors; crates with the longest chain of crates above them come first. If the first run to end has
         status 2, the command takes no names, and one run proves all. Returns whether all are proved."""
         order = crates.longest_chain_first(self.clone.crates, self.crate)
-        left, running, proved, status = [it for it in order if it in names], {}, set(), 0
+        running: dict[Process, str] = {}
+        left, proved, status = [it for it in order if it in names], set[str](), 0
         try:
             while not status and (left or running):
                 self.start_some(room, left, running, proved)
@@ -303,7 +307,7 @@ class Build:
             return self.prove_at_once(room)
         return not status and self.logged(["rt", "ci"], room)
 
-    def start_some(self, room, left, running, proved):
+    def start_some(self, room: str, left: list[str], running: dict[Process, str], proved: set[str]) -> None:
         """Starts proofs until two run: of the first crates that are left and only use proved crates."""
         for crate in [*left]:
             uses = {it for it in self.clone.crates[crate].uses if it in self.clone.crates}
@@ -313,14 +317,14 @@ class Build:
                 running[one] = crate
                 left.remove(crate)
 
-    def prove_at_once(self, room):
+    def prove_at_once(self, room: str) -> bool:
         """Proves all crates in a copy by one run of the gate's command, and packs the libraries of
         that run. Returns whether all are proved."""
         self.say("rt ci takes no names of crates here: one run of it proves all of them")
         running = subprocess.Popen(["rt", "ci"], cwd=room, stdout=subprocess.PIPE, **QUIET)
         try:
             with open(self.log, "ab", buffering=0) as log:
-                for line in running.stdout:
+                for line in running.stdout or ():
                     log.write(line)
                     words = line.decode(errors="replace").split()
                     if words[:1] == ["rt:"] and words[2:] == ["proved"]:
@@ -333,7 +337,7 @@ class Build:
             self.say(f"the libraries are not kept for make: {packed} cannot be written")
         return not status
 
-    def ended(self, is_built, room):
+    def ended(self, is_built: bool, room: str) -> None:
         """Says how a run ended, and keeps its times if it proved each of its crates, and none was
         kept from an earlier run."""
         now = self.seconds()
@@ -347,7 +351,7 @@ class Build:
                 file.writelines(f"{name} {then}\n" for name, then in [*self.told, ("all", now)])
         self.say(f"proved and built in {now} s")
 
-    def program(self, room):
+    def program(self, room: str) -> bool:
         """Proves and builds a program. If a proof fails it leaves no program."""
         place = self.clone.proved(self.crate)
         self.begins("the program")
@@ -361,7 +365,7 @@ class Build:
         self.ended(is_built, room)
         return is_built
 
-    def library(self, room, is_whole=False):
+    def library(self, room: str, is_whole: bool = False) -> bool:
         """Proves a static library and builds its archive, over libraries that a run has left here,
         or that are proved now. What earlier runs have kept of it is used unless all is to be
         proved."""
@@ -385,7 +389,7 @@ class Build:
         self.ended(is_built, below)
         return is_built
 
-    def prove_archive(self, own, below, folder, is_whole, sums):
+    def prove_archive(self, own: str, below: str, folder: str, is_whole: bool, sums: dict[str, str]) -> bool:
         """Proves a static library over those in a room, and puts its archive into the clone with the
         checksums of its sources. Returns whether it is proved."""
         out = self.clone.out(self.crate)
@@ -407,7 +411,7 @@ class Build:
         self.is_over_kept = is_over_kept
         return True
 
-    def archive(self, made, below, folder, kept):
+    def archive(self, made: str, below: str, folder: str, kept: str) -> list[str]:
         """The command that proves a static library over those in a room, with the toolchain in this
         folder, and makes its archive. It uses and adds to what is kept."""
         words = ["--extern", f"std={folder}/rlibs/std.rlib", "-L", f"dependency={folder}/rlibs"]
@@ -425,12 +429,12 @@ class Build:
         ]
 
 
-def who(crate):
+def who(crate: str) -> str:
     """Who speaks in a run that makes a crate: the command that people call for it."""
     return "make" if crate == LIBRARY else crate
 
 
-def first_to_end(running):
+def first_to_end(running: dict[Process, str]) -> Process:
     """The first of some processes that has ended."""
     while True:
         for it in running:
@@ -439,32 +443,32 @@ def first_to_end(running):
         time.sleep(0.05)
 
 
-def last_lines(path):
+def last_lines(path: str) -> str:
     with open(path, encoding="utf-8", errors="replace") as file:
         return "".join(file.readlines()[-20:])
 
 
-def was_kept(room, crate):
+def was_kept(room: str, crate: str) -> bool:
     """Whether the proof of a crate in a copy was taken from an earlier run."""
     with contextlib.suppress(OSError), open(f"{room}/{crate}.log", "rb") as file:
         return any(it.startswith(f"rt: {crate} is kept: ".encode()) for it in file)
     return False
 
 
-def stop(number, _frame):
+def stop(number: int, _frame: object) -> NoReturn:
     """A signal that ends this process ends it as an error does: what it began ends with it, and its
     folders are removed."""
     sys.exit(128 + number)
 
 
-def build(clone, crate, is_whole=False):
+def build(clone: Clone, crate: str, is_whole: bool = False) -> bool:
     """Proves and builds what a crate makes, and returns whether it did."""
     with tempfile.TemporaryDirectory(ignore_cleanup_errors=True) as room:
         run = Build(clone, crate)
         return run.library(room, is_whole) if crate == LIBRARY else run.program(f"{room}/it")
 
 
-def has_toolchain(speaker):
+def has_toolchain(speaker: str) -> bool:
     """Whether the toolchain's command is there; if it is not, says so."""
     if shutil.which("rt"):
         return True
@@ -472,13 +476,12 @@ def has_toolchain(speaker):
     return False
 
 
-def main(words):
-    clone, asked, crate, more = Clone(), words[:1], words[1:2], words[2:]
-    is_whole = asked + crate + more == ["build", LIBRARY, "whole"]
-    if asked not in (["build"], ["proved"]) or not {*crate} & {*clone.crates} or more and not is_whole:
+def main(words: list[str]) -> int:
+    clone, is_whole = Clone(), words == ["build", LIBRARY, "whole"]
+    if not is_whole and (len(words) != 2 or words[0] not in ("build", "proved") or words[1] not in clone.crates):
         print(__doc__.strip(), file=sys.stderr)
         return 2
-    (asked,), (crate,) = asked, crate
+    asked, crate = words[:2]
     for number in (signal.SIGTERM, signal.SIGHUP, signal.SIGINT):
         signal.signal(number, stop)
     if asked == "build":

@@ -2,15 +2,16 @@
 
 import os
 import sys
+from typing import NoReturn
 
 
-def refuse(why):
+def refuse(why: str) -> NoReturn:
     """Ends the program with status 2."""
     print(f"{os.path.basename(sys.argv[0]).removesuffix('.py')}: {why}", file=sys.stderr)
     sys.exit(2)
 
 
-def words(page, *options, least=0, most=None, is_command=False):
+def words(page: str, *options: str, least: int = 0, most: int | None = None, is_command: bool = False) -> list[str]:
     """Returns the words of the command line. For -h and --help, prints the page, which is the program's docstring, and
     ends the program. Any other option than these ends it with status 2, and so do fewer than `least` other words, or
     more than `most`. An option that ends with '=' takes a value. If the words are a command, which has options of its

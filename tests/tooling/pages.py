@@ -93,6 +93,15 @@ class Lint(unittest.TestCase):
         self.lint(["shellcheck", "-x"], b"sh", ".sh")
 
 
+class Mypy(unittest.TestCase):
+    """The functions of the tools and of scripts/ have types (mypy.ini), and these fit."""
+
+    def test_types(self):
+        need("mypy")
+        ran = subprocess.run(["mypy", "--cache-dir=/dev/null"], capture_output=True, text=True, cwd=TOP, check=False)
+        self.assertEqual(ran.returncode, 0, ran.stdout + ran.stderr)
+
+
 class FrontPage(unittest.TestCase):
     """The page of the crate `wl` lists its calls and has the import of the program `hello`, and the README shows
     what programs print."""

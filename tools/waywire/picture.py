@@ -22,6 +22,8 @@ import shutil
 import subprocess
 import sys
 import tempfile
+from collections.abc import Iterable, Iterator, Sequence
+from typing import IO
 
 from .picture_columns import Columns, NoLines, NoSession
 
@@ -29,7 +31,7 @@ from .picture_columns import Columns, NoLines, NoSession
 TOOLS = os.path.dirname(os.path.dirname(os.path.realpath(__file__)))
 
 
-def inspector_of(given):
+def inspector_of(given: str | None) -> str:
     """The words that run the inspector: one that is named, beside this tool, built here, or found by PATH."""
     beside = (f"{os.path.dirname(os.path.abspath(sys.argv[0]))}/waywire-inspect", f"{TOOLS}/waywire-inspect",
               f"{TOOLS}/../../../bin/waywire-inspect", f"{TOOLS}/../out/c/waywire-inspect")
@@ -42,7 +44,7 @@ def inspector_of(given):
 
 
 @contextlib.contextmanager
-def lines_of(words):
+def lines_of(words: argparse.Namespace) -> Iterator[IO[bytes]]:
     """The inspector's lines: of a file that holds them, or of the inspector, which is run."""
     try:
         if words.json == "-":
@@ -66,6 +68,7 @@ def lines_of(words):
         except OSError as error:
             raise NoSession(f"cannot run {run[0]}") from error
         with tool, contextlib.suppress(NoLines):
+            assert tool.stdout
             yield tool.stdout
             if tool.wait() in (0, 1):
                 return
@@ -74,16 +77,16 @@ def lines_of(words):
         raise NoSession(first.partition(": ")[2] or f"{run[0]} ended with status {tool.returncode}")
 
 
-def part(name):
+def part(name: str) -> str:
     with open(f"{TOOLS}/picture/{name}", encoding="utf-8") as file:
         return file.read()
 
 
-def joined(title, packed):
+def joined(title: str, packed: str) -> Iterator[str]:
     """The page as parts of a text: page.html, with what it names put in its place, and the data."""
     scripts, hashes = [], []
 
-    def script(found):
+    def script(found: re.Match[str]) -> str:
         text = f"\n{part(found[1])}"
         scripts.append(f"<script>{text}</script>")
         hashes.append(base64.b64encode(hashlib.sha256(text.encode()).digest()).decode())
@@ -107,7 +110,7 @@ def joined(title, packed):
     yield page[at:]
 
 
-def write_whole(path, parts):
+def write_whole(path: str, parts: Iterable[str]) -> None:
     """Writes a file that is there whole or not at all. A pipe or a device is written as it is."""
     if os.path.exists(path) and not os.path.isfile(path):
         with open(path, "w", encoding="utf-8") as file:
@@ -127,7 +130,7 @@ def write_whole(path, parts):
         raise
 
 
-def words_of(arguments):
+def words_of(arguments: Sequence[str] | None) -> argparse.Namespace:
     parser = argparse.ArgumentParser(
         prog="waywire-picture", description="Makes a page of a recorded session, for a browser.",
         epilog="waywire-inspect --read reads the recording, and the page is made from its output.")
@@ -153,7 +156,7 @@ def words_of(arguments):
     return words
 
 
-def main(arguments=None):
+def main(arguments: Sequence[str] | None = None) -> int:
     words = words_of(arguments)
     columns = Columns(words.client)
     try:

@@ -9,6 +9,8 @@ import bisect
 import json
 import zlib
 from array import array
+from collections.abc import Iterable
+from typing import Any
 
 # The most messages of a page, and the most bytes of its text. The rest is left out, and the page says so.
 MOST_MESSAGES = 200_000
@@ -28,30 +30,30 @@ class NoSession(Exception):
 class NoLines(NoSession):
     """What was read is not what the inspector prints."""
 
-    def __init__(self):
+    def __init__(self) -> None:
         super().__init__("these are no lines of waywire-inspect --json")
 
 
 class Numbered:
     """Values with the numbers in which they came."""
 
-    def __init__(self):
-        self.numbers = {}
+    def __init__(self) -> None:
+        self.numbers: dict[Any, int] = {}
 
-    def of(self, value):
+    def of(self, value: Any) -> int:
         return self.numbers.setdefault(value, len(self.numbers))
 
-    def values(self):
+    def values(self) -> list[Any]:
         return list(self.numbers)
 
 
-def shown(data):
+def shown(data: bytes) -> str:
     """The bytes of a string as a printed line has them, in quotes."""
     plain = (chr(it) if 0x20 <= it <= 0x7E and it not in b'"\\' else f"\\x{it:02x}" for it in data)
     return f'"{"".join(plain)}"'
 
 
-def readable(text):
+def readable(text: str) -> str | None:
     """A quoted string in which letters of all scripts are kept."""
     if text.isascii() or "\ufffd" in text:
         return None
@@ -59,14 +61,14 @@ def readable(text):
     return f'"{"".join(parts)}"'
 
 
-def microseconds(seconds):
+def microseconds(seconds: float | None) -> int:
     """A time in whole microseconds; 0 if there is none. Raises `ValueError`."""
     if seconds is not None and not 0 <= seconds < MOST_SECONDS:
         raise ValueError("a time")
     return round((seconds or 0) * 1_000_000)
 
 
-def contents(argument):
+def contents(argument: dict[str, Any]) -> str:
     """The contents of an array in words: if it has numbers, its first numbers with their names."""
     numbers, names = argument.get("numbers", [])[:MOST_NUMBERS], argument.get("names", [])
     words = [" ".join([str(it), *(["|".join(names[at])] if names[at : at + 1] and names[at] else [])])
@@ -78,25 +80,43 @@ def contents(argument):
 class Columns:
     """The contents of a page for the session of one client."""
 
-    def __init__(self, client=1):
-        self.client, self.others, self.is_there = client, {}, False
-        self.head, self.who = {}, {}
-        self.verdict = self.broken = self.error = None
+    def __init__(self, client: int = 1) -> None:
+        self.client, self.is_there = client, False
+        # The other clients: the name and the process of each.
+        self.others: dict[int, list[Any]] = {}
+        self.head: dict[str, Any] = {}
+        self.who: dict[str, Any] = {}
+        self.verdict: dict[str, Any] | None = None
+        self.broken: dict[str, Any] | None = None
+        self.error: dict[str, Any] | None = None
         self.signatures, self.strings = Numbered(), Numbered()
-        self.objects, self.about, self.ranks = {}, [], {}
+        self.objects: dict[tuple[int, int, bool], int] = {}
+        self.about: list[list[Any]] = []
+        self.ranks: dict[int, int] = {}
         # By id, the objects that a bind made with an interface that no table has.
-        self.bound = {}
+        self.bound: dict[int, int] = {}
         names = ("time", "piece", "signature", "object", "size", "offset", "state")
         self.rows = {it: array("q") for it in names}
-        self.values, self.rest, self.bytes = [], [], []
-        self.names, self.arrays = {}, []
-        self.made, self.destroyed, self.freed = [], [], []
+        self.values: list[Any] = []
+        self.rest: list[str] = []
+        self.bytes: list[str] = []
+        # The names of values by their enum, and what arrays hold: a message, an argument, words.
+        self.names: dict[str, dict[int, str]] = {}
+        self.arrays: list[tuple[int, int, str]] = []
+        # Pairs of a message and an object.
+        self.made: list[int] = []
+        self.destroyed: list[int] = []
+        self.freed: list[int] = []
         # The number of each message, and pairs of an answer's place and its question's.
-        self.numbers, self.answers, self.unanswered = array("q"), [], []
-        self.text_size, self.left_out, self.cut_at, self.notes = 0, 0, 0, []
-        self.last_time, self.last_piece, self.next_offset = 0, 0, {}
+        self.numbers = array("q")
+        self.answers: list[int] = []
+        self.unanswered: list[int] = []
+        self.notes: list[tuple[int, str]] = []
+        self.text_size, self.left_out, self.cut_at = 0, 0, 0
+        self.last_time, self.last_piece = 0, 0
+        self.next_offset: dict[str, int] = {}
 
-    def read(self, lines):
+    def read(self, lines: Iterable[bytes]) -> None:
         """Takes lines in. Raises `NoSession`."""
         # A kind that is not known here tells what a page does not show.
         does = {it: getattr(self, f"take_{it}") for it in (
@@ -125,28 +145,28 @@ class Columns:
         if not self.is_there and self.others:
             raise NoSession(f"there is no client {self.client}; there are {sorted(self.others)}")
 
-    def take_client(self, found):
+    def take_client(self, found: dict[str, Any]) -> None:
         self.who = found
 
-    def take_verdict(self, found):
+    def take_verdict(self, found: dict[str, Any]) -> None:
         self.verdict = {it: found.get(it) for it in (
             "verdict", "words", "messages", "requests", "events", "ended", "cut")}
 
-    def take_unanswered(self, found):
+    def take_unanswered(self, found: dict[str, Any]) -> None:
         if (place := self.place_of(found["number"])) >= 0:
             self.unanswered.append(place)
 
-    def place_of(self, number):
+    def place_of(self, number: int) -> int:
         """The row of the message with a number; -1 if it has none."""
         place = bisect.bisect_left(self.numbers, number)
         return place if place < len(self.numbers) and self.numbers[place] == number else -1
 
-    def take_error(self, found):
+    def take_error(self, found: dict[str, Any]) -> None:
         """A wl_display.error; its message came just before."""
         self.error = {"place": len(self.rest) - 1, "object": self.object(found["object"]),
                       "code": found["code"], "text": found["text"], "names": found.get("names") or []}
 
-    def take_broken(self, found):
+    def take_broken(self, found: dict[str, Any]) -> None:
         """A message that breaks a rule is a row like any other, even if it could not be decoded."""
         message = found["message"] or {"object": found["object"], "opcode": -1, "message": None,
                                        "arguments": [], "state": "unknown", "text": "", "piece": None}
@@ -154,7 +174,7 @@ class Columns:
         self.broken = {"place": len(self.rest), "fault": found["fault"], "words": found["words"]}
         self.add_row({"time": None, **message, **own, "made": (), "destroyed": (), "freed": ()})
 
-    def object(self, found, version=None):
+    def object(self, found: dict[str, Any] | None, version: int | None = None) -> int:
         """The number of an object; -1 for no object."""
         if not found or not found.get("id"):
             return -1
@@ -174,12 +194,12 @@ class Columns:
             self.about[number][3] = version
         return number
 
-    def new_object(self, argument):
+    def new_object(self, argument: dict[str, Any]) -> int:
         """The number of an object that a message makes; what had its id before is gone."""
         self.bound.pop(argument["id"], None)
         return self.object(argument, argument.get("version"))
 
-    def value(self, argument):
+    def value(self, argument: dict[str, Any]) -> Any:
         kind = argument["kind"]
         if kind == "object":
             return self.object(argument)
@@ -192,7 +212,7 @@ class Columns:
             return argument["size"]
         return argument["number"] if kind == "fd" else argument["value"]
 
-    def take_message(self, found):
+    def take_message(self, found: dict[str, Any]) -> None:
         is_full = len(self.rest) >= MOST_MESSAGES or self.text_size > MOST_TEXT
         if is_full and (found["message"] != "error" or found["object"]["id"] != 1):
             self.left_out += 1
@@ -200,7 +220,7 @@ class Columns:
         else:
             self.add_row(found)
 
-    def add_row(self, found):
+    def add_row(self, found: dict[str, Any]) -> None:
         rows, about = self.rows, found["object"]
         arguments, direction = found["arguments"], found["direction"]
         place = len(self.rest)
@@ -232,7 +252,7 @@ class Columns:
         self.rest.append(self.end_of_line(found, arguments))
         self.bytes.append(found["bytes"][: 2 * MOST_BYTES])
 
-    def note_bound(self, place, found):
+    def note_bound(self, place: int, found: dict[str, Any]) -> None:
         """A bind makes an object even if no table has its interface. The lines do not say so, and name the object only
         in the bind."""
         is_bind = found["object"].get("interface") == "wl_registry" and found["message"] == "bind"
@@ -243,7 +263,7 @@ class Columns:
                     self.bound[it["id"]] = self.object(it)
                     self.made += (place, self.bound[it["id"]])
 
-    def note_names(self, place, arguments):
+    def note_names(self, place: int, arguments: list[dict[str, Any]]) -> None:
         """Notes the names of values, by their enum, and what arrays hold."""
         for at, it in enumerate(arguments):
             if it["kind"] == "array":
@@ -252,7 +272,7 @@ class Columns:
             elif it.get("names"):
                 self.names.setdefault(it["enum"], {})[it["value"]] = "|".join(it["names"])
 
-    def end_of_line(self, found, arguments):
+    def end_of_line(self, found: dict[str, Any], arguments: list[dict[str, Any]]) -> str:
         """What the printed line has after the message's name, with letters of all scripts kept."""
         text, about = found["text"], found["object"]
         arrow = "-> " if found["direction"] == "request" else "<- "
@@ -265,14 +285,14 @@ class Columns:
         self.text_size += len(rest)
         return rest.replace("\n", " ")
 
-    def title(self, path):
+    def title(self, path: str | None) -> str:
         named = path or self.head.get("recording") or ""
         stem = named.rsplit("/", 1)[-1].removesuffix(".rec")
         # What was recorded for a page alone has no name of its own.
         stem = "" if stem == "session" else stem
         return stem or self.who.get("name") or " ".join(self.head.get("command") or []) or "session"
 
-    def packed(self, title):
+    def packed(self, title: str) -> str:
         """All of it, deflated, in base64."""
         about = list(zip(*self.about)) or [[], [], [], []]
         parts = {

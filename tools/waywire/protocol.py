@@ -2,8 +2,10 @@
 misplaced element is refused too; wayland-scanner would take it as part of the element before."""
 
 import re
-import xml.etree.ElementTree as ElementTree
+from collections.abc import Iterator
 from dataclasses import dataclass, field
+from xml.etree import ElementTree
+from xml.etree.ElementTree import Element
 from xml.parsers import expat
 
 TYPES = ("int", "uint", "fixed", "string", "object", "new_id", "array", "fd")
@@ -55,7 +57,7 @@ class Message:
     summary: str
     line: int
 
-    def made(self):
+    def made(self) -> Argument | None:
         """The argument that is a new object, or None."""
         return next((it for it in self.args if it.type == "new_id"), None)
 
@@ -85,7 +87,7 @@ class Interface:
     enums: list[Enum]
     summary: str
 
-    def messages(self):
+    def messages(self) -> Iterator[tuple[str, Message]]:
         """Each message with its side, "request" or "event"."""
         yield from (("request", it) for it in self.requests)
         yield from (("event", it) for it in self.events)
@@ -98,7 +100,7 @@ class Protocol:
     interfaces: list[Interface] = field(default_factory=list)
 
 
-def number(element, name, usual):
+def number(element: Element, name: str, usual: str | None) -> int:
     text = element.get(name, usual)
     found = NUMBER.fullmatch(text or "")
     if not found or int(found[1]) > LARGEST:
@@ -106,7 +108,7 @@ def number(element, name, usual):
     return int(found[1])
 
 
-def since_of(element, version):
+def since_of(element: Element, version: int) -> int:
     """The version of the interface from which on it has what an element is."""
     since = number(element, "since", "1")
     if since > version:
@@ -114,21 +116,21 @@ def since_of(element, version):
     return since
 
 
-def name_of(element, form=NAME):
+def name_of(element: Element, form: re.Pattern[str] = NAME) -> str:
     name = element.get("name")
     if not name or not form.fullmatch(name):
         raise BadProtocol(f"the name of {element.tag} is {name!r}")
     return name
 
 
-def summary_of(element):
+def summary_of(element: Element) -> str:
     """The summary of an element, in one line; empty if the file has none."""
     description = element.find("description")
     text = element.get("summary") or (description is not None and description.get("summary")) or ""
     return " ".join(text.split())
 
 
-def is_true(element, name):
+def is_true(element: Element, name: str) -> bool:
     """Whether an attribute says so, false if it is not given."""
     text = element.get(name, "false")
     if text not in ("true", "false"):
@@ -136,7 +138,7 @@ def is_true(element, name):
     return text == "true"
 
 
-def argument(element):
+def argument(element: Element) -> Argument:
     """An argument. A text has no null mark for an array or a new id: a null array goes as an empty one."""
     name, kind, interface = name_of(element), element.get("type"), element.get("interface")
     if kind not in TYPES:
@@ -151,15 +153,15 @@ def argument(element):
     return Argument(name, kind, interface, null, summary_of(element), element.get("enum"))
 
 
-def message(opcode, element, version):
+def message(opcode: int, element: Element, version: int) -> Message:
     name, destroys = name_of(element), element.get("type") == "destructor"
     if name == "destroy" and not destroys:
         raise BadProtocol(f"{element.tag} destroy is no destructor")
     return Message(name, opcode, [argument(it) for it in element.findall("arg")], destroys,
-                   since_of(element, version), summary_of(element), int(element.get(LINE)))
+                   since_of(element, version), summary_of(element), int(element.get(LINE, "0")))
 
 
-def value_of(element):
+def value_of(element: Element) -> int:
     """The value of an entry: a number as C has it, or one shifted to the left, as `1 << 4`."""
     text = element.get("value", "")
     first, is_shifted, places = text.partition("<<")
@@ -172,19 +174,19 @@ def value_of(element):
     return value << shift
 
 
-def entry(element, version):
+def entry(element: Element, version: int) -> Entry:
     name = name_of(element, END_OF_NAME)
     return Entry(name, value_of(element), since_of(element, version), summary_of(element))
 
 
-def enum(element, version):
+def enum(element: Element, version: int) -> Enum:
     name, entries = name_of(element, END_OF_NAME), [entry(it, version) for it in element.findall("entry")]
     if not entries:
         raise BadProtocol(f"enum {name} has no entry")
     return Enum(name, entries, summary_of(element), is_true(element, "bitfield"))
 
 
-def interface(element):
+def interface(element: Element) -> Interface:
     name, version = name_of(element), number(element, "version", None)
     if version == 0:
         raise BadProtocol(f"version of {name} is 0")
@@ -198,9 +200,9 @@ def interface(element):
     )
 
 
-def check_places(root):
+def check_places(root: Element) -> None:
     """Raises `BadProtocol` if an element is misplaced."""
-    left = [(None, root)]
+    left: list[tuple[Element | None, Element]] = [(None, root)]
     while left:
         parent, element = left.pop()
         if element.tag == "description" and element.get("summary") is None:
@@ -210,12 +212,14 @@ def check_places(root):
         left += [(element, it) for it in element]
 
 
-def check_enums(interfaces):
+def check_enums(interfaces: list[Interface]) -> None:
     """Raises `BadProtocol` if an argument with an enum does not have the type of the enum's values."""
     bitfields = {f"{it.name}.{one.name}" for it in interfaces for one in it.enums if one.bitfield}
     for interface_ in interfaces:
         for _, message_ in interface_.messages():
-            for it in (one for one in message_.args if one.enum):
+            for it in message_.args:
+                if not it.enum:
+                    continue
                 if it.type not in ("int", "uint"):
                     raise BadProtocol(f"argument {it.name} of type {it.type} has an enum")
                 name = it.enum if "." in it.enum else f"{interface_.name}.{it.enum}"
@@ -227,11 +231,11 @@ def check_enums(interfaces):
 LINE = "the line"
 
 
-def root_of(path):
+def root_of(path: str) -> Element:
     """The root of a file, each element with its line."""
     builder, parser = ElementTree.TreeBuilder(), expat.ParserCreate()
 
-    def start(tag, attributes):
+    def start(tag: str, attributes: dict[str, str]) -> None:
         builder.start(tag, attributes | {LINE: str(parser.CurrentLineNumber)})
 
     parser.StartElementHandler, parser.EndElementHandler = start, builder.end
@@ -241,7 +245,7 @@ def root_of(path):
     return builder.close()
 
 
-def is_text_of_tables(path):
+def is_text_of_tables(path: str) -> bool:
     """Whether a file is a table text, by its first lines; false if it cannot be read."""
     try:
         with open(path, "rb") as file:
@@ -250,7 +254,7 @@ def is_text_of_tables(path):
         return False
 
 
-def protocol_of(root):
+def protocol_of(root: Element) -> Protocol:
     """The protocol that the root of a file has."""
     if root.tag != "protocol":
         raise BadProtocol(f"no protocol, but {root.tag}")
@@ -262,7 +266,7 @@ def protocol_of(root):
     return Protocol(name, [it.strip() for it in said], interfaces)
 
 
-def read(path):
+def read(path: str) -> Protocol:
     """The protocol of a file. Raises `BadProtocol`."""
     try:
         return protocol_of(root_of(path))

@@ -9,6 +9,10 @@ A line for each message that has arguments, and for each enum:
 An argument's name is followed by the enum of its values. For an array, that is the enum of the numbers in it, or
 `uint` if these have no names."""
 
+from collections.abc import Iterable, Iterator
+
+from .protocol import Argument, Interface
+
 # The arrays of 32-bit numbers. The XML does not say what an array holds: its descriptions do.
 ARRAYS = {
     "org_kde_plasma_window_management.event.stacking_order_changed": "uint",
@@ -21,12 +25,12 @@ ARRAYS = {
 }
 
 
-def word(name):
+def word(name: str) -> str:
     """A name without what separates words and parts here."""
     return "".join("_" if it.isspace() or it == ":" else it for it in name) or "_"
 
 
-def argument(interface, message, it):
+def argument(interface: Interface, message: str, it: Argument) -> str:
     """An argument with the enum of its values, if it has one."""
     enum = ARRAYS.get(message) if it.type == "array" else it.enum
     if enum and enum != "uint" and "." not in enum:
@@ -34,14 +38,14 @@ def argument(interface, message, it):
     return f"{word(it.name)}:{word(enum)}" if enum else word(it.name)
 
 
-def lines_of(interfaces):
+def lines_of(interfaces: Iterable[Interface]) -> Iterator[str]:
     """The lines of interfaces."""
     for interface in interfaces:
         for side, it in interface.messages():
             message = f"{interface.name}.{side}.{it.name}"
             if it.args:
                 yield " ".join([message, *(argument(interface, message, one) for one in it.args)])
-        for it in interface.enums:
-            kind = ["bitfield"] if it.bitfield else []
-            entries = [f"{one.value} {one.name}" for one in it.entries]
-            yield " ".join([f"{interface.name}.enum.{it.name}", *kind, *entries])
+        for enum in interface.enums:
+            kind = ["bitfield"] if enum.bitfield else []
+            entries = [f"{one.value} {one.name}" for one in enum.entries]
+            yield " ".join([f"{interface.name}.enum.{enum.name}", *kind, *entries])

@@ -2,8 +2,10 @@
 
 import re
 import textwrap
+from collections.abc import Container, Iterable, Iterator, Sequence
 
 from . import table_text
+from .protocol import Argument, Enum, Interface, Message, Protocol
 
 # Words that Rust keeps for itself.
 RESERVED = set(
@@ -33,7 +35,7 @@ CAME = {**GIVEN, "array": "&[u8]", "fd": "std::os::fd::OwnedFd"}
 READ = {"int": "int", "uint": "uint", "fixed": "fixed", "array": "array", "fd": "fd"}
 
 
-def word(name, taken=()):
+def word(name: str, taken: Container[str] = ()) -> str:
     """A name that Rust accepts, and that is none of `taken`."""
     name = re.sub(r"(?<=[a-z0-9])(?=[A-Z])", "_", name).lower().replace("-", "_")
     name = f"_{name}" if name[:1].isdigit() else name
@@ -42,32 +44,32 @@ def word(name, taken=()):
     return name
 
 
-def constant(name):
+def constant(name: str) -> str:
     name = re.sub(r"(?<=[a-z0-9])(?=[A-Z])", "_", name).upper().replace("-", "_")
     return f"_{name}" if name[:1].isdigit() else name
 
 
-def type_name(name):
+def type_name(name: str) -> str:
     """The name of a type: XdgToplevel for xdg_toplevel."""
     found = "".join(it[:1].upper() + it[1:] for it in re.split("[_-]", name))
     found = f"N{found}" if found[:1].isdigit() else found
     return f"{found}Value" if found in TYPES else found
 
 
-def plain(text):
+def plain(text: str) -> str:
     """A text of the file, in the form of documentation."""
     return re.sub(r"([\[\]<>*`_\\])", r"\\\1", text)
 
 
-def sentence(summary):
+def sentence(summary: str) -> list[str]:
     """A summary of the file as a sentence, or none."""
     text = plain(summary).rstrip(".")
     return [f"{text[:1].upper()}{text[1:]}."] if text else []
 
 
-def documented(texts, indent=""):
+def documented(texts: Iterable[str], indent: str = "") -> list[str]:
     """Lines of documentation: paragraphs, and items that begin with `- `."""
-    lines = []
+    lines: list[str] = []
     for text in texts:
         is_item = text.startswith("- ")
         if lines and not (is_item and lines[-1].lstrip("/ ").startswith(("- ", "  "))):
@@ -79,7 +81,7 @@ def documented(texts, indent=""):
     return lines
 
 
-def wrapped(indent, head, parts, end):
+def wrapped(indent: str, head: str, parts: list[str], end: str) -> list[str]:
     """A call or a declaration: on one line if it fits, otherwise with a line for each part."""
     line = f"{indent}{head}({', '.join(parts)}){end}"
     if len(line) <= WIDTH:
@@ -90,10 +92,10 @@ def wrapped(indent, head, parts, end):
 class Module:
     """The module of one protocol, with a module for each of its interfaces."""
 
-    def __init__(self, read, tables, others):
+    def __init__(self, read: Protocol, tables: Sequence[str], others: Iterable[Protocol]) -> None:
         self.protocol = read
         self.tables = tables
-        self.lines = []
+        self.lines: list[str] = []
         core = {it.name for it in table_text.core_tables()}
         # The core's own module has all its interfaces. Elsewhere those are the ones of the package.
         self.interfaces = [it for it in read.interfaces if not tables or it.name not in core]
@@ -113,10 +115,10 @@ class Module:
                 taken.add(name)
                 self.enums[it.name, one.name] = name
 
-    def say(self, *lines):
+    def say(self, *lines: str) -> None:
         self.lines += lines
 
-    def handle(self, interface, named):
+    def handle(self, interface: Interface, named: str | None) -> str:
         """The type of an object of an interface, as the module of another interface names it."""
         if named is None or named not in self.places:
             return "waywire::Object"
@@ -124,7 +126,7 @@ class Module:
             return type_name(named)
         return f"{self.places[named]}::{type_name(named)}"
 
-    def enum(self, interface, arg):
+    def enum(self, interface: Interface, arg: Argument) -> str | None:
         """The type of an enum that an argument names, if it is there."""
         if arg.enum is None:
             return None
@@ -135,13 +137,13 @@ class Module:
         found = self.enums[named, name]
         return found if named == interface.name else f"{self.places[named]}::{found}"
 
-    def name(self, arg):
+    def name(self, arg: Argument) -> str:
         return word(arg.name, OWN)
 
-    def target(self, interface, message):
+    def target(self, interface: Interface, message: Message) -> str:
         return word(interface.name, OWN | {self.name(it) for it in message.args})
 
-    def form(self, interface, arg, forms):
+    def form(self, interface: Interface, arg: Argument, forms: dict[str, str]) -> str:
         """The type of an argument that is no new object."""
         if arg.type == "object":
             found = self.handle(interface, arg.interface)
@@ -152,7 +154,7 @@ class Module:
             return "impl AsRef<[u8]>" if forms is GIVEN else "&[u8]"
         return self.enum(interface, arg) or forms[arg.type]
 
-    def sent(self, interface, arg):
+    def sent(self, interface: Interface, arg: Argument) -> str:
         """An argument of a call."""
         name = self.name(arg)
         if arg.type == "string":
@@ -166,7 +168,7 @@ class Module:
             name = f"{name}.0 as i32" if arg.type == "int" else f"{name}.0"
         return SENT[arg.type].format(name)
 
-    def read(self, interface, arg):
+    def read(self, interface: Interface, arg: Argument) -> str:
         """An argument of a message that was read."""
         if arg.type in ("object", "new_id"):
             found = self.handle(interface, arg.interface)
@@ -182,7 +184,7 @@ class Module:
             return f"{enum}(fields.{READ[arg.type]}()?{' as u32' if arg.type == 'int' else ''})"
         return f"fields.{READ[arg.type]}()?"
 
-    def said(self, message, *more):
+    def said(self, message: Message, *more: str) -> list[str]:
         """The documentation of a message."""
         items = [f"- `{self.name(it)}`: {plain(it.summary)}" for it in message.args if it.summary]
         since = [f"Since version {message.since}."] if message.since > 1 else []
@@ -190,7 +192,7 @@ class Module:
         texts = sentence(message.summary) or [f"The message {plain(message.name)}."]
         return [*texts, *items, *([" ".join([*more, *ends, *since])] if more or ends or since else [])]
 
-    def constants(self, interface):
+    def constants(self, interface: Interface) -> None:
         for side, messages in (("request", interface.requests), ("event", interface.events)):
             if not messages:
                 continue
@@ -204,7 +206,7 @@ class Module:
                          f"        pub const {name}_SINCE: u32 = {it.since};")
             self.say("    }")
 
-    def type_of_enum(self, interface, enum):
+    def type_of_enum(self, interface: Interface, enum: Enum) -> None:
         name = self.enums[interface.name, enum.name]
         what = "Bits that can be joined by `|`." if enum.bitfield else "A number that has no name here may come."
         self.say("", *documented([*sentence(enum.summary), what], "    "),
@@ -232,7 +234,7 @@ class Module:
                      f"            {name}(self.0 | other.0)", "        }", "    }")
         self.prints(name, "bits" if enum.bitfield else "value", taken)
 
-    def prints(self, name, kind, values):
+    def prints(self, name: str, kind: str, values: dict[str, int]) -> None:
         """How a value of an enum is printed for a programmer: by the names of its constants."""
         pairs = [f'("{it}", {value})' for it, value in values.items()]
         line = f"            let names = [{', '.join(pairs)}];"
@@ -242,7 +244,7 @@ class Module:
                  "        fn fmt(&self, f: &mut std::fmt::Formatter<'_>) -> std::fmt::Result {", *lines,
                  f'            waywire::typed::write_{kind}(f, "{name}", self.0, &names)', "        }", "    }")
 
-    def sends(self, interface, side, message, name):
+    def sends(self, interface: Interface, side: str, message: Message, name: str) -> None:
         """A method that writes a message at an end."""
         end = "client" if side == "request" else "server"
         made = message.made()
@@ -272,7 +274,7 @@ class Module:
             call = "make_at_server" if made else "send_at_server"
         self.say(*wrapped("            ", f"waywire::typed::{call}", [end, "self.0", opcode, args], ""), "        }")
 
-    def binds(self, message):
+    def binds(self, message: Message) -> None:
         """The one request whose new object is of the interface that the caller wants."""
         others = [self.name(it) for it in message.args if it.type != "new_id"]
         parameters = ["self", "client: &mut waywire::Client", *(f"{it}: u32" for it in others), "version: u32"]
@@ -280,7 +282,7 @@ class Module:
                           " -> Result<T, waywire::SendError> {"),
                  f"            client.bind(self.0, {', '.join(others)}, T::NAME, version).map(T::of)", "        }")
 
-    def parameters(self, interface, message):
+    def parameters(self, interface: Interface, message: Message) -> Iterator[tuple[str, str]]:
         """The parameters of a handler's method, after the target."""
         for it in message.args:
             if it.type != "new_id":
@@ -290,7 +292,7 @@ class Module:
             else:
                 yield self.name(it), self.handle(interface, it.interface)
 
-    def handlers(self, interface, side, messages):
+    def handlers(self, interface: Interface, side: str, messages: list[Message]) -> None:
         """The trait of the messages of a side, and the functions that call its methods."""
         self.trait(interface, side, messages)
         article = "an" if side == "event" else "a"
@@ -312,7 +314,7 @@ class Module:
             self.call(interface, side, it)
         self.say("            _ => return None,", "        }", "        Some(())", "    }")
 
-    def trait(self, interface, side, messages):
+    def trait(self, interface: Interface, side: str, messages: list[Message]) -> None:
         """The trait of the messages of a side."""
         handle = type_name(interface.name)
         self.say("", f"    /// What becomes of the {side}s. A method that is not written does nothing.",
@@ -327,7 +329,7 @@ class Module:
                      [f"            let _ = {names[0]};"], "        }")
         self.say("    }")
 
-    def call(self, interface, side, message):
+    def call(self, interface: Interface, side: str, message: Message) -> None:
         """The arm that reads the arguments of a message, requires that there are no more, and calls its method."""
         self.say(f"            {side}::{constant(message.name)} => {{")
         given = ["target"]
@@ -344,7 +346,7 @@ class Module:
         self.say("                fields.none_left()?;",
                  *wrapped("                ", f"handler.{word(message.name)}", given, ";"), "            }")
 
-    def interface(self, interface):
+    def interface(self, interface: Interface) -> None:
         name = type_name(interface.name)
         said = sentence(interface.summary) or [f"The interface {plain(interface.name)}."]
         self.say("", *documented(said), f"pub mod {word(interface.name)} {{",
@@ -363,12 +365,12 @@ class Module:
         events = interface.events if interface.name not in UNSENT else []
         if interface.requests or events:
             self.say("", f"    impl {name} {{")
-            start, names = len(self.lines), set()
+            start, names = len(self.lines), set[str]()
             for side, messages, prefix in (("request", interface.requests, ""), ("event", events, "send_")):
-                for it in messages:
-                    method = word(prefix + it.name, names)
+                for message in messages:
+                    method = word(prefix + message.name, names)
                     names.add(method)
-                    self.sends(interface, side, it, method)
+                    self.sends(interface, side, message, method)
             del self.lines[start]  # the empty line before the first
             self.say("    }")
         # A client's reports have words of their own for the events of wl_display.
@@ -378,7 +380,7 @@ class Module:
                 self.handlers(interface, side, messages)
         self.say("}")
 
-    def opcodes_of_core(self):
+    def opcodes_of_core(self) -> None:
         """The opcodes of the core by side, for programs that send without typed calls."""
         for side, writer in (("request", "a client"), ("event", "a server")):
             names = [word(it.name) for it in self.interfaces if (it.requests if side == "request" else it.events)]
@@ -386,7 +388,7 @@ class Module:
                      f"pub mod {side} {{",
                      *(f"    #[doc(inline)]\n    pub use super::{it}::{side} as {it};" for it in names), "}")
 
-    def text(self, comments=()):
+    def text(self, comments: Sequence[str] = ()) -> str:
         usual = [f"Typed calls for the protocol {self.protocol.name}, over the package waywire."]
         self.say("// Made by stubs-from-xml --rust, which says what each item is.",
                  *(f"//! {it}".rstrip() for it in comments or usual))

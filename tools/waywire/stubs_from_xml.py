@@ -65,8 +65,10 @@ no protocol.
 import argparse
 import sys
 import textwrap
+from collections.abc import Container, Iterable, Iterator, Sequence
 
 from . import protocol, rust_stubs, valid_tables
+from .protocol import Argument, Entry, Enum, Interface, Message, Protocol
 
 # Words that C or C++ keeps for itself.
 RESERVED = set(
@@ -158,14 +160,14 @@ READ = {
 }
 
 
-def word(name, taken=()):
+def word(name: str, taken: Container[str] = ()) -> str:
     """A name that C and C++ accept, and that is none of `taken`."""
     while name in RESERVED or name in taken:
         name += "_"
     return name
 
 
-def type_of(interface):
+def type_of(interface: str | None) -> str:
     """The type of an object of this interface; of any object if there is none. It is no name of the library's,
     nor that of the function which makes an object of another type."""
     if not interface:
@@ -175,7 +177,7 @@ def type_of(interface):
     return f"waywire_{interface}_" if is_taken else f"waywire_{interface}"
 
 
-def comment(text, indent="", args=()):
+def comment(text: str, indent: str = "", args: Iterable[Argument] = ()) -> list[str]:
     """A comment of one or more lines, and one for each argument of which something is said; or none."""
     lines = textwrap.wrap(text.replace("*/", "* /"), 92 - len(indent))
     for it in args:
@@ -190,7 +192,7 @@ def comment(text, indent="", args=()):
             f"{indent} * {lines[-1]} */"]
 
 
-def wrapped(head, parts, end):
+def wrapped(head: str, parts: list[str], end: str) -> list[str]:
     """A call or a declaration whose parts are broken over lines of at most 100 columns."""
     line, lines = head + "(", []
     for place, part in enumerate(parts):
@@ -206,40 +208,40 @@ def wrapped(head, parts, end):
 class Stubs:
     """The header of one protocol."""
 
-    def __init__(self, read, prefix, tables=()):
+    def __init__(self, read: Protocol, prefix: str, tables: Sequence[str] = ()) -> None:
         self.protocol = read
         self.prefix = prefix
         self.tables = tables
-        self.lines = []
+        self.lines: list[str] = []
         self.functions = {name for it in self.typed() for name in (type_of(it), f"{type_of(it)}_of")}
 
-    def say(self, *lines):
+    def say(self, *lines: str) -> None:
         self.lines += lines
 
-    def typed(self):
+    def typed(self) -> list[str]:
         """The interfaces whose objects have a type: the protocol's, and those that its messages name."""
         named = [it.interface for interface in self.protocol.interfaces for _, message in interface.messages()
                  for it in message.args if it.interface]
         registry = ["wl_registry"] if any(map(self.is_bound, self.protocol.interfaces)) else []
         return list(dict.fromkeys([it.name for it in self.protocol.interfaces] + registry + named))
 
-    def is_bound(self, interface):
+    def is_bound(self, interface: Interface) -> bool:
         """Whether the interface can be a global: no message of the protocol makes an object of it."""
         made = {it.interface for other in self.protocol.interfaces for _, message in other.messages()
                 for it in message.args if it.type == "new_id"}
         return interface.name not in UNBOUND and interface.name not in made
 
-    def constant(self, *parts):
+    def constant(self, *parts: str) -> str:
         return "_".join([self.prefix.rstrip("_"), *parts]).upper()
 
-    def opcode(self, interface, side, message):
+    def opcode(self, interface: Interface, side: str, message: Message) -> str:
         return self.constant(interface.name, side, message.name)
 
-    def target(self, interface, message=None):
+    def target(self, interface: Interface, message: Message | None = None) -> str:
         names = {word(it.name) for it in message.args} if message else set()
         return word(interface.name, OWN | names)
 
-    def parameters(self, message, has_made):
+    def parameters(self, message: Message, has_made: bool) -> Iterator[str]:
         """The parameters of a message's arguments, without the new object where it is returned."""
         for it in message.args:
             if it.type == "new_id" and it.interface is None:
@@ -250,10 +252,10 @@ class Stubs:
             for form in PARAMETERS.get(it.type, [type_of(it.interface) + " {}"]):
                 yield form.format(self.name(it))
 
-    def name(self, arg):
+    def name(self, arg: Argument) -> str:
         return word(arg.name, OWN)
 
-    def enums(self, interface):
+    def enums(self, interface: Interface) -> None:
         """Enums, and what no enum of C can hold as numbers of their own."""
         for enum in interface.enums:
             name = word(f"{self.prefix}{interface.name}_{enum.name}")
@@ -268,23 +270,23 @@ class Stubs:
                 if it.since > 1:
                     self.say(f"#define {value}_SINCE {it.since}")
 
-    def entry(self, interface, enum, it):
+    def entry(self, interface: Interface, enum: Enum, it: Entry) -> str:
         said = f" /* {it.summary.replace('*/', '* /')} */" if it.summary else ""
         return f"\t{self.constant(interface.name, enum.name, it.name)} = {it.value},{said}"
 
-    def opcodes(self, interface):
+    def opcodes(self, interface: Interface) -> None:
         for side, message in interface.messages():
             name = self.opcode(interface, side, message)
             self.say(f"#define {name} {message.opcode}", f"#define {name}_SINCE {message.since}")
 
-    def function(self, name):
+    def function(self, name: str) -> str:
         """A function's name, with an underline behind it where the header has it already."""
         while name in self.functions:
             name += "_"
         self.functions.add(name)
         return name
 
-    def sends(self, interface, message, end, name):
+    def sends(self, interface: Interface, message: Message, end: str, name: str) -> None:
         """A function that writes a message at an end."""
         name = self.function(name)
         target = self.target(interface, message)
@@ -304,7 +306,7 @@ class Stubs:
             self.calls(message, end, target, opcode)
         self.say("}")
 
-    def calls(self, message, end, target, opcode):
+    def calls(self, message: Message, end: str, target: str, opcode: str) -> None:
         """The body of a function that writes a message: its arguments, and the call."""
         given = "NULL"
         if message.args:
@@ -320,13 +322,13 @@ class Stubs:
         call = [f"{end}.end", f"{target}.object", opcode, given, str(len(message.args)), made, "NULL"]
         self.say(*wrapped("\treturn waywire_end_send", call, ";"))
 
-    def binds(self, message, target):
+    def binds(self, message: Message, target: str) -> None:
         """The body of the one function whose new object has the interface that the caller names."""
         others = [self.name(it) for it in message.args if it.type != "new_id"]
         call = ["client", f"{target}.object", *others, "interface", "version", "made"]
         self.say(*wrapped("\treturn waywire_client_bind", call, ";"))
 
-    def bind(self, interface):
+    def bind(self, interface: Interface) -> None:
         """A function that binds a global of an interface."""
         name = self.function(f"{self.prefix}{interface.name}_bind")
         parameters = ["waywire_client client", "waywire_wl_registry registry", "uint32_t name", "uint32_t version",
@@ -336,7 +338,7 @@ class Stubs:
                 "made ? &made->object : NULL"]
         self.say(*wrapped("\treturn waywire_client_bind", call, ";"), "}")
 
-    def callbacks(self, interface, side, messages):
+    def callbacks(self, interface: Interface, side: str, messages: list[Message]) -> None:
         """The struct of callbacks for a side of an interface, and the function that calls them."""
         kind = f"{self.prefix}{interface.name}_{side}s"
         self.say("", f"struct {kind} {{")
@@ -350,7 +352,7 @@ class Stubs:
         self.dispatcher(interface, side, messages, kind, name)
         self.dispatcher_of_all(interface, side, kind, name)
 
-    def dispatcher(self, interface, side, messages, kind, name):
+    def dispatcher(self, interface: Interface, side: str, messages: list[Message], kind: str, name: str) -> None:
         parameters = [f"const struct {kind} *calls", "void *data", "const waywire_report *report"]
         self.say("", *wrapped(f"static inline bool {name}", parameters, ""), "{")
         if interface.name == "wl_display" and side == "event":
@@ -364,7 +366,7 @@ class Stubs:
             self.dispatches(interface, side, it)
         self.say("\tdefault:", "\t\treturn false;", "\t}", "}")
 
-    def dispatcher_of_all(self, interface, side, kind, dispatcher):
+    def dispatcher_of_all(self, interface: Interface, side: str, kind: str, dispatcher: str) -> None:
         """The same function for callbacks of any type."""
         name = self.function(f"{self.prefix}{interface.name}_{side}_dispatcher")
         parameters = ["const void *calls", "void *data", "const waywire_report *report"]
@@ -372,7 +374,7 @@ class Stubs:
         given = [f"(const struct {kind} *)calls", "data", "report"]
         self.say(*wrapped(f"\treturn {dispatcher}", given, ";"), "}")
 
-    def dispatches(self, interface, side, message):
+    def dispatches(self, interface: Interface, side: str, message: Message) -> None:
         call = word(message.name)
         given = ["data", f"{type_of(interface.name)}_of(report->target)"]
         for place, it in enumerate(message.args):
@@ -387,7 +389,7 @@ class Stubs:
                  "\t\t\treturn false;")
         self.say(*wrapped(f"\t\tcalls->{call}", given, ";"), "\t\treturn true;")
 
-    def interface(self, interface):
+    def interface(self, interface: Interface) -> None:
         self.say("", f"/* ---- {interface.name} */")
         if interface.summary:
             self.say("", *comment(interface.summary))
@@ -401,14 +403,14 @@ class Stubs:
         if self.is_bound(interface):
             self.bind(interface)
         # No tables have an event whose new object is of any interface.
-        events = [it for it in interface.events if not it.made() or it.made().interface]
+        events = [it for it in interface.events if not (made := it.made()) or made.interface]
         for it in events if interface.name not in UNSENT else []:
             self.sends(interface, it, "server", f"{self.prefix}{interface.name}_send_{it.name}")
         for side, messages in (("event", events), ("request", interface.requests)):
             if messages:
                 self.callbacks(interface, side, messages)
 
-    def object_type(self, interface):
+    def object_type(self, interface: str) -> None:
         """The type of an interface's objects, and the function that makes one of an object."""
         name = type_of(interface)
         guard = f"{name}_is_known".upper()
@@ -416,7 +418,7 @@ class Stubs:
                  f"}} {name};", "", f"static inline {name} {name}_of(waywire_object object)", "{",
                  f"\t{name} typed;", "\ttyped.object = object;", "\treturn typed;", "}", "#endif")
 
-    def header(self):
+    def header(self) -> str:
         guard = self.constant(self.protocol.name.replace("-", "_"), "h")
         self.say(*HEAD.format(name=self.protocol.name, prefix=self.prefix).splitlines())
         if self.protocol.copyright:
@@ -430,15 +432,15 @@ class Stubs:
             self.say("", "/* The protocol's table text. */", f"#define {name} \\")
             self.say(*(f"{it:{width}}\\" for it in lines[:-1]), lines[-1])
         self.say("", "/* Objects of each interface. Two headers may name the same. */")
-        for it in self.typed():
-            self.object_type(it)
+        for name in self.typed():
+            self.object_type(name)
         for it in self.protocol.interfaces:
             self.interface(it)
         self.say("", "#ifdef __cplusplus", "}", "#endif", "", "#endif")
         return "\n".join(self.lines) + "\n"
 
 
-def opcodes_of(read, side, indent=""):
+def opcodes_of(read: Protocol, side: str, indent: str = "") -> Iterator[str]:
     """The opcodes of a side of a protocol's interfaces, a module an interface."""
     for interface in read.interfaces:
         messages = [it for its, it in interface.messages() if its == side]
@@ -448,7 +450,7 @@ def opcodes_of(read, side, indent=""):
         yield from ["", f"{indent}pub mod {interface.name} {{", *"\n\n".join(constants).splitlines(), f"{indent}}}"]
 
 
-def rattle_module(read, words, tables):
+def rattle_module(read: Protocol, words: argparse.Namespace, tables: Sequence[str]) -> str:
     """A module of Rattle: one side of a protocol, or both with its table text."""
     lines = [f"//! {it}".rstrip() for it in words.comments]
     if words.rattle != "both":
@@ -462,7 +464,7 @@ def rattle_module(read, words, tables):
     return "\n".join(lines).lstrip() + "\n"
 
 
-def tables_of(path, others):
+def tables_of(path: str, others: Iterable[str]) -> list[str]:
     """The lines of the text of a protocol's tables, none if the core has its interfaces."""
     given = valid_tables.interfaces_of(path)
     named = [it for other in others for it in valid_tables.interfaces_of(other)]
@@ -472,7 +474,7 @@ def tables_of(path, others):
     return list(valid_tables.lines_of(own, []))
 
 
-def main(arguments=None):
+def main(arguments: Sequence[str] | None = None) -> int:
     parser = argparse.ArgumentParser(
         prog="stubs-from-xml", description="Prints typed calls for a Wayland protocol: a C header, or a module for Rust."
     )

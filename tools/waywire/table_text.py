@@ -4,6 +4,7 @@ the program. `../protocols/core/core.tables` has the core interfaces."""
 
 import os
 import re
+from collections.abc import Iterable, Iterator
 from dataclasses import dataclass, field, replace
 
 LARGEST = 2**32 - 1
@@ -12,7 +13,7 @@ LARGEST = 2**32 - 1
 class BadLine(Exception):
     """The line, counted from 1, is of no form of a table text (TB1) or of a recording (RP1)."""
 
-    def __init__(self, line):
+    def __init__(self, line: int) -> None:
         super().__init__(f"line {line}: bad line")
         self.line = line
 
@@ -20,7 +21,7 @@ class BadLine(Exception):
 class BadTable(Exception):
     """The line is the first that breaks a rule of valid tables, and the rule the least (TB2)."""
 
-    def __init__(self, line, rule):
+    def __init__(self, line: int, rule: int) -> None:
         super().__init__(f"line {line}: breaks V{rule}")
         self.line, self.rule = line, rule
 
@@ -33,10 +34,10 @@ class Kind:
     null: bool = False
     interface: str | None = None
 
-    def is_of(self, letter, interface):
+    def is_of(self, letter: str, interface: str | None) -> bool:
         return self.letter == letter and self.interface == interface
 
-    def __str__(self):
+    def __str__(self) -> str:
         name = "" if self.interface is None else f"({self.interface})"
         return ("?" if self.null else "") + self.letter + name
 
@@ -49,7 +50,7 @@ class Message:
     since: int = 1
     line: int = 0
 
-    def __str__(self):
+    def __str__(self) -> str:
         parts = [self.name, *map(str, self.kinds)]
         if self.destroys:
             parts.append("D")
@@ -69,15 +70,15 @@ class Interface:
     line: int = 0
     extends: bool = False
 
-    def messages(self):
+    def messages(self) -> list[tuple[str, Message]]:
         """Each message with its side, the sides apart."""
         return [("request", it) for it in self.request] + [("event", it) for it in self.event]
 
-    def is_ended_by_event(self):
+    def is_ended_by_event(self) -> bool:
         return any(it.destroys for it in self.event)
 
 
-def lines_of(data):
+def lines_of(data: bytes) -> Iterator[tuple[int, bytes]]:
     """The lines of a text that are neither empty nor comments, with their numbers from 1."""
     parts = data.split(b"\n")
     rest = parts.pop()
@@ -96,14 +97,17 @@ MESSAGE_LINE = re.compile(
 )
 
 
-def number_of(digits, line):
+def number_of(digits: str, line: int) -> int:
     if int(digits) > LARGEST:
         raise BadLine(line)
     return int(digits)
 
 
-def kind_of(text, line):
-    null, letter, interface = ARGUMENT.fullmatch(text).groups()
+def kind_of(text: str, line: int) -> Kind:
+    found = ARGUMENT.fullmatch(text)
+    if not found:
+        raise BadLine(line)
+    null, letter, interface = found.groups()
     if (null and letter not in "so") or (interface is not None and letter not in "onN"):
         raise BadLine(line)
     if letter == "N" and interface is None:
@@ -111,12 +115,12 @@ def kind_of(text, line):
     return Kind(letter, bool(null), interface)
 
 
-def parse_tables(data):
+def parse_tables(data: bytes) -> list[Interface]:
     """What a text declares and extends, in order. Raises `BadLine`. Bytes above 0x7f are read as Latin-1
     letters."""
-    interfaces = []
-    for number, line in lines_of(data):
-        line = line.decode("latin-1")
+    interfaces: list[Interface] = []
+    for number, data_ in lines_of(data):
+        line = data_.decode("latin-1")
         if found := INTERFACE_LINE.fullmatch(line):
             form, name, version = found.groups()
             extends = form == "extend"
@@ -133,11 +137,11 @@ def parse_tables(data):
     return interfaces
 
 
-def is_name(name):
+def is_name(name: str) -> bool:
     return re.fullmatch("[a-z0-9_]{1,256}", name) is not None
 
 
-def interface_breaks(place, interface, earlier):
+def interface_breaks(place: int, interface: Interface, earlier: set[str]) -> Iterator[int]:
     """The rules that an interface's line breaks. `earlier` holds the names before it."""
     if not is_name(interface.name) or interface.name in earlier:
         yield 1
@@ -151,12 +155,13 @@ def interface_breaks(place, interface, earlier):
 FIXED = ("wl_display", "wl_registry", "wl_callback", "wl_fixes")
 
 
-def is_made_by_server(name, by_name):
+def is_made_by_server(name: str | None, by_name: dict[str | None, Interface]) -> bool:
     """Whether an event may make an object of the interface."""
     return name not in FIXED and not (name in by_name and by_name[name].is_ended_by_event())
 
 
-def message_breaks(interface, side, place, by_name):
+def message_breaks(interface: Interface, side: str, place: int,
+                   by_name: dict[str | None, Interface]) -> Iterator[int]:
     """The rules that the line of the message at this opcode breaks."""
     message = getattr(interface, side)[place]
     if not is_name(message.name) or message.name in (
@@ -182,14 +187,14 @@ def message_breaks(interface, side, place, by_name):
         yield 8
     if any(it.interface not in by_name for it in message.kinds if it.interface is not None):
         yield 9
-    made = [it.interface for it in message.kinds if it.letter == "N"]
-    if len(made) > (1 if side == "event" else 0):
+    by_server = [it.interface for it in message.kinds if it.letter == "N"]
+    if len(by_server) > (1 if side == "event" else 0):
         yield 11
-    elif not all(is_made_by_server(it, by_name) for it in made):
+    elif not all(is_made_by_server(it, by_name) for it in by_server):
         yield 11
 
 
-def clashes(core, old, side, message):
+def clashes(core: list[Interface], old: Interface, side: str, message: Message) -> Iterator[int]:
     """The rules that a message breaks by what `core` has, added to its interface `old`."""
     if side == "request" and old.is_ended_by_event():
         yield 7
@@ -204,11 +209,12 @@ class Joined:
     """Tables joined with what a text declares and extends: `whole`, and the origin of each message of the text
     in it. `wrong` has the extensions that break a rule by themselves, with the rule."""
 
-    def __init__(self, core, sections):
-        self.whole = []
-        self.declared = {}  # the place of an interface, and what declared it
-        self.said = {}  # the place of an interface, a side and an opcode; and what said it at which index
-        self.wrong = []
+    def __init__(self, core: Iterable[Interface], sections: Iterable[Interface]) -> None:
+        self.whole: list[Interface] = []
+        self.declared: dict[int, Interface] = {}  # the place of an interface, and what declared it
+        # The place of an interface, a side and an opcode; and what said it at which index.
+        self.said: dict[tuple[int, str, int], tuple[Interface, int]] = {}
+        self.wrong: list[tuple[Interface, int]] = []
         for it in core:
             self.whole.append(replace(it, request=list(it.request), event=list(it.event)))
         for it in sections:
@@ -228,7 +234,7 @@ class Joined:
                 self.whole[place].version = max(self.whole[place].version, it.version)
                 self.add(place, it)
 
-    def add(self, place, section):
+    def add(self, place: int, section: Interface) -> None:
         for side in ("request", "event"):
             messages = getattr(self.whole[place], side)
             for index, message in enumerate(getattr(section, side)):
@@ -236,13 +242,13 @@ class Joined:
                 messages.append(message)
 
 
-def breaks(core, sections):
+def breaks(core: list[Interface], sections: list[Interface]) -> Iterator[tuple[Interface, str | None, int, int]]:
     """Each rule that a line of these interfaces and extensions breaks, after the interfaces `core`: the
     interface or extension; for the line of a message its side and its index there, otherwise None and 0; and
     the rule."""
     joined = Joined(core, sections)
     yield from ((section, None, 0, rule) for section, rule in joined.wrong)
-    by_name = {}
+    by_name: dict[str | None, Interface] = {}
     for interface in joined.whole:
         by_name.setdefault(interface.name, interface)
     names = {it.name for it in core}
@@ -259,14 +265,14 @@ def breaks(core, sections):
                 yield section, side, index, rule
 
 
-def core_tables():
+def core_tables() -> list[Interface]:
     """The core interfaces, whose text lies beside the folder of the tools."""
     folder = os.path.dirname(os.path.dirname(os.path.dirname(os.path.realpath(__file__))))
     with open(f"{folder}/protocols/core/core.tables", "rb") as file:
         return parse_tables(file.read())
 
 
-def read_more(tables, data):
+def read_more(tables: list[Interface], data: bytes) -> list[Interface]:
     """`tables` extended by the text, and followed by those that it declares. Raises `BadLine` or
     `BadTable`."""
     more = parse_tables(data)

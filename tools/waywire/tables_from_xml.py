@@ -42,14 +42,15 @@ the core tables.
 
 import argparse
 import sys
+from collections.abc import Iterable, Sequence
 
 from . import protocol, protocol_names
 from .protocol import BadProtocol
-from .table_text import BadLine
+from .table_text import BadLine, Interface
 from .valid_tables import Mending, interfaces_named, interfaces_of, lines_of, named_elsewhere
 
 
-def words_of(arguments):
+def words_of(arguments: Sequence[str] | None) -> argparse.Namespace:
     parser = argparse.ArgumentParser(
         prog="tables-from-xml", description="Prints the interfaces of Wayland protocol files as a table text."
     )
@@ -71,7 +72,7 @@ def words_of(arguments):
     return parser.parse_args(arguments)
 
 
-def print_names(paths, comments):
+def print_names(paths: Iterable[str], comments: Iterable[str]) -> None:
     """Prints the names of arguments and of the values of enums."""
     interfaces = [it for path in paths for it in protocol.read(path).interfaces]
     for comment in comments:
@@ -80,7 +81,7 @@ def print_names(paths, comments):
         print(line)
 
 
-def given_interfaces(words):
+def given_interfaces(words: argparse.Namespace) -> list[Interface]:
     """The interfaces of the files. Raises `BadProtocol` for a file that is no protocol, unless such files are
     passed over."""
     found = []
@@ -94,7 +95,7 @@ def given_interfaces(words):
     return found
 
 
-def main(arguments=None):
+def main(arguments: Sequence[str] | None = None) -> int:
     words = words_of(arguments)
     try:
         if words.names:

@@ -1,5 +1,6 @@
 """The interfaces of Wayland protocol files as valid tables: what a table text may have of them."""
 
+from collections.abc import Iterable, Iterator, Sequence
 from dataclasses import replace
 from typing import NamedTuple
 
@@ -26,7 +27,7 @@ class LeftOut(NamedTuple):
     message: Message | None
     why: str
 
-    def __str__(self):
+    def __str__(self) -> str:
         what = self.interface.name if self.message is None else f"{self.side} {self.message}"
         return f"{what}: left out, {self.why}"
 
@@ -38,23 +39,23 @@ class Undestroying(NamedTuple):
     message: Message
     rule: int
 
-    def __str__(self):
+    def __str__(self) -> str:
         return f"event {self.message}: kept without D, which breaks V{self.rule}"
 
 
-def kind_of(side, argument):
+def kind_of(side: str, argument: protocol.Argument) -> Kind:
     """The kind of an argument. The object that an event makes is `N`, if its interface is given."""
     if side == "event" and argument.type == "new_id" and argument.interface is not None:
         return Kind("N", interface=argument.interface)
     return Kind(LETTERS[argument.type], argument.null, argument.interface)
 
 
-def message_of(side, message):
+def message_of(side: str, message: protocol.Message) -> Message:
     kinds = [kind_of(side, it) for it in message.args]
     return Message(message.name, kinds, message.destroys, message.since, message.line)
 
 
-def check_changes(path, old, new):
+def check_changes(path: str, old: Interface, new: Interface) -> None:
     """Raises `BadProtocol` if a message differs between two versions of an interface, or if the newer version
     lacks a message."""
     for side in ("request", "event"):
@@ -68,7 +69,7 @@ def check_changes(path, old, new):
             raise protocol.BadProtocol(f"{path}: {new.name} has no {side} {olds[len(news)]}")
 
 
-def interfaces_of(path, is_checked=True):
+def interfaces_of(path: str, is_checked: bool = True) -> list[Interface]:
     """The interfaces of a file, as tables have them. Raises `BadProtocol`; with `is_checked`, also if the file
     changes an interface of the core tables."""
     core = {it.name: it for it in table_text.core_tables()}
@@ -83,7 +84,7 @@ def interfaces_of(path, is_checked=True):
     return found
 
 
-def interfaces_named(path):
+def interfaces_named(path: str) -> list[Interface]:
     """The interfaces of a file that others may name: a protocol's XML, or a table text."""
     if not protocol.is_text_of_tables(path):
         return interfaces_of(path)
@@ -95,20 +96,20 @@ class Mending:
     """The interfaces that remain, and what was left out of them so that they break no rule. `others` come
     before them: interfaces of another text, which may be named."""
 
-    def __init__(self, interfaces, is_whole, others=()):
+    def __init__(self, interfaces: Sequence[Interface], is_whole: bool, others: Sequence[Interface] = ()) -> None:
         self.others = others
         self.interfaces = [*others, *interfaces]
         self.is_whole = is_whole
-        self.left_out = []
-        self.undestroying = []
+        self.left_out: list[LeftOut] = []
+        self.undestroying: list[Undestroying] = []
         self.core = table_text.core_tables()
-        self.notes = []
+        self.notes: list[LeftOut] = []
 
-    def remove(self, interface, why):
+    def remove(self, interface: Interface, why: str) -> None:
         self.left_out.append(LeftOut(interface, "", None, why))
         self.interfaces = [it for it in self.interfaces if it is not interface]
 
-    def cut(self, interface, side, opcode, why):
+    def cut(self, interface: Interface, side: str, opcode: int, why: str) -> None:
         """Leaves out a message and all messages after it."""
         messages = getattr(interface, side)
         first = messages[opcode]
@@ -117,7 +118,7 @@ class Mending:
             why = f"it stands behind {first.name}"
         del messages[opcode:]
 
-    def ended_by_event(self, interface, side, opcode, rule):
+    def ended_by_event(self, interface: Interface, side: str, opcode: int, rule: int) -> list[Interface]:
         """The interfaces of the files whose destroying events are why a message breaks V7 or V11."""
         if rule not in (7, 11):
             return []
@@ -127,14 +128,14 @@ class Mending:
         own = [it for it in self.interfaces if not any(it is one for one in self.others)]
         return [it for it in own if it.name in names and it.is_ended_by_event()]
 
-    def keep_without_destroying(self, interface, rule):
+    def keep_without_destroying(self, interface: Interface, rule: int) -> None:
         """Turns destroying events into plain events: their objects end by the delete_id that follows."""
         for opcode, message in enumerate(interface.event):
             if message.destroys:
                 self.undestroying.append(Undestroying(interface, message, rule))
                 interface.event[opcode] = replace(message, destroys=False)
 
-    def lower(self, interface):
+    def lower(self, interface: Interface) -> None:
         """Lowers the version until no message of it was left out."""
         while True:
             since = [
@@ -155,18 +156,20 @@ class Mending:
                         self.cut(interface, side, opcode, why)
                         break
 
-    def first_break(self):
+    def first_break(self) -> tuple[Interface, str | None, int, int] | None:
         """What to mend next. An interface that is left out, or an event that destroys, may mend what
         others break: so requests, and events that make an object, come last."""
-        order = {None: 0, "event": 1, "request": 2}
-        found = table_text.breaks(self.core, self.interfaces)
-        return min(found, key=lambda it: (order[it[1]], it[3] == 11), default=None)
+        def order(it: tuple[Interface, str | None, int, int]) -> tuple[int, bool]:
+            return [None, "event", "request"].index(it[1]), it[3] == 11
 
-    def version_in_core(self, interface):
+        found = sorted(table_text.breaks(self.core, self.interfaces), key=order)
+        return found[0] if found else None
+
+    def version_in_core(self, interface: Interface) -> int:
         """The version that the core tables have of it, or 0."""
         return next((it.version for it in self.core if it.name == interface.name), 0)
 
-    def extend(self, interface):
+    def extend(self, interface: Interface) -> None:
         """Makes of a newer interface of the core what it adds; one that is not newer is left out."""
         old = next(it for it in self.core if it.name == interface.name)
         if interface.version <= old.version:
@@ -179,7 +182,7 @@ class Mending:
             interface.request = interface.request[len(old.request) :]
             interface.event = interface.event[len(old.event) :]
 
-    def mend(self):
+    def mend(self) -> None:
         core = {it.name for it in self.core}
         for interface in self.interfaces:
             if interface.name in core:
@@ -189,7 +192,7 @@ class Mending:
         while (found := self.first_break()) is not None:
             self.mend_one(*found)
 
-    def mend_one(self, interface, side, opcode, rule):
+    def mend_one(self, interface: Interface, side: str | None, opcode: int, rule: int) -> None:
         """Removes what breaks a rule: an interface, if `side` is None, or a message of it."""
         why = f"it breaks V{rule}"
         if side is None:
@@ -202,13 +205,12 @@ class Mending:
             if self.is_whole:
                 self.lower(interface)
 
-
-    def changes(self):
+    def changes(self) -> list[LeftOut | Undestroying]:
         """What was left out or changed."""
         return [*self.left_out, *self.undestroying]
 
 
-def lines_of(interfaces, changes):
+def lines_of(interfaces: Iterable[Interface], changes: Sequence[LeftOut | Undestroying]) -> Iterator[str]:
     """The lines of the text, with comments on messages that were left out or changed."""
     for interface in interfaces:
         head = "extend" if interface.extends else "interface"
@@ -220,7 +222,7 @@ def lines_of(interfaces, changes):
                 yield f"# {it}"
 
 
-def named_elsewhere(interfaces, others):
+def named_elsewhere(interfaces: Iterable[Interface], others: Iterable[Interface]) -> list[str]:
     """The names in messages of `interfaces` that are interfaces of `others`."""
     kinds = [kind for it in interfaces for _, message in it.messages() for kind in message.kinds]
-    return sorted({it.interface for it in kinds} & {it.name for it in others})
+    return sorted({it.interface for it in kinds if it.interface is not None} & {it.name for it in others})
