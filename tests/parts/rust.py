@@ -9,8 +9,7 @@ cargo builds the library without any registry. These are run:
   clients of the distribution at the example compositor, where they also copy and paste; clients that ask it for more
   than it has; the client that pastes, there, at sway and during a drag; the window, a client of the distribution and a
   clipboard through the proxy, which leaves no descriptor open;
-- each message of the installed protocols, through its typed call;
-- the scene of its tests, played by the pair in Rattle.
+- each message of the installed protocols, through its typed call.
 
 It prints what failed and what was skipped. The last line counts. The exit status is 0 if nothing failed."""
 
@@ -108,15 +107,6 @@ def tests():
     run(["cargo", "test", *([] if can_make_examples() else ["--lib", "--tests"])])
 
 
-def scene_is_that_of_the_pair():
-    """The scene that the tests play has the same results with the pair in Rattle, whose program is compiled unproved."""
-    need("rt")
-    words = [os.path.join(TOP, "tools", "dev", "unproved"), "test_scenes"]
-    program = run(words, timeout=4 * LONG).splitlines()[-1]
-    if run([program, "tests/core.scenes"]) != "# tests/core.scenes\nevery message of the core passes: ok\n":
-        raise Failed("the pair has other results")
-
-
 def every_message_goes_by_its_typed_call():
     """The messages of the core, and of the protocols whose files are installed."""
     folder = os.path.join(OUT, "typed")
@@ -157,7 +147,7 @@ def no_error_under_valgrind():
     """No invalid read or write, and no leak. Memory that Rust's test harness still reaches does not count."""
     need("valgrind")
     leaks = [f"--{it}=definite" for it in ("show-leak-kinds", "errors-for-leak-kinds")]
-    for test in ("core", "descriptors", "following", "more_tables", "scene", "socket", "threads", "typed"):
+    for test in ("core", "descriptors", "following", "more_tables", "socket", "threads", "typed"):
         said = run(["cargo", "test", "--no-run", "--test", test])
         program = os.path.join(PACKAGE, said.rpartition("(")[2].partition(")")[0])
         run(["valgrind", "-q", "--leak-check=full", *leaks, "--error-exitcode=9", program, "--test-threads=1"])
@@ -434,7 +424,7 @@ def proxy_where_an_output_is_replaced():
                 raise Failed(f"the client is told {told}")
 
 
-TESTS_IN_ORDER = (lints, tests, every_message_goes_by_its_typed_call, scene_is_that_of_the_pair, documentation,
+TESTS_IN_ORDER = (lints, tests, every_message_goes_by_its_typed_call, documentation,
                   documentation_without_the_library, examples_outside_the_repository, no_error_under_valgrind,
                   window_at_our_compositor, client_of_weston_at_our_compositor, client_of_gtk_at_our_compositor,
                   texts_at_our_compositor, clients_go_at_our_compositor, much_at_our_clipboard,
