@@ -1,82 +1,13 @@
-/* What passes through the library's pointers, at its edges: indices, names, spellings, the last slot of a
- * report, sizes, tables over tables, a full outbox; an inspector's values and lines; a report behind calls that
- * only ask; calls of one end with the other; and the numbers and texts that the header makes itself. */
-#include "must.h"
+/* What passes through the library's pointers, at its edges: spellings, the last slot of a report, sizes, tables
+ * over tables; an inspector's values and lines; a report behind calls that only ask; calls of one end with the
+ * other; and the numbers and texts that the header makes itself. */
+#include "pair.h"
 
 #include <limits.h>
 #include <math.h>
 
 static waywire_tables *tables;
 static const waywire_sizes sizes = { 65536, 64, 65536, 64 };
-
-struct pair {
-	waywire_client client;
-	waywire_server server;
-	waywire_wl_display display;
-	waywire_wl_registry registry;
-};
-
-static void carry(waywire_end *from, waywire_end *to)
-{
-	unsigned char bytes[65536];
-	uint32_t tokens[64];
-	waywire_amounts taken, fed;
-	MUST(!waywire_end_take(from, bytes, sizeof bytes, tokens, 64, &taken));
-	MUST(!waywire_end_feed(to, bytes, taken.bytes, tokens, taken.tokens, &fed));
-	MUST(fed.bytes == taken.bytes && fed.tokens == taken.tokens);
-}
-
-static void to_server(struct pair *pair)
-{
-	carry(pair->client.end, pair->server.end);
-}
-
-static void to_client(struct pair *pair)
-{
-	carry(pair->server.end, pair->client.end);
-}
-
-static void open_pair(struct pair *pair, const waywire_tables *of)
-{
-	waywire_report report;
-	MUST(!waywire_client_new(of, &sizes, &pair->client));
-	MUST(!waywire_server_new(of, &sizes, &pair->server));
-	pair->display = waywire_wl_display_of(waywire_end_display(pair->client.end));
-	MUST(!waywire_wl_display_get_registry(pair->client, pair->display, &pair->registry));
-	to_server(pair);
-	MUST(!waywire_end_next(pair->server.end, &report) && report.kind == WAYWIRE_MESSAGE);
-}
-
-static void close_pair(struct pair *pair)
-{
-	waywire_end_free(pair->client.end);
-	waywire_end_free(pair->server.end);
-}
-
-/* Advertises an interface, and returns an object of it that both ends have. */
-static waywire_object bound(struct pair *pair, const waywire_tables *of, const char *interface)
-{
-	uint16_t index;
-	uint32_t version, name = 0, last = 0;
-	waywire_report report;
-	waywire_object made;
-	MUST(!waywire_tables_interface(of, interface, &index));
-	MUST(!waywire_tables_version(of, index, &version));
-	MUST(!waywire_server_add_global(pair->server, index, version, &name));
-	MUST(!waywire_server_announce(pair->server, NULL));
-	to_client(pair);
-	do {
-		MUST(!waywire_end_next(pair->client.end, &report));
-		if (report.kind == WAYWIRE_MESSAGE)
-			last = report.args[0].u;
-	} while (report.kind != WAYWIRE_NOTHING);
-	MUST(name == last); /* the returned name is the one that is announced */
-	MUST(!waywire_client_bind(pair->client, pair->registry.object, name, interface, version, &made));
-	to_server(pair);
-	MUST(!waywire_end_next(pair->server.end, &report) && report.kind == WAYWIRE_MESSAGE);
-	MUST(waywire_object_equal(report.args[1].object, made) && report.args[1].u == version);
-	return made;
-}
 
 /* A surface that the client makes, and a region. */
 static waywire_object new_surface(const struct pair *pair, waywire_object compositor)
@@ -93,43 +24,12 @@ static waywire_wl_region new_region(const struct pair *pair, waywire_object comp
 	return region;
 }
 
-/* The index of a refused argument, for each of the two causes, and nothing else written. */
-static void indices(void)
-{
-	struct pair pair;
-	open_pair(&pair, tables);
-	waywire_object compositor = bound(&pair, tables, "wl_compositor");
-	waywire_object subcompositor = bound(&pair, tables, "wl_subcompositor");
-	waywire_object one = new_surface(&pair, compositor);
-	waywire_arg args[] = { waywire_new(), waywire_of(one), waywire_of(compositor) };
-	waywire_object made = { 5, 6 };
-	size_t index = 77;
-	MUST(waywire_end_send(pair.client.end, subcompositor, 1, args, 3, &made, &index)
-		== WAYWIRE_BAD_OBJECT);
-	MUST(index == 2 && made.id == 6 && made.birth == 5);
-	args[2] = waywire_no_object();
-	MUST(waywire_end_send(pair.client.end, subcompositor, 1, args, 3, NULL, &index)
-		== WAYWIRE_WRONG_ARGS);
-	MUST(index == 2);
-	args[2] = waywire_of(made); /* OBJECT with an id is an object, whatever it is */
-	args[2].object.id = 0;
-	MUST(waywire_end_send(pair.client.end, subcompositor, 1, args, 3, NULL, &index)
-		== WAYWIRE_BAD_OBJECT);
-	index = 77;
-	MUST(waywire_end_send(pair.client.end, made, 1, args, 3, NULL, &index) == WAYWIRE_STALE);
-	MUST(index == 77);
-	MUST(!waywire_end_send(pair.client.end, one, WAYWIRE_WL_SURFACE_REQUEST_COMMIT, NULL, 0, &made, &index));
-	MUST(made.id == 0); /* nothing is made */
-	close_pair(&pair);
-}
-
 /* An attach with OBJECT and id 0 if null is allowed: it is no null. */
 static void object_without_id(void)
 {
 	struct pair pair;
-	open_pair(&pair, tables);
-	waywire_object compositor = bound(&pair, tables, "wl_compositor");
-	waywire_object surface = new_surface(&pair, compositor);
+	open_pair(&pair, tables, &sizes);
+	waywire_object surface = new_surface(&pair, bound(&pair, "wl_compositor"));
 	waywire_object none = { 0, 0 };
 	waywire_arg args[] = { waywire_of(none), waywire_int(0), waywire_int(0) };
 	size_t index = 7;
@@ -144,7 +44,7 @@ static waywire_report fault(const unsigned char *bytes, size_t length, waywire_s
 	struct pair pair;
 	waywire_report report;
 	waywire_amounts fed;
-	open_pair(&pair, tables);
+	open_pair(&pair, tables, &sizes);
 	MUST(!waywire_end_feed(pair.server.end, bytes, length, NULL, 0, &fed) && fed.bytes == length);
 	MUST(waywire_end_next(pair.server.end, &report) == wanted && report.kind == WAYWIRE_FAULT);
 	MUST(report.offset == 12);
@@ -152,16 +52,19 @@ static waywire_report fault(const unsigned char *bytes, size_t length, waywire_s
 	return report;
 }
 
-/* Binds whose interface has no ending NUL, a NUL inside, or whose new id is in use. */
+/* Binds whose interface is null, has no ending NUL, a NUL inside, or whose new id is in use. */
 static void faults(void)
 {
+	static const unsigned char null[] = { 2, 0, 0, 0, 0, 0, 24, 0, 1, 0, 0, 0, 0, 0, 0, 0, 1, 0, 0, 0, 3, 0, 0, 0 };
 	static const unsigned char without[] = { 2, 0, 0, 0, 0, 0, 28, 0, 1, 0, 0, 0, 2, 0, 0, 0, 'a', 'b', 0, 0,
 		1, 0, 0, 0, 3, 0, 0, 0 };
 	static const unsigned char inside[] = { 2, 0, 0, 0, 0, 0, 28, 0, 1, 0, 0, 0, 4, 0, 0, 0, 'a', 0, 'b', 0,
 		1, 0, 0, 0, 3, 0, 0, 0 };
 	static const unsigned char used[] = { 2, 0, 0, 0, 0, 0, 28, 0, 1, 0, 0, 0, 3, 0, 0, 0, 'a', 'b', 0, 0,
 		1, 0, 0, 0, 2, 0, 0, 0 };
-	waywire_report report = fault(without, sizeof without, WAYWIRE_FAULT_BAD_ARGUMENT);
+	waywire_report report = fault(null, sizeof null, WAYWIRE_FAULT_BAD_ARGUMENT);
+	MUST(report.place == 1 && report.spelling == 2);
+	report = fault(without, sizeof without, WAYWIRE_FAULT_BAD_ARGUMENT);
 	MUST(report.place == 1 && report.spelling == 3);
 	report = fault(inside, sizeof inside, WAYWIRE_FAULT_BAD_ARGUMENT);
 	MUST(report.place == 1 && report.spelling == 4);
@@ -178,13 +81,12 @@ static void unused(void)
 	static const char text[] = "interface some 1\n"
 		"request six i i i i i i\n"
 		"request seven i i i i i i n(some)\n";
-	waywire_tables *more;
+	waywire_tables *more = read_over(tables, text);
 	struct pair pair;
 	waywire_report report;
 	waywire_arg args[7];
-	MUST(!waywire_tables_read(tables, text, strlen(text), &more, NULL, NULL));
-	open_pair(&pair, more);
-	waywire_object some = bound(&pair, more, "some");
+	open_pair(&pair, more, &sizes);
+	waywire_object some = bound(&pair, "some");
 	for (int form = 0; form < 6; form++) {
 		uint16_t opcode = form % 2;
 		for (int i = 0; i < 6; i++) {
@@ -197,8 +99,8 @@ static void unused(void)
 		args[6] = waywire_new();
 		MUST(!waywire_end_send(pair.client.end, some, opcode, args, 6 + opcode, &args[0].object, NULL));
 		MUST(!args[0].object.id == !opcode);
-		to_server(&pair);
-		MUST(!waywire_end_next(pair.server.end, &report) && report.arg_count == 6u + opcode);
+		report = server_reads(&pair);
+		MUST(report.arg_count == 6u + opcode);
 		for (int i = 0; i < 6; i++)
 			MUST(report.args[i].kind == WAYWIRE_INT && report.args[i].i == 10 * form + i
 				&& !report.args[i].bytes && !report.args[i].length);
@@ -213,65 +115,26 @@ static void twenty(void)
 {
 	static const char text[] = "interface many 1\n"
 		"request most i i i i i i i i i i i i i i i i i i i i\n";
-	waywire_tables *more, *again;
+	waywire_tables *more = read_over(tables, text), *again = read_over(more, "interface last 1\n");
 	struct pair pair;
 	waywire_report report;
 	waywire_arg args[21];
-	uint16_t interface;
 	size_t index = 7;
-	MUST(!waywire_tables_read(tables, text, strlen(text), &more, NULL, NULL));
-	MUST(!waywire_tables_read(more, "interface last 1\n", 17, &again, NULL, NULL));
 	waywire_tables_free(more); /* the others have all that is theirs */
-	MUST(!waywire_tables_interface(again, "last", &interface) && interface == 20);
-	open_pair(&pair, again);
-	waywire_object many = bound(&pair, again, "many");
+	open_pair(&pair, again, &sizes);
+	MUST(index_of(pair.client.end, "last") == 20);
+	waywire_object many = bound(&pair, "many");
 	for (int i = 0; i < 21; i++)
 		args[i] = waywire_int(i + 1);
 	MUST(waywire_end_send(pair.client.end, many, 0, args, 21, NULL, &index) == WAYWIRE_WRONG_ARGS);
 	MUST(index == 20);
 	MUST(!waywire_end_send(pair.client.end, many, 0, args, 20, NULL, NULL));
-	to_server(&pair);
-	MUST(!waywire_end_next(pair.server.end, &report) && report.arg_count == 20);
+	report = server_reads(&pair);
+	MUST(report.arg_count == 20);
 	for (int i = 0; i < 20; i++)
 		MUST(report.args[i].kind == WAYWIRE_INT && report.args[i].i == i + 1);
 	close_pair(&pair);
 	waywire_tables_free(again);
-}
-
-/* A destroying request waits while the outbox has no room for its delete_id, and is read then. */
-static void full(void)
-{
-	struct pair pair;
-	waywire_sizes narrow = { 40, 4, 4096, 20 };
-	unsigned char bytes[64];
-	waywire_amounts taken;
-	waywire_report report;
-	open_pair(&pair, tables);
-	waywire_end_free(pair.server.end);
-	MUST(!waywire_server_new(tables, &narrow, &pair.server));
-	waywire_end_free(pair.client.end);
-	MUST(!waywire_client_new(tables, &sizes, &pair.client));
-	MUST(!waywire_wl_display_get_registry(pair.client, pair.display, &pair.registry));
-	to_server(&pair);
-	MUST(!waywire_end_next(pair.server.end, &report));
-	waywire_object compositor = bound(&pair, tables, "wl_compositor");
-	waywire_wl_region region = new_region(&pair, compositor);
-	waywire_wl_callback callback;
-	MUST(!waywire_wl_display_sync(pair.client, pair.display, &callback));
-	MUST(!waywire_wl_region_destroy(pair.client, region));
-	to_server(&pair);
-	MUST(!waywire_end_next(pair.server.end, &report) && !waywire_end_next(pair.server.end, &report));
-	MUST(!waywire_wl_callback_send_done(pair.server, callback, 1)); /* 24 bytes; 16 are left */
-	MUST(!waywire_end_next(pair.server.end, &report) && report.kind == WAYWIRE_MESSAGE); /* 4 are left */
-	region = new_region(&pair, compositor);
-	MUST(!waywire_wl_region_destroy(pair.client, region));
-	to_server(&pair);
-	MUST(!waywire_end_next(pair.server.end, &report));
-	MUST(waywire_end_next(pair.server.end, &report) == WAYWIRE_OUT_FULL && report.kind == WAYWIRE_NOTHING);
-	MUST(!waywire_end_take(pair.server.end, bytes, sizeof bytes, NULL, 0, &taken) && taken.bytes == 36);
-	MUST(!waywire_end_next(pair.server.end, &report) && report.kind == WAYWIRE_MESSAGE);
-	MUST(waywire_object_equal(report.target, region.object));
-	close_pair(&pair);
 }
 
 /* An error that names an object which the client has destroyed, and a text that is too long for it. */
@@ -279,15 +142,15 @@ static void errors(void)
 {
 	struct pair pair;
 	waywire_report report;
-	open_pair(&pair, tables);
-	waywire_object compositor = bound(&pair, tables, "wl_compositor");
+	open_pair(&pair, tables, &sizes);
+	waywire_object compositor = bound(&pair, "wl_compositor");
 	waywire_wl_region region = new_region(&pair, compositor);
-	to_server(&pair);
-	MUST(!waywire_end_next(pair.server.end, &report));
+	server_reads(&pair);
 	MUST(!waywire_wl_region_destroy(pair.client, region));
 	/* 39 bytes, and then a character of two: the 40th byte would cut it */
 	MUST(!waywire_server_post_error(pair.server, region.object, 3,
 		"a text that has thirty-nine bytes of it" "\xc3\xa9" " and more"));
+	MUST(waywire_end_has_failed(pair.server.end));
 	to_client(&pair);
 	MUST(!waywire_end_next(pair.client.end, &report) && report.kind == WAYWIRE_ERROR);
 	MUST(report.named == WAYWIRE_DEAD_OBJECT && waywire_object_equal(report.target, region.object));
@@ -305,14 +168,11 @@ static void greatest(void)
 	waywire_amounts room = waywire_end_in_room(client.end);
 	MUST(room.bytes == 16777216 && room.tokens == 65536);
 	waywire_end_free(client.end);
-	more = most, more.in_bytes++;
-	MUST(waywire_client_new(tables, &more, &client) == WAYWIRE_BAD_SIZES);
-	more = most, more.out_bytes++;
-	MUST(waywire_client_new(tables, &more, &client) == WAYWIRE_BAD_SIZES);
-	more = most, more.in_tokens++;
-	MUST(waywire_client_new(tables, &more, &client) == WAYWIRE_BAD_SIZES);
-	more = most, more.out_tokens++;
-	MUST(waywire_client_new(tables, &more, &client) == WAYWIRE_BAD_SIZES);
+	size_t *const each[] = { &more.in_bytes, &more.out_bytes, &more.in_tokens, &more.out_tokens };
+	for (size_t i = 0; i < 4; i++) {
+		more = most, ++*each[i];
+		MUST(waywire_client_new(tables, &more, &client) == WAYWIRE_BAD_SIZES);
+	}
 	/* the outbox is as large as it was asked for, and not as the inbox: a request of 12 bytes is too much */
 	waywire_sizes unlike = { 8, 1, 4096, 20 };
 	waywire_wl_callback none = { { 5, 6 } };
@@ -436,8 +296,8 @@ static void lines(void)
 	struct pair pair;
 	waywire_report report;
 	waywire_arg scale = waywire_int(2);
-	open_pair(&pair, tables);
-	waywire_object compositor = bound(&pair, tables, "wl_compositor");
+	open_pair(&pair, tables, &sizes);
+	waywire_object compositor = bound(&pair, "wl_compositor");
 	waywire_object surface = new_surface(&pair, compositor);
 	to_server(&pair);
 	MUST(!waywire_end_next(pair.server.end, &report));
@@ -498,7 +358,7 @@ static void asked(void)
 	waywire_object made;
 	waywire_report report;
 	struct pair pair;
-	open_pair(&pair, tables);
+	open_pair(&pair, tables, &sizes);
 	MUST(!waywire_tables_interface(tables, seat, &index));
 	MUST(!waywire_server_add_global(pair.server, index, 1, &name));
 	MUST(!waywire_server_announce(pair.server, NULL));
@@ -516,24 +376,6 @@ static void asked(void)
 	ask(pair.server.end);
 	MUST(names(&report.args[1], seat));
 	close_pair(&pair);
-}
-
-/* What the calls that only ask say about an end. */
-struct state {
-	size_t numbers[7];
-};
-
-static struct state state_of(const waywire_end *end)
-{
-	waywire_amounts room = waywire_end_in_room(end), goes = waywire_end_goes(end, SIZE_MAX, SIZE_MAX);
-	return (struct state){ { room.bytes, room.tokens, goes.bytes, goes.tokens,
-		waywire_end_object_count(end), waywire_end_has_failed(end), waywire_end_is_drained(end) } };
-}
-
-static bool is_state_of(const waywire_end *end, struct state state)
-{
-	struct state now = state_of(end);
-	return !memcmp(now.numbers, state.numbers, sizeof now.numbers);
 }
 
 /* A client's calls refuse a server, and change nothing. */
@@ -582,8 +424,8 @@ static void other_end(void)
 	struct pair pair;
 	waywire_report report;
 	size_t count;
-	open_pair(&pair, tables);
-	waywire_object compositor = bound(&pair, tables, "wl_compositor");
+	open_pair(&pair, tables, &sizes);
+	waywire_object compositor = bound(&pair, "wl_compositor");
 	waywire_object surface = new_surface(&pair, compositor);
 	refused_by_client(&pair);
 	refused_by_server(&pair);
@@ -620,12 +462,10 @@ static void numbers(void)
 int main(void)
 {
 	MUST(!waywire_tables_core(&tables));
-	indices();
 	object_without_id();
 	faults();
 	unused();
 	twenty();
-	full();
 	errors();
 	greatest();
 	limits();

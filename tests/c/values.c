@@ -1,6 +1,6 @@
 /* Wrong values are statuses: null, lengths, kinds, sizes, opcodes, indices; and each status has a text. A call that
  * returns no status takes a null end for one that has failed. */
-#include "must.h"
+#include "pair.h"
 
 static const waywire_sizes sizes = { 65536, 64, 4096, 20 };
 static waywire_tables *tables;
@@ -184,59 +184,6 @@ static void faults(void)
 	MUST(amounts.bytes == 0 && amounts.tokens == 0);
 }
 
-/* An inbox that is full takes nothing, and its end has not failed. */
-static void full(void)
-{
-	static unsigned char bytes[4096];
-	static const uint32_t tokens[20] = { 0 };
-	waywire_server other;
-	waywire_amounts amounts;
-	MUST(!waywire_server_new(tables, &sizes, &other));
-	MUST(!waywire_end_feed(other.end, bytes, sizeof bytes, tokens, 20, &amounts));
-	MUST(amounts.bytes == 4096 && amounts.tokens == 20);
-	MUST(!waywire_end_feed(other.end, bytes, 1, tokens, 1, &amounts));
-	MUST(is_none(amounts) && !waywire_end_has_failed(other.end));
-	waywire_end_free(other.end);
-}
-
-/* An end fails if an error is posted, and if it is given up, but not by a refused call. */
-static void failing(void)
-{
-	waywire_object stale = { 7, 1 };
-	waywire_client one;
-	waywire_server other;
-	waywire_amounts amounts;
-	unsigned char bytes[64];
-	size_t count;
-	MUST(!waywire_client_new(tables, &sizes, &one) && !waywire_server_new(tables, &sizes, &other));
-	MUST(waywire_server_post_error(other, stale, 1, "x") == WAYWIRE_STALE);
-	MUST(!waywire_end_has_failed(other.end));
-	MUST(!waywire_server_post_error(other, display, 1, "x") && waywire_end_has_failed(other.end));
-	MUST(!waywire_end_take(other.end, bytes, sizeof bytes, NULL, 0, &amounts) && amounts.bytes > 0);
-	MUST(waywire_end_has_failed(other.end));
-	MUST(waywire_end_send(one.end, stale, 0, NULL, 0, NULL, NULL) == WAYWIRE_STALE);
-	MUST(!waywire_end_has_failed(one.end));
-	MUST(!waywire_end_take_waiting_tokens(one.end, NULL, 0, &count) && count == 0);
-	MUST(waywire_end_has_failed(one.end));
-	waywire_end_free(one.end);
-	waywire_end_free(other.end);
-}
-
-static void misspelled(void)
-{
-	static const unsigned char bind[] = { 1, 0, 0, 0, 1, 0, 12, 0, 2, 0, 0, 0, 2, 0, 0, 0, 0, 0, 24, 0,
-		1, 0, 0, 0, 0, 0, 0, 0, 1, 0, 0, 0, 3, 0, 0, 0 };
-	waywire_server other;
-	waywire_report report;
-	waywire_amounts amounts;
-	MUST(!waywire_server_new(tables, &sizes, &other));
-	MUST(!waywire_end_feed(other.end, bind, sizeof bind, NULL, 0, &amounts));
-	MUST(!waywire_end_next(other.end, &report) && report.kind == WAYWIRE_MESSAGE);
-	MUST(waywire_end_next(other.end, &report) == WAYWIRE_FAULT_BAD_ARGUMENT);
-	MUST(report.place == 1 && report.spelling == 2 && report.offset == 12);
-	waywire_end_free(other.end);
-}
-
 /* A table text: read, with a bad line, and with a line that breaks a rule. */
 static void more_tables(void)
 {
@@ -314,10 +261,9 @@ static void kinds_of_arguments(void)
 static void server_objects(void)
 {
 	static const char text[] = "interface wp_maker 1\nevent made N(wp_maker)\nrequest make n(wp_maker)";
-	waywire_tables *more;
+	waywire_tables *more = read_over(tables, text);
 	waywire_kind kind = { 9, true, 9 };
 	uint16_t maker;
-	MUST(!waywire_tables_read(tables, text, strlen(text), &more, NULL, NULL));
 	MUST(!waywire_tables_interface(more, "wp_maker", &maker));
 	MUST(!waywire_tables_kind(more, maker, WAYWIRE_FROM_SERVER, 0, 0, &kind));
 	MUST(kind.kind == WAYWIRE_NEW_BY_SERVER && !kind.nullable && kind.interface == maker);
@@ -326,87 +272,17 @@ static void server_objects(void)
 	waywire_tables_free(more);
 }
 
-/* All that one end wrote is fed to the other, which reads a message. */
-static void carry(waywire_end *from, waywire_end *to, waywire_report *report)
-{
-	static unsigned char bytes[65536];
-	waywire_amounts taken, fed;
-	MUST(!waywire_end_take(from, bytes, sizeof bytes, NULL, 0, &taken));
-	MUST(!waywire_end_feed(to, bytes, taken.bytes, NULL, 0, &fed) && fed.bytes == taken.bytes);
-	MUST(!waywire_end_next(to, report) && report->kind == WAYWIRE_MESSAGE);
-}
-
-/* Both ends use a wl_seat that a text extends: the added messages come after the old ones. */
-static void newer_seat(void)
-{
-	static const char text[] = "extend wl_seat 10\nrequest pad n(pad) @10\nevent mode u @10\ninterface pad 1\n";
-	static const char lower[] = "extend wl_seat 10\nextend wl_seat 8\n";
-	waywire_sizes wide = { 65536, 64, 65536, 64, 4096 };
-	waywire_tables *more;
-	waywire_client one;
-	waywire_server other;
-	waywire_object registry, seat, pad;
-	waywire_report report;
-	waywire_arg arg = waywire_new();
-	uint16_t interface;
-	uint32_t name, version, rule;
-	size_t line;
-	MUST(waywire_tables_read(tables, lower, strlen(lower), &more, &line, &rule) == WAYWIRE_BAD_TABLE);
-	MUST(line == 2 && rule == 8);
-	MUST(!waywire_tables_read(tables, text, strlen(text), &more, NULL, NULL));
-	MUST(!waywire_tables_interface(more, "wl_seat", &interface) && interface == 9);
-	MUST(!waywire_tables_version(more, interface, &version) && version == 10);
-	MUST(!waywire_client_new(more, &wide, &one) && !waywire_server_new(more, &wide, &other));
-	MUST(!waywire_server_add_global(other, interface, 10, &name));
-	MUST(!waywire_end_send(one.end, display, WAYWIRE_WL_DISPLAY_REQUEST_GET_REGISTRY, &arg, 1, &registry,
-		NULL));
-	carry(one.end, other.end, &report);
-	MUST(!waywire_server_announce(other, NULL));
-	carry(other.end, one.end, &report);
-	MUST(!waywire_client_bind(one, registry, name, "wl_seat", 10, &seat));
-	carry(one.end, other.end, &report);
-	MUST(!waywire_end_send(one.end, seat, 4, &arg, 1, &pad, NULL));
-	carry(one.end, other.end, &report);
-	MUST(report.opcode == 4 && report.arg_count == 1);
-	arg = waywire_uint(7);
-	MUST(!waywire_end_send(other.end, report.target, 2, &arg, 1, NULL, NULL));
-	carry(other.end, one.end, &report);
-	MUST(report.opcode == 2 && report.arg_count == 1 && report.args[0].u == 7);
-	waywire_end_free(one.end);
-	waywire_end_free(other.end);
-	waywire_tables_free(more);
-}
-
 /* A message of 60,012 bytes is too long for ends of the usual limit, and passes those of a greater one. */
 static void at_limit(const waywire_tables *more, uint32_t limit, waywire_status wanted)
 {
 	static char bytes[60000];
 	waywire_sizes wide = { 65536, 64, 65536, 64, limit };
-	waywire_client one;
-	waywire_server other;
-	waywire_object registry, thing;
-	waywire_report report;
-	waywire_arg arg = waywire_new();
-	uint16_t interface;
-	uint32_t name;
-	MUST(!waywire_client_new(more, &wide, &one) && !waywire_server_new(more, &wide, &other));
-	MUST(!waywire_tables_interface(more, "wp_thing", &interface));
-	MUST(!waywire_server_add_global(other, interface, 1, &name));
-	MUST(!waywire_end_send(one.end, display, WAYWIRE_WL_DISPLAY_REQUEST_GET_REGISTRY, &arg, 1, &registry,
-		NULL));
-	carry(one.end, other.end, &report);
-	MUST(!waywire_server_announce(other, NULL));
-	carry(other.end, one.end, &report);
-	MUST(!waywire_client_bind(one, registry, name, "wp_thing", 1, &thing));
-	carry(one.end, other.end, &report);
-	arg = waywire_array(bytes, sizeof bytes);
-	MUST(waywire_end_send(one.end, thing, 0, &arg, 1, NULL, NULL) == wanted);
-	if (!wanted) {
-		carry(one.end, other.end, &report);
-		MUST(report.arg_count == 1 && report.args[0].length == sizeof bytes);
-	}
-	waywire_end_free(one.end);
-	waywire_end_free(other.end);
+	struct pair pair;
+	waywire_arg arg = waywire_array(bytes, sizeof bytes);
+	open_pair(&pair, more, &wide);
+	MUST(waywire_end_send(pair.client.end, bound(&pair, "wp_thing"), 0, &arg, 1, NULL, NULL) == wanted);
+	MUST(wanted || server_reads(&pair).args[0].length == sizeof bytes);
+	close_pair(&pair);
 }
 
 /* Limits that messages can have. */
@@ -415,61 +291,19 @@ static void limits(void)
 	static const char declared[] = "interface wp_thing 1\nrequest write a\n";
 	static const uint32_t wrong[] = { 1, 4095, 4098, 65533, 65536, UINT32_MAX };
 	waywire_sizes narrow = { 65536, 64, 4096, 64, 4100 };
-	waywire_tables *more;
+	waywire_tables *more = read_over(tables, declared);
 	waywire_client one;
 	for (size_t i = 0; i < sizeof wrong / sizeof *wrong; i++) {
 		waywire_sizes bad = { 65536, 64, 65536, 64, wrong[i] };
 		MUST(waywire_client_new(tables, &bad, &one) == WAYWIRE_BAD_SIZES);
 	}
 	MUST(waywire_client_new(tables, &narrow, &one) == WAYWIRE_BAD_SIZES);
-	MUST(!waywire_tables_read(tables, declared, strlen(declared), &more, NULL, NULL));
 	at_limit(more, 0, WAYWIRE_TOO_LONG);
 	at_limit(more, WAYWIRE_USUAL_LIMIT, WAYWIRE_TOO_LONG);
 	at_limit(more, 60008, WAYWIRE_TOO_LONG);
 	at_limit(more, 60012, WAYWIRE_OK);
 	at_limit(more, 65532, WAYWIRE_OK);
 	waywire_tables_free(more);
-}
-
-/* Pointers of the caller's, at objects; and how many objects there are. */
-static void users(void)
-{
-	waywire_client one;
-	waywire_server other;
-	waywire_arg new = waywire_new(), serial = waywire_uint(7);
-	waywire_object callback, there, next;
-	waywire_report report;
-	waywire_amounts amounts;
-	unsigned char bytes[256];
-	int here, later;
-	MUST(!waywire_client_new(tables, &sizes, &one) && !waywire_server_new(tables, &sizes, &other));
-	MUST(!waywire_end_send(one.end, display, WAYWIRE_WL_DISPLAY_REQUEST_SYNC, &new, 1, &callback, NULL));
-	MUST(!waywire_end_user(one.end, callback) && !waywire_end_set_user(one.end, callback, &here));
-	MUST(waywire_end_user(one.end, callback) == &here && !waywire_end_user(one.end, display));
-	MUST(!waywire_end_take(one.end, bytes, sizeof bytes, NULL, 0, &amounts));
-	MUST(!waywire_end_feed(other.end, bytes, amounts.bytes, NULL, 0, &amounts));
-	MUST(!waywire_end_next(other.end, &report) && !report.user);
-	there = report.args[0].object;
-	MUST(waywire_end_object_count(other.end) == 2);
-	MUST(!waywire_end_set_user(other.end, there, &later) && waywire_end_user(other.end, there) == &later);
-	MUST(!waywire_end_send(other.end, there, WAYWIRE_WL_CALLBACK_EVENT_DONE, &serial, 1, NULL, NULL));
-	MUST(waywire_end_set_user(other.end, there, NULL) == WAYWIRE_STALE);
-	MUST(waywire_end_object_count(other.end) == 1);
-	MUST(!waywire_end_take(other.end, bytes, sizeof bytes, NULL, 0, &amounts));
-	MUST(!waywire_end_feed(one.end, bytes, amounts.bytes, NULL, 0, &amounts));
-	MUST(!waywire_end_next(one.end, &report) && report.kind == WAYWIRE_MESSAGE && report.user == &here);
-	MUST(waywire_end_set_user(one.end, callback, &later) == WAYWIRE_STALE);
-	MUST(waywire_end_object_count(one.end) == 2); /* it is dead, and not yet gone */
-	MUST(!waywire_end_next(one.end, &report) && report.kind == WAYWIRE_DELETED && report.user == &here);
-	MUST(waywire_end_object_count(one.end) == 1);
-	MUST(!waywire_end_next(one.end, &report) && report.kind == WAYWIRE_NOTHING && !report.user);
-	MUST(!waywire_end_send(one.end, display, WAYWIRE_WL_DISPLAY_REQUEST_SYNC, &new, 1, &next, NULL));
-	MUST(next.id == callback.id && !waywire_end_user(one.end, next));
-	MUST(!waywire_end_set_user(one.end, next, &later) && waywire_end_user(one.end, next) == &later);
-	MUST(!waywire_end_user(one.end, callback));
-	MUST(!waywire_end_set_user(one.end, next, NULL) && !waywire_end_user(one.end, next));
-	waywire_end_free(one.end);
-	waywire_end_free(other.end);
 }
 
 /* What a client's report of wl_registry.global says: whether the client does not remember the global. */
@@ -491,13 +325,10 @@ static void globals(void)
 {
 	static const uint32_t remove[] = { 2, 12 << 16 | WAYWIRE_WL_REGISTRY_EVENT_GLOBAL_REMOVE, 7 };
 	waywire_client one;
-	waywire_arg new = waywire_new();
-	waywire_object registry;
 	waywire_report report;
 	waywire_amounts fed;
 	MUST(!waywire_client_new(tables, &sizes, &one));
-	MUST(!waywire_end_send(one.end, display, WAYWIRE_WL_DISPLAY_REQUEST_GET_REGISTRY, &new, 1, &registry,
-		NULL));
+	waywire_object registry = get_registry(one).object;
 	MUST(forgets(one, 1, "no_such"));
 	for (uint32_t name = 1; name <= 1024; name++)
 		MUST(!forgets(one, name, "wl_seat"));
@@ -565,16 +396,11 @@ int main(void)
 	kinds();
 	calls();
 	faults();
-	full();
-	failing();
-	misspelled();
 	more_tables();
 	messages();
 	kinds_of_arguments();
 	server_objects();
-	newer_seat();
 	limits();
-	users();
 	globals();
 	texts();
 	recordings();
