@@ -3,54 +3,9 @@
  * memory. */
 #define _GNU_SOURCE
 #include "descriptors.h"
+#include "refusing.h"
 
-#include <errno.h>
 #include <string.h>
-
-void *__real_malloc(size_t size);
-void *__real_calloc(size_t count, size_t size);
-void *__real_realloc(void *at, size_t size);
-void __real_free(void *at);
-
-static long used;      /* blocks that are not freed */
-static long left = -1; /* allocations before one is refused; below 0 none is */
-static long refused;
-
-static bool refuses(void)
-{
-	if (left < 0 || left-- > 0)
-		return false;
-	refused++;
-	errno = ENOMEM;
-	return true;
-}
-
-void *__wrap_malloc(size_t size)
-{
-	void *at = refuses() ? NULL : __real_malloc(size);
-	used += at != NULL;
-	return at;
-}
-
-void *__wrap_calloc(size_t count, size_t size)
-{
-	void *at = refuses() ? NULL : __real_calloc(count, size);
-	used += at != NULL;
-	return at;
-}
-
-void *__wrap_realloc(void *at, size_t size)
-{
-	void *moved = refuses() ? NULL : __real_realloc(at, size);
-	used += !at && moved;
-	return moved;
-}
-
-void __wrap_free(void *at)
-{
-	used -= at != NULL;
-	__real_free(at);
-}
 
 /* Objects that the server makes. */
 static const char text[] = "interface maker 1\nevent made N(thing)\n"
@@ -152,23 +107,6 @@ static bool dispatches_at_client(void)
 {
 	int count = waywire_connection_dispatch(client, 0);
 	return no_memory(count == 1);
-}
-
-/* Refuses the first allocation of a call, then its second, and so on until it has all that it asks
- * for. `keeps`: what a refused call has sent or kept is still in use. */
-static void each_refused(const char *name, bool (*call)(void), bool keeps)
-{
-	long before = used, number = 0;
-	bool is_done;
-	do {
-		left = number++;
-		refused = 0;
-		is_done = call();
-		left = -1;
-		MUST(is_done == !refused && (is_done || keeps || used == before));
-	} while (refused);
-	MUST(number > 1);
-	printf("%s: %ld allocations\n", name, number - 1);
 }
 
 /* ---- both ends */

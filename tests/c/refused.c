@@ -11,29 +11,37 @@ static waywire_client client;
 static waywire_server server;
 static waywire_inspector *inspector, *passing;
 
-static waywire_status makes_core(void)
+/* Whether a call was made, which has left nothing if its memory was refused. */
+static bool is_made(waywire_status status)
 {
-	return waywire_tables_core(&made_tables);
+	MUST(!status || status == WAYWIRE_NO_MEMORY);
+	MUST(!status || (!made_tables && !client.end && !server.end && !inspector));
+	return !status;
 }
 
-static waywire_status reads(void)
+static bool makes_core(void)
 {
-	return waywire_tables_read(core, text, strlen(text), &made_tables, NULL, NULL);
+	return is_made(waywire_tables_core(&made_tables));
 }
 
-static waywire_status makes_client(void)
+static bool reads(void)
 {
-	return waywire_client_new(core, &sizes, &client);
+	return is_made(waywire_tables_read(core, text, strlen(text), &made_tables, NULL, NULL));
 }
 
-static waywire_status makes_server(void)
+static bool makes_client(void)
 {
-	return waywire_server_new(core, &sizes, &server);
+	return is_made(waywire_client_new(core, &sizes, &client));
 }
 
-static waywire_status makes_inspector(void)
+static bool makes_server(void)
 {
-	return waywire_inspector_new(core, WAYWIRE_USUAL_LIMIT, &inspector);
+	return is_made(waywire_server_new(core, &sizes, &server));
+}
+
+static bool makes_inspector(void)
+{
+	return is_made(waywire_inspector_new(core, WAYWIRE_USUAL_LIMIT, &inspector));
 }
 
 static void frees(void)
@@ -48,25 +56,12 @@ static void frees(void)
 	inspector = NULL;
 }
 
-/* Refuses the first allocation of a call, then its second, and so on until it has all that it asks for. */
-static void each_refused(const char *name, waywire_status (*call)(void))
+static void makes(const char *name, bool (*call)(void))
 {
-	long before = used, number = 0;
-	waywire_status status;
-	do {
-		left = number++;
-		refused = 0;
-		status = call();
-		left = -1;
-		if (refused) {
-			MUST(status == WAYWIRE_NO_MEMORY);
-			MUST(!made_tables && !client.end && !server.end && !inspector && used == before);
-		}
-	} while (refused);
-	MUST(!status && number > 2);
+	long before = used;
+	each_refused(name, call, false);
 	frees();
 	MUST(used == before);
-	printf("%s: %ld allocations\n", name, number - 1);
 }
 
 static const char lawful[] = "lawful: 1 requests, 0 events, 0 and 0 bytes left\n";
@@ -80,17 +75,23 @@ static bool has_lines(const char *wanted)
 	return length == strlen(wanted) && !memcmp(lines, wanted, length);
 }
 
+static bool is_done(waywire_status status)
+{
+	MUST(!status || status == WAYWIRE_NO_MEMORY);
+	return !status;
+}
+
 /* A piece whose allocations are refused is not passed, and passes once they are granted. */
-static waywire_status passes(void)
+static bool passes(void)
 {
 	static const unsigned char sync[] = { 1, 0, 0, 0, 0, 0, 12, 0, 2, 0, 0, 0 };
 	waywire_status status = waywire_inspector_pass(passing, WAYWIRE_FROM_CLIENT, sync, sizeof sync, 0);
 	MUST(has_lines(status ? "" : line));
-	return status;
+	return is_done(status);
 }
 
 /* A verdict that is refused leaves the inspector as it was. */
-static waywire_status judges(void)
+static bool judges(void)
 {
 	const char *text = line;
 	size_t length = 7;
@@ -101,23 +102,7 @@ static waywire_status judges(void)
 	else
 		MUST(!broken && length == strlen(lawful) && !memcmp(text, lawful, length));
 	MUST(has_lines(line));
-	return status;
-}
-
-/* Refuses one allocation after the other of a call at an inspector or an end, which goes on. */
-static void each_refused_of_one(const char *name, waywire_status (*call)(void))
-{
-	long number = 0;
-	waywire_status status;
-	do {
-		left = number++;
-		refused = 0;
-		status = call();
-		left = -1;
-		MUST(status == (refused ? WAYWIRE_NO_MEMORY : WAYWIRE_OK));
-	} while (refused);
-	MUST(number > 1);
-	printf("%s: %ld allocations\n", name, number - 1);
+	return is_done(status);
 }
 
 /* A client with the core's tables, and a registry of it to which no global was announced. */
@@ -136,7 +121,7 @@ static void opens_client(void)
 }
 
 /* A text that is refused leaves the tables of its client. */
-static waywire_status grows(void)
+static bool grows(void)
 {
 	const waywire_tables *before = waywire_end_tables(growing.end);
 	long blocks = used;
@@ -148,11 +133,11 @@ static waywire_status grows(void)
 	MUST(line == 7 && rule == 7 && (now == before) == (status != WAYWIRE_OK));
 	MUST(waywire_tables_interface(now, "wp_two", &index) == (status ? WAYWIRE_NOT_FOUND : WAYWIRE_OK));
 	MUST(!status || used == blocks);
-	return status;
+	return is_done(status);
 }
 
 /* A bind that is refused writes nothing, and opens no object. */
-static waywire_status binds_unannounced(void)
+static bool binds_unannounced(void)
 {
 	waywire_object bound = { 7, 7 };
 	size_t bytes = waywire_end_goes(growing.end, 4096, 0).bytes, count = waywire_end_object_count(growing.end);
@@ -160,25 +145,25 @@ static waywire_status binds_unannounced(void)
 	bool is_written = waywire_end_goes(growing.end, 4096, 0).bytes > bytes;
 	MUST(is_written == !status && waywire_end_object_count(growing.end) == count + is_written);
 	MUST(status ? bound.id == 7 && bound.birth == 7 : bound.id == 5 && bound.birth == 4);
-	return status;
+	return is_done(status);
 }
 
 int main(void)
 {
 	long before = used;
 	MUST(!waywire_tables_core(&core));
-	each_refused("core tables", makes_core);
-	each_refused("tables of a text", reads);
-	each_refused("a client", makes_client);
-	each_refused("a server", makes_server);
-	each_refused("an inspector", makes_inspector);
+	makes("core tables", makes_core);
+	makes("tables of a text", reads);
+	makes("a client", makes_client);
+	makes("a server", makes_server);
+	makes("an inspector", makes_inspector);
 	MUST(!waywire_inspector_new(core, WAYWIRE_USUAL_LIMIT, &passing));
-	each_refused_of_one("a piece", passes);
-	each_refused_of_one("a verdict", judges);
+	each_refused("a piece", passes, true);
+	each_refused("a verdict", judges, true);
 	waywire_inspector_free(passing);
 	opens_client();
-	each_refused_of_one("more tables of a client", grows);
-	each_refused_of_one("a bind that was not announced", binds_unannounced);
+	each_refused("more tables of a client", grows, true);
+	each_refused("a bind that was not announced", binds_unannounced, true);
 	waywire_end_free(growing.end);
 	MUST(waywire_tables_read(core, "nonsense", 8, &made_tables, NULL, NULL) == WAYWIRE_BAD_LINE);
 	waywire_tables_free(core);

@@ -58,6 +58,10 @@ def wrapped(*functions):
     return [f"-Wl,--wrap={it}" for it in functions]
 
 
+# What tests/c/refusing.h replaces.
+REFUSING = wrapped("malloc", "calloc", "realloc", "free")
+
+
 # ---- the tests
 
 
@@ -243,13 +247,13 @@ def no_error_and_no_leak(_program):
 
 def refused_allocations(_program):
     """In each run another allocation of a call fails."""
-    run([compiled("refused", *wrapped("malloc", "realloc", "free"))])
+    run([compiled("refused", *REFUSING)])
 
 
 def followed_messages(_program):
     """What an inspector says about messages that are judged or not, however they are cut; also if any allocation
     fails."""
-    path = compiled("following", *wrapped("malloc", "realloc", "free"))
+    path = compiled("following", *REFUSING)
     run([path])
     need("valgrind")
     run([*VALGRIND, path])
@@ -313,7 +317,7 @@ def connections(_program):
 
 def connections_without_memory(_program):
     """In each run another allocation of a connection's calls fails."""
-    path = compiled("connection_memory", *wrapped("malloc", "calloc", "realloc", "free"))
+    path = compiled("connection_memory", *REFUSING)
     with tempfile.TemporaryDirectory() as folder:
         run([path, folder])
 
