@@ -18,6 +18,12 @@ static void select_source(struct source *source)
 	change++;
 }
 
+waywire_status send_event(const struct client *client, waywire_object object, uint16_t event,
+	const waywire_arg *args, size_t count)
+{
+	return waywire_end_send(client->server.end, object, event, args, count, NULL, NULL);
+}
+
 /* ---- sources */
 
 /* A source that goes ends the selection, whether its client destroys it or goes itself. */
@@ -63,8 +69,8 @@ void set_selection(struct device *device, waywire_object object)
 		return;
 	}
 	if (selection && selection != source)
-		may(selection->client, selection->protocol->cancelled(selection->client->server,
-			selection->object));
+		may(selection->client, send_event(selection->client, selection->object,
+			selection->protocol->cancelled, NULL, 0));
 	if (source)
 		source->was_set = true;
 	select_source(source);
@@ -87,13 +93,17 @@ static waywire_object make_offer(struct device *device)
 {
 	struct client *client = device->client;
 	waywire_object made = { 0, 0 };
-	may(client, device->protocol->data_offer(client->server, device->object, &made));
+	waywire_arg new = waywire_new();
+	may(client, waywire_end_send(client->server.end, device->object,
+		device->protocol->data_offer, &new, 1, &made, NULL));
 	if (!made.id)
 		return made;
 	struct offer *offer = new_data(client, made, sizeof *offer, free);
 	offer->source = selection->number;
-	for (size_t i = 0; i < selection->count; i++)
-		may(client, device->protocol->offer(client->server, made, selection->types[i]));
+	for (size_t i = 0; i < selection->count; i++) {
+		waywire_arg type = waywire_string(selection->types[i]);
+		may(client, send_event(client, made, device->protocol->offer, &type, 1));
+	}
 	return made;
 }
 
@@ -102,8 +112,9 @@ static void send_selection(struct device *device)
 	static const waywire_object none;
 	struct client *client = device->client;
 	waywire_object offer = selection ? make_offer(device) : none;
+	waywire_arg arg = offer.id ? waywire_of(offer) : waywire_no_object();
 	device->sent = change;
-	may(client, device->protocol->selection(client->server, device->object, offer));
+	may(client, send_event(client, device->object, device->protocol->selection, &arg, 1));
 }
 
 void new_device(struct client *client, waywire_object object,
@@ -146,9 +157,10 @@ void send_selection_at_focus(struct client *client)
 void receive(const struct offer *offer, const char *type, int fd)
 {
 	waywire_status status = WAYWIRE_STALE;
+	waywire_arg args[] = { waywire_string(type), waywire_fd((uint32_t)fd) };
 	if (selection && offer->source == selection->number)
-		status = selection->protocol->send(selection->client->server, selection->object,
-			type, fd);
+		status = send_event(selection->client, selection->object,
+			selection->protocol->send, args, 2);
 	if (status)
 		close(fd);
 }

@@ -1,4 +1,4 @@
-/* A clipboard, whichever protocol a client speaks: what data-device.c and data-control.c share. */
+/* A clipboard, whichever protocol a client speaks: what clipboard.c and data-device.c share. */
 #ifndef CLIPBOARD_H
 #define CLIPBOARD_H
 
@@ -9,18 +9,17 @@
 #define MOST_TYPES 64
 #define LONGEST_TYPE 255
 
-/* What differs between the two protocols: rules, and the events of their objects. */
+/* What differs between the two protocols: rules, and the numbers of their messages. */
 struct clipboard_protocol {
 	bool needs_focus; /* a device gets the selection while its client has the focus */
 	bool sets_once;   /* a source that was the selection cannot be set again */
-	waywire_status (*data_offer)(waywire_server server, waywire_object device,
-		waywire_object *offer);
-	waywire_status (*offer)(waywire_server server, waywire_object offer, const char *type);
-	waywire_status (*selection)(waywire_server server, waywire_object device,
-		waywire_object offer);
-	waywire_status (*send)(waywire_server server, waywire_object source, const char *type,
-		int fd);
-	waywire_status (*cancelled)(waywire_server server, waywire_object source);
+	uint16_t data_offer, selection;               /* events of a device */
+	uint16_t offer;                               /* an event of an offer */
+	uint16_t send, cancelled;                     /* events of a source */
+	uint16_t create_data_source, get_data_device; /* requests of a manager */
+	uint16_t offers;                              /* a request of a source */
+	uint16_t start_drag, set_selection;           /* requests of a device */
+	uint16_t receive;                             /* a request of an offer */
 };
 
 /* What a client has to offer, in so many types: data of its source. */
@@ -48,6 +47,10 @@ struct offer {
 	uint64_t source; /* its number */
 };
 
+/* Sends an event that makes no object. */
+waywire_status send_event(const struct client *client, waywire_object object, uint16_t event,
+	const waywire_arg *args, size_t count);
+
 /* Gives a new object its data. */
 void new_source(struct client *client, waywire_object object,
 	const struct clipboard_protocol *protocol);
@@ -64,10 +67,7 @@ void receive(const struct offer *offer, const char *type, int fd);
 void send_selections(void);
 void send_selection_at_focus(struct client *client);
 
-/* Serves the client's objects of a protocol. */
-void serve_data_device(struct client *client);
-#ifdef WITH_DATA_CONTROL
-void serve_data_control(struct client *client);
-#endif
+/* Serves the client's objects of both protocols. */
+void serve_clipboard(struct client *client);
 
 #endif

@@ -183,10 +183,7 @@ static void add_client(int socket)
 		sizeof listeners / sizeof *listeners, client));
 	serve_windows(client);
 	serve_seat(client);
-	serve_data_device(client);
-#ifdef WITH_DATA_CONTROL
-	serve_data_control(client);
-#endif
+	serve_clipboard(client);
 	client->next = clients;
 	clients = client;
 	client_count++;
