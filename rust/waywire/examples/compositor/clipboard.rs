@@ -12,6 +12,9 @@ use waywire::{Object, SendError, Server};
 const MOST_TYPES: usize = 64;
 const LONGEST_TYPE: usize = 255;
 
+/// Whether an event was written.
+pub type Sent = Result<(), SendError>;
+
 /// What differs between the two protocols of a clipboard: rules, and the events of their objects.
 pub trait Protocol {
     /// A device hears of the selection only while its client has the focus.
@@ -20,26 +23,15 @@ pub trait Protocol {
     /// The error of a device for which a source is set that was the selection before, if it is one.
     fn used_source(&self) -> Option<u32>;
 
-    fn send_data_offer(&self, server: &mut Server, device: Object) -> Result<Object, SendError>;
+    fn send_data_offer(&self, to: &mut Server, device: Object) -> Result<Object, SendError>;
 
-    fn send_offer(&self, server: &mut Server, offer: Object, kind: &[u8]) -> Result<(), SendError>;
+    fn send_offer(&self, to: &mut Server, offer: Object, kind: &[u8]) -> Sent;
 
-    fn send_selection(
-        &self,
-        server: &mut Server,
-        device: Object,
-        offer: Option<Object>,
-    ) -> Result<(), SendError>;
+    fn send_selection(&self, to: &mut Server, device: Object, offer: Option<Object>) -> Sent;
 
-    fn send_send(
-        &self,
-        server: &mut Server,
-        source: Object,
-        kind: &[u8],
-        fd: OwnedFd,
-    ) -> Result<(), SendError>;
+    fn send_send(&self, to: &mut Server, source: Object, kind: &[u8], fd: OwnedFd) -> Sent;
 
-    fn send_cancelled(&self, server: &mut Server, source: Object) -> Result<(), SendError>;
+    fn send_cancelled(&self, to: &mut Server, source: Object) -> Sent;
 }
 
 /// A source that is selected, or that was.

@@ -2,80 +2,94 @@
 //! dragged: a source that should be is cancelled. A source's serial is not looked at.
 
 use crate::client::Client;
-use crate::clipboard::Protocol;
-use crate::wayland::wl_data_device::{self, WlDataDevice};
-use crate::wayland::wl_data_device_manager::{self, WlDataDeviceManager};
-use crate::wayland::wl_data_offer::{self, WlDataOffer};
-use crate::wayland::wl_data_source::{self, WlDataSource};
+use crate::clipboard::{Protocol, Sent};
+use crate::wayland::wl_data_device::{self as device, WlDataDevice};
+use crate::wayland::wl_data_device_manager::{self as manager, WlDataDeviceManager};
+use crate::wayland::wl_data_offer::{self as offer, WlDataOffer};
+use crate::wayland::wl_data_source::{self as source, WlDataSource};
 use std::os::fd::OwnedFd;
 use waywire::wayland::wl_seat::WlSeat;
 use waywire::wayland::wl_surface::WlSurface;
 use waywire::{Object, SendError, Server};
 
-struct DataDevice;
+/// A protocol's clipboard, by its typed calls: its events, and the requests of all objects but a
+/// device. In its module are the names `manager`, `source`, `device` and `offer` of their modules.
+macro_rules! clipboard {
+    ($protocol:ident: $manager:ident $source:ident $device:ident $offer:ident;
+        needs_focus: $needs_focus:expr, used_source: $used_source:expr) => {
+        struct $protocol;
 
-impl Protocol for DataDevice {
-    fn needs_focus(&self) -> bool {
-        true
-    }
+        impl Protocol for $protocol {
+            fn needs_focus(&self) -> bool {
+                $needs_focus
+            }
 
-    fn used_source(&self) -> Option<u32> {
-        None
-    }
+            fn used_source(&self) -> Option<u32> {
+                $used_source
+            }
 
-    fn send_data_offer(&self, server: &mut Server, device: Object) -> Result<Object, SendError> {
-        WlDataDevice(device).send_data_offer(server).map(|it| it.0)
-    }
+            fn send_data_offer(
+                &self,
+                to: &mut Server,
+                device: Object,
+            ) -> Result<Object, SendError> {
+                $device(device).send_data_offer(to).map(|it| it.0)
+            }
 
-    fn send_offer(&self, server: &mut Server, offer: Object, kind: &[u8]) -> Result<(), SendError> {
-        WlDataOffer(offer).send_offer(server, kind)
-    }
+            fn send_offer(&self, to: &mut Server, offer: Object, kind: &[u8]) -> Sent {
+                $offer(offer).send_offer(to, kind)
+            }
 
-    fn send_selection(
-        &self,
-        server: &mut Server,
-        device: Object,
-        offer: Option<Object>,
-    ) -> Result<(), SendError> {
-        WlDataDevice(device).send_selection(server, offer.map(WlDataOffer))
-    }
+            fn send_selection(&self, to: &mut Server, device: Object, it: Option<Object>) -> Sent {
+                $device(device).send_selection(to, it.map($offer))
+            }
 
-    fn send_send(
-        &self,
-        server: &mut Server,
-        source: Object,
-        kind: &[u8],
-        fd: OwnedFd,
-    ) -> Result<(), SendError> {
-        WlDataSource(source).send_send(server, kind, fd)
-    }
+            fn send_send(&self, to: &mut Server, source: Object, kind: &[u8], fd: OwnedFd) -> Sent {
+                $source(source).send_send(to, kind, fd)
+            }
 
-    fn send_cancelled(&self, server: &mut Server, source: Object) -> Result<(), SendError> {
-        WlDataSource(source).send_cancelled(server)
-    }
+            fn send_cancelled(&self, to: &mut Server, source: Object) -> Sent {
+                $source(source).send_cancelled(to)
+            }
+        }
+
+        impl manager::Requests for Client {
+            fn create_data_source(&mut self, _: $manager, source: $source) {
+                self.board.add_source(source.0, &$protocol);
+            }
+
+            fn get_data_device(&mut self, _: $manager, device: $device, _: WlSeat) {
+                self.board.add_device(device.0, &$protocol);
+            }
+        }
+
+        impl source::Requests for Client {
+            fn offer(&mut self, source: $source, kind: &[u8]) {
+                self.board.add_type(source.0, kind);
+            }
+
+            fn destroy(&mut self, source: $source) {
+                self.board.drop_source(source.0);
+            }
+        }
+
+        impl offer::Requests for Client {
+            fn receive(&mut self, offer: $offer, kind: &[u8], fd: OwnedFd) {
+                self.ask_for(offer.0, kind, fd);
+            }
+
+            fn destroy(&mut self, offer: $offer) {
+                self.board.drop_offer(offer.0);
+            }
+        }
+    };
 }
+pub(crate) use clipboard;
 
-impl wl_data_device_manager::Requests for Client {
-    fn create_data_source(&mut self, _: WlDataDeviceManager, source: WlDataSource) {
-        self.board.add_source(source.0, &DataDevice);
-    }
+clipboard!(DataDevice: WlDataDeviceManager WlDataSource WlDataDevice WlDataOffer;
+    needs_focus: true, used_source: None);
 
-    fn get_data_device(&mut self, _: WlDataDeviceManager, device: WlDataDevice, _: WlSeat) {
-        self.board.add_device(device.0, &DataDevice);
-    }
-}
-
-impl wl_data_source::Requests for Client {
-    fn offer(&mut self, source: WlDataSource, kind: &[u8]) {
-        self.board.add_type(source.0, kind);
-    }
-
-    fn destroy(&mut self, source: WlDataSource) {
-        self.board.drop_source(source.0);
-    }
-}
-
-impl wl_data_device::Requests for Client {
+impl device::Requests for Client {
     fn start_drag(
         &mut self,
         _: WlDataDevice,
@@ -96,15 +110,5 @@ impl wl_data_device::Requests for Client {
 
     fn release(&mut self, device: WlDataDevice) {
         self.board.drop_device(device.0);
-    }
-}
-
-impl wl_data_offer::Requests for Client {
-    fn receive(&mut self, offer: WlDataOffer, kind: &[u8], fd: OwnedFd) {
-        self.ask_for(offer.0, kind, fd);
-    }
-
-    fn destroy(&mut self, offer: WlDataOffer) {
-        self.board.drop_offer(offer.0);
     }
 }
