@@ -1,11 +1,12 @@
-"""Compares the output of a built `waywire` with that of `reference`, for random sessions.
+"""Compares the output of a built `waywire` with that of `reference`, for recordings and random sessions.
 
     ./test compare PROGRAM [COUNT [SEED]]
 
-Half of the recordings are sessions written from the tables, message by message, with objects, ids, binds
-and descriptors that are mostly right. The others are those of examples/ with bytes changed, pieces left
-out, doubled or swapped, or token counts changed. All are cut into new pieces, and some have a change in
-their text. If the program takes `--tables`, it gets all texts of protocols/ or a random text; if it
+The recordings of examples/ come first, each as it is, with all texts of protocols/. COUNT others follow.
+Half of these are sessions written from the tables, message by message, with objects, ids, binds and
+descriptors that are mostly right. The rest are those of examples/ with bytes changed, pieces left out,
+doubled or swapped, or token counts changed. All are cut into new pieces, and some have a change in their
+text. If the program takes `--tables`, it gets all texts of protocols/ or a random text; if it
 takes `--limit`, it gets a limit. `trace` and `check` must print exactly what the reference says, with its
 exit status. COUNT is 300 and SEED is 1 by default; the same SEED makes the same files. If a run differs,
 its files are left in the folder of temporary files. The last line is 'N passed, M failed'.
@@ -347,10 +348,10 @@ def random_tables(chance):
 
 
 def examples():
-    """The pieces of each recording of examples/."""
+    """The text of each recording of examples/."""
     for path in sorted(glob.glob(f"{TOP}/examples/*.rec")):
         with open(path, "rb") as file:
-            yield reference.parse_recording(file.read())
+            yield file.read()
 
 
 class Case(NamedTuple):
@@ -363,7 +364,10 @@ class Case(NamedTuple):
 
 def cases(count, seed, takes):
     """Makes and compares the runs; `takes` has the options that the program takes."""
-    stored, texts, core = list(examples()), joined_tables(), table_text.core_tables()
+    texts, core = joined_tables(), table_text.core_tables()
+    for text in examples():
+        yield Case(texts if "--tables" in takes else b"", text, reference.LIMIT)
+    stored = [reference.parse_recording(it) for it in examples()]
     for number in range(count):
         chance = random.Random(f"{seed} {number}")
         given, limit = b"", reference.LIMIT

@@ -20,10 +20,11 @@ A case is a file NAME.run:
     error has:
       a part of standard error, instead of `error:`, if the text is that of the command line parser
 
-The words are quoted as in a shell; the program runs in the root of the repository. A missing `output:` or
-`error:` is empty. `output has:` gives a part of standard output. An empty line between two lines of a text
-belongs to the text. With a line `output to: full` the program has a full disk as its standard output, with
-`output to: closed` none at all, and with `output to: nobody` a pipe without a reader.
+The words are quoted as in a shell; the program runs in the root of the repository. With several lines
+`words:` each is run, and all of these runs must be the same. A missing `output:` or `error:` is empty.
+`output has:` gives a part of standard output. An empty line between two lines of a text belongs to the
+text. With a line `output to: full` the program has a full disk as its standard output, with `closed` none
+at all, and with `nobody` a pipe without a reader; with several of these words it is run with each.
 
 These words stand for files that are made for the run: {empty}; {longest} has 16,777,216 bytes, and {too-long}
 one more; {many} has 200,001 pieces. These words stand for paths at which there is no file: {no-file};
@@ -50,8 +51,8 @@ SYNC = "> 0100000000000c0002000000\n< 0200000000000c0007000000\n< 0100000001000c
 
 
 def read_case(path):
-    """The fields of a case: words, status, where the output goes, and its texts."""
-    case = {"words": None, "status": None, "output to": "us"}
+    """The fields of a case: the words of its runs, status, where the output goes, and its texts."""
+    case = {"words": [], "status": None, "output to": "us"}
     field, empty = None, 0
     with open(path, encoding="utf-8") as file:
         lines = file.read().split("\n")
@@ -71,9 +72,11 @@ def read_case(path):
         field = name
         if name in TEXTS:
             case[name] = []
+        elif name == "words":
+            case[name].append(rest.strip())
         elif name:
             case[name] = rest.strip()
-    if case["words"] is None or case["status"] is None:
+    if not case["words"] or case["status"] is None:
         raise ValueError("no words or no status")
     return case
 
@@ -99,12 +102,11 @@ def make_files(folder):
     return files
 
 
-def run(program, case, files):
-    """The standard output, the standard error and the status of a run."""
-    words = [files.get(word, word) for word in shlex.split(case["words"])]
+def run(program, words, where, files):
+    """The standard output, the standard error and the status of a run with these words, whose output goes there."""
+    words = [files.get(word, word) for word in shlex.split(words)]
     options = {"cwd": checks.TOP, "stdin": subprocess.DEVNULL, "stderr": subprocess.PIPE}
     options["timeout"] = checks.LONG
-    where = case["output to"]
     if where == "us":
         done = subprocess.run([program, *words], stdout=subprocess.PIPE, check=False, **options)
         return done.stdout, done.stderr, done.returncode
@@ -145,11 +147,20 @@ def listed(folder):
 
 
 def check(program, path, files):
-    """What is wrong with the run of a case, or None."""
+    """What is wrong with the runs of a case, or None."""
     case = read_case(path)
+    for words in case["words"]:
+        for where in case["output to"].split():
+            if wrong := wrong_with(program, case, words, where, files):
+                return f"{words}: {wrong}"
+    return None
+
+
+def wrong_with(program, case, words, where, files):
+    """What is wrong with one run of a case, or None."""
     folder = os.path.dirname(files["{empty}"])
     before = listed(folder)
-    output, error, status = run(program, case, files)
+    output, error, status = run(program, words, where, files)
     after = listed(folder)
     if after != before:
         return f"the folder has {sorted(set(after) ^ set(before))} changed"

@@ -44,7 +44,7 @@ class Sessions(unittest.TestCase):
                         lines = [*lines, verdict]
                     self.assertEqual(lines, stored, path)
                     compared += 1
-        self.assertGreater(compared, 15)
+        self.assertGreater(compared, 5)
 
     def test_a_toolkits_window(self):
         lines, verdict = self.judged("gtk_dialog", ("xdg-shell", "xdg-output", "data-device"))
@@ -125,7 +125,8 @@ sys.exit(is_broken)
         return ran.returncode, ran.stdout.splitlines()
 
     def test_a_right_program(self):
-        self.assertEqual(self.compared(""), (0, ["12 passed, 0 failed"]))
+        number = 12 + len(list(self.tool.examples()))
+        self.assertEqual(self.compared(""), (0, [f"{number} passed, 0 failed"]))
 
     def test_a_wrong_program(self):
         status, lines = self.compared('.replace("wl_registry", "registry").replace("F6", "F5")')
