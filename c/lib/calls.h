@@ -32,17 +32,17 @@ struct waywire_tables {
 #define HIDDEN __attribute__((visibility("hidden")))
 
 /* The address used for an empty slice that is null. */
-extern HIDDEN uint32_t nowhere[1];
+extern HIDDEN uint32_t call_nowhere[1];
 
 /* Tests a slice, and gives an empty one that is null an address. */
-HIDDEN waywire_status slice(const void **bytes, size_t length, size_t size);
+HIDDEN waywire_status call_slice(const void **bytes, size_t length, size_t size);
 
 /* Joins the users of tables. Nothing else about tables changes after they are made, so any number of calls can
  * read them at one time. */
-HIDDEN waywire_tables *used(const waywire_tables *tables);
+HIDDEN waywire_tables *tables_ref(const waywire_tables *tables);
 
 /* Reads a text and appends it to the tables of a client, which takes the result, `more`, and becomes its user. */
-HIDDEN waywire_status read_for_client(struct handle *client, const void *text, size_t length,
+HIDDEN waywire_status tables_read_for_client(struct handle *client, const void *text, size_t length,
 	waywire_tables **more, size_t *line, uint32_t *rule);
 
 #endif

@@ -60,7 +60,7 @@ waywire_status waywire_inspector_new(const waywire_tables *tables, uint32_t limi
 		free(made);
 		return status;
 	}
-	made->tables = used(tables);
+	made->tables = tables_ref(tables);
 	*inspector = made;
 	return WAYWIRE_OK;
 }
@@ -79,7 +79,7 @@ waywire_status waywire_inspector_pass(waywire_inspector *inspector, waywire_send
 {
 	if (!inspector)
 		return WAYWIRE_NULL;
-	waywire_status status = slice(&bytes, length, 1);
+	waywire_status status = call_slice(&bytes, length, 1);
 	if (status)
 		return status;
 	return waywire_c_inspector_pass(&inspector->handle, sender, bytes, length, token_count);
@@ -94,7 +94,7 @@ const char *waywire_inspector_lines(const waywire_inspector *inspector, size_t *
 	if (!inspector)
 		return NULL;
 	waywire_c_inspector_lines(&inspector->handle, &lines, length);
-	return lines ? lines : (const char *)nowhere;
+	return lines ? lines : (const char *)call_nowhere;
 }
 
 waywire_status waywire_inspector_verdict(waywire_inspector *inspector, const char **line,
@@ -135,7 +135,7 @@ waywire_status waywire_inspector_follow(waywire_inspector *inspector, waywire_se
 {
 	if (!inspector)
 		return WAYWIRE_NULL;
-	waywire_status status = slice(&bytes, length, 1);
+	waywire_status status = call_slice(&bytes, length, 1);
 	if (status)
 		return status;
 	return waywire_c_inspector_follow(&inspector->handle, sender, bytes, length);
@@ -205,9 +205,9 @@ waywire_status waywire_recording_next(const void *text, size_t length, size_t fr
 	struct reported_piece reported = { 0, 0, 0, 0, 0 };
 	if (!piece)
 		return WAYWIRE_NULL;
-	waywire_status status = slice(&text, length, 1);
+	waywire_status status = call_slice(&text, length, 1);
 	if (!status)
-		status = slice(&to, room, 1);
+		status = call_slice(&to, room, 1);
 	if (status)
 		return status;
 	if (from > length || line > PTRDIFF_MAX)

@@ -115,7 +115,7 @@ static waywire_status made_tables(waywire_status status, waywire_tables *made, w
 	return status;
 }
 
-waywire_tables *used(const waywire_tables *tables)
+waywire_tables *tables_ref(const waywire_tables *tables)
 {
 	__atomic_add_fetch(&tables->own->users, 1, __ATOMIC_SEQ_CST);
 	return tables->own;
@@ -148,7 +148,7 @@ static waywire_status read_over(const waywire_tables *tables, struct handle *cli
 {
 	size_t no_line;
 	uint32_t no_rule;
-	waywire_status status = slice(&text, length, 1);
+	waywire_status status = call_slice(&text, length, 1);
 	if (status)
 		return status;
 	waywire_tables *made = empty_tables();
@@ -174,8 +174,8 @@ waywire_status waywire_tables_read(const waywire_tables *tables, const void *tex
 	return read_over(tables, NULL, text, length, more, line, rule);
 }
 
-waywire_status read_for_client(struct handle *client, const void *text, size_t length, waywire_tables **more,
-	size_t *line, uint32_t *rule)
+waywire_status tables_read_for_client(struct handle *client, const void *text, size_t length,
+	waywire_tables **more, size_t *line, uint32_t *rule)
 {
 	return read_over(NULL, client, text, length, more, line, rule);
 }
@@ -247,7 +247,7 @@ waywire_status waywire_tables_decode(const waywire_tables *tables, uint16_t inte
 {
 	if (!tables || !decoded)
 		return WAYWIRE_NULL;
-	waywire_status status = slice(&bytes, length, 1);
+	waywire_status status = call_slice(&bytes, length, 1);
 	if (status)
 		return status;
 	status = waywire_c_tables_decode(tables->handle, interface, version, sender, bytes, length, decoded,

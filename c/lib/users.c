@@ -27,14 +27,14 @@ static waywire_status set_in(struct user_range *range, size_t index, uint64_t bi
 	return status;
 }
 
-waywire_status set_user(struct users *users, waywire_object object, void *pointer)
+waywire_status users_set(struct users *users, waywire_object object, void *pointer)
 {
 	if (object.id < WAYWIRE_FIRST_SERVER_ID)
 		return set_in(&users->of_client, object.id, object.birth, pointer);
 	return set_in(&users->of_server, object.id - WAYWIRE_FIRST_SERVER_ID, object.birth, pointer);
 }
 
-void free_users(struct users *users)
+void users_free(struct users *users)
 {
 	free(users->of_client.at);
 	free(users->of_server.at);

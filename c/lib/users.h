@@ -31,7 +31,7 @@ static inline void *user_in(const struct user_range *range, uint32_t index, uint
 }
 
 /* The pointer of an object; null if it has none. Every report asks for it. */
-static inline void *user_of(const struct users *users, waywire_object object)
+static inline void *users_get(const struct users *users, waywire_object object)
 {
 	if (object.id < WAYWIRE_FIRST_SERVER_ID)
 		return user_in(&users->of_client, object.id, object.birth);
@@ -39,8 +39,8 @@ static inline void *user_of(const struct users *users, waywire_object object)
 }
 
 /* Sets the pointer of an object that is live. */
-HIDDEN waywire_status set_user(struct users *users, waywire_object object, void *pointer);
+HIDDEN waywire_status users_set(struct users *users, waywire_object object, void *pointer);
 
-HIDDEN void free_users(struct users *users);
+HIDDEN void users_free(struct users *users);
 
 #endif

@@ -79,15 +79,15 @@ SAME(report_end, offsetof(waywire_report, user) == 120 && offsetof(waywire_repor
 /* One more than a message can have, so that the export refuses a call with too many. */
 #define MAX_GIVEN (WAYWIRE_MAX_ARGS + 1)
 
-uint32_t nowhere[1];
+uint32_t call_nowhere[1];
 
-waywire_status slice(const void **bytes, size_t length, size_t size)
+waywire_status call_slice(const void **bytes, size_t length, size_t size)
 {
 	if (length > (size_t)PTRDIFF_MAX / size)
 		return WAYWIRE_TOO_LARGE;
 	if (*bytes)
 		return WAYWIRE_OK;
-	*bytes = nowhere;
+	*bytes = call_nowhere;
 	return length ? WAYWIRE_NULL : WAYWIRE_OK;
 }
 
@@ -117,11 +117,11 @@ static waywire_status copy_args(const waywire_arg *args, size_t count, waywire_a
 		waywire_arg *copy = &copies[i];
 		*copy = args[i];
 		if (!has_bytes(copy)) {
-			copy->bytes = nowhere;
+			copy->bytes = call_nowhere;
 			copy->length = 0;
 			continue;
 		}
-		waywire_status status = slice(&copy->bytes, copy->length, 1);
+		waywire_status status = call_slice(&copy->bytes, copy->length, 1);
 		if (status)
 			return status;
 	}
@@ -177,7 +177,7 @@ static waywire_status new_end(maker *make, const waywire_tables *tables, const w
 		free(end);
 		return status;
 	}
-	end->tables = used(tables);
+	end->tables = tables_ref(tables);
 	memset(&end->users, 0, sizeof end->users);
 	end->unreported = 0;
 	*made = end;
@@ -190,7 +190,7 @@ void waywire_end_free(waywire_end *end)
 		return;
 	waywire_c_end_free(end->handle);
 	waywire_tables_free(end->tables);
-	free_users(&end->users);
+	users_free(&end->users);
 	free(end);
 }
 
@@ -218,12 +218,12 @@ waywire_status waywire_end_set_user(waywire_end *end, waywire_object object, voi
 	waywire_status status = waywire_end_live(end, object, NULL, NULL);
 	if (status)
 		return status == WAYWIRE_NOT_FOUND ? WAYWIRE_STALE : status;
-	return set_user(&end->users, object, user);
+	return users_set(&end->users, object, user);
 }
 
 void *waywire_end_user(const waywire_end *end, waywire_object object)
 {
-	return end ? user_of(&end->users, object) : NULL;
+	return end ? users_get(&end->users, object) : NULL;
 }
 
 size_t waywire_end_object_count(const waywire_end *end)
@@ -287,9 +287,9 @@ waywire_status waywire_end_feed(waywire_end *end, const void *bytes, size_t leng
 	const void *from = tokens;
 	if (!end || !fed)
 		return WAYWIRE_NULL;
-	waywire_status status = slice(&bytes, length, 1);
+	waywire_status status = call_slice(&bytes, length, 1);
 	if (!status)
-		status = slice(&from, token_count, sizeof *tokens);
+		status = call_slice(&from, token_count, sizeof *tokens);
 	if (status)
 		return status;
 	bool has_failed = waywire_c_end_feed(&end->handle, bytes, length, from, token_count, fed);
@@ -310,9 +310,9 @@ waywire_status waywire_end_take(waywire_end *end, void *bytes, size_t length, ui
 	const void *to = bytes, *tokens_to = tokens;
 	if (!end || !taken)
 		return WAYWIRE_NULL;
-	waywire_status status = slice(&to, length, 1);
+	waywire_status status = call_slice(&to, length, 1);
 	if (!status)
-		status = slice(&tokens_to, token_count, sizeof *tokens);
+		status = call_slice(&tokens_to, token_count, sizeof *tokens);
 	if (!status)
 		waywire_c_end_take(&end->handle, (void *)to, length, (uint32_t *)tokens_to,
 			token_count, taken);
@@ -325,7 +325,7 @@ waywire_status waywire_end_peek(const waywire_end *end, waywire_part parts[2], u
 	const void *to = tokens;
 	if (!end || !parts || !token_count)
 		return WAYWIRE_NULL;
-	waywire_status status = slice(&to, room, sizeof *tokens);
+	waywire_status status = call_slice(&to, room, sizeof *tokens);
 	if (status)
 		return status;
 	waywire_c_end_peek(&end->handle, parts, token_count);
@@ -358,7 +358,7 @@ waywire_status waywire_end_received(waywire_end *end, size_t bytes, const uint32
 	const void *from = tokens;
 	if (!end || !fed)
 		return WAYWIRE_NULL;
-	waywire_status status = slice(&from, token_count, sizeof *tokens);
+	waywire_status status = call_slice(&from, token_count, sizeof *tokens);
 	if (status)
 		return status;
 	bool has_failed = waywire_c_end_received(&end->handle, bytes, from, token_count, fed);
@@ -371,7 +371,7 @@ waywire_status waywire_end_take_waiting_tokens(waywire_end *end, uint32_t *token
 	const void *to = tokens;
 	if (!end || !taken)
 		return WAYWIRE_NULL;
-	waywire_status status = slice(&to, token_count, sizeof *tokens);
+	waywire_status status = call_slice(&to, token_count, sizeof *tokens);
 	if (!status)
 		waywire_c_end_take_waiting_tokens(&end->handle, (uint32_t *)to, token_count, taken);
 	return status;
@@ -412,8 +412,8 @@ waywire_status waywire_end_next(waywire_end *end, waywire_report *report)
 		list_tokens(report, end->tokens);
 		end->unreported -= report->token_count;
 	}
-	report->user = user_of(&end->users, report->target);
-	report->replaced_user = report->replaced.id ? user_of(&end->users, report->replaced) : NULL;
+	report->user = users_get(&end->users, report->target);
+	report->replaced_user = report->replaced.id ? users_get(&end->users, report->replaced) : NULL;
 	return status;
 }
 
@@ -451,7 +451,8 @@ waywire_status waywire_client_more_tables(waywire_client client, const void *tex
 	waywire_tables *more;
 	if (!client.end)
 		return WAYWIRE_NULL;
-	waywire_status status = read_for_client(&client.end->handle, text, length, &more, line, rule);
+	waywire_status status = tables_read_for_client(&client.end->handle, text, length, &more, line,
+		rule);
 	if (!status) {
 		waywire_tables_free(client.end->tables);
 		client.end->tables = more;

@@ -26,7 +26,7 @@ struct signature {
 /* Reads a signature. False if it is malformed: a number that is too large, a character that is no
  * letter of an argument, a `?` that is not before `s`, `o`, `n` or `a`, or more than
  * WAYWIRE_MAX_ARGS arguments. */
-bool read_signature(struct signature *signature, const char *text);
+bool signature_read(struct signature *signature, const char *text);
 
 /* ---- what the types of libwayland-client are here */
 
@@ -84,33 +84,33 @@ struct wl_display {
 /* ---- tables (tables.c) */
 
 /* Makes the client of a display, with the tables that every display begins with. False with errno. */
-bool make_client(struct wl_display *display, const waywire_sizes *sizes);
+bool tables_make_client(struct wl_display *display, const waywire_sizes *sizes);
 
 /* Whether the client's tables agree with an interface: they have all its messages, with the same
  * arguments. If not, it says why on stderr. */
-bool agrees_with_tables(struct wl_display *display, const struct wl_interface *interface);
+bool tables_agree(struct wl_display *display, const struct wl_interface *interface);
 
 /* Adds to the client's tables what they lack of an interface, and of all interfaces that its messages name. False
  * with errno if that cannot be, or if the interface contradicts the tables; then it has said why on stderr.
  * Reports become invalid. */
-bool learn_interface(struct wl_display *display, const struct wl_interface *interface);
+bool tables_learn(struct wl_display *display, const struct wl_interface *interface);
 
 /* ---- proxies (proxy.c) */
 
 /* Makes a proxy without an object, for one that `factory` makes. Null with errno. */
-struct wl_proxy *create_proxy(struct wl_proxy *factory, const struct wl_interface *interface,
+struct wl_proxy *proxy_create(struct wl_proxy *factory, const struct wl_interface *interface,
 	uint32_t version);
 
 /* Gives a proxy an object of the client. The display fails if there is no memory for that. */
-void give_object(struct wl_proxy *proxy, waywire_object object);
+void proxy_give_object(struct wl_proxy *proxy, waywire_object object);
 
 /* Ends the client's reference to a proxy, if it has one: the object is gone. */
-void let_go(struct wl_proxy *proxy);
+void proxy_let_go(struct wl_proxy *proxy);
 
-void release_proxy(struct wl_proxy *proxy);
+void proxy_release(struct wl_proxy *proxy);
 
 /* What wl_proxy_destroy does. The lock is taken. */
-void destroy_proxy(struct wl_proxy *proxy);
+void proxy_destroy(struct wl_proxy *proxy);
 
 /* The proxy of an object that a report names; null if it has none, or if the program has destroyed
  * it. */
@@ -120,23 +120,23 @@ struct wl_proxy *proxy_of(const struct wl_display *display, waywire_object objec
 
 /* Ends the connection for good with an errno, unless it has ended already, and wakes all
  * readers. */
-void fail_display(struct wl_display *display, int error);
+void display_fail(struct wl_display *display, int error);
 
 /* Wakes the threads that wait for another to read. */
-void wake_readers(struct wl_display *display);
+void reading_wake(struct wl_display *display);
 
 /* Sends what waits. Returns 0, or -1 with errno. The lock is taken. */
-int flush_display(struct wl_display *display);
+int display_flush(struct wl_display *display);
 
 /* How many bytes wait to be sent. The lock is taken. */
-size_t waiting_bytes(const struct wl_display *display);
+size_t display_waiting_bytes(const struct wl_display *display);
 
 /* Sends what waits, as wl_display_flush does, but counts no bytes, which takes time. Returns 0, or
  * -1 with errno. Takes the lock. */
-int flush_uncounted(struct wl_display *display);
+int display_flush_uncounted(struct wl_display *display);
 
 /* Closes the descriptors of a report. */
-void close_descriptors(const waywire_report *report);
+void report_close_descriptors(const waywire_report *report);
 
 /* ---- events (event.c) */
 
@@ -154,14 +154,14 @@ struct event {
 /* Puts what a report says into a queue. `length` is how many bytes the message had, if messages are
  * printed. Its descriptors are the event's then, or closed. -1 with errno if the connection has to
  * end. */
-int take_report(struct wl_display *display, const waywire_report *report, size_t length);
+int event_take(struct wl_display *display, const waywire_report *report, size_t length);
 
 /* Takes the first event out of a queue, and calls its listener. The lock is taken, and given up during the call. */
-void dispatch_first(struct wl_display *display, struct wl_event_queue *queue);
+void queue_dispatch_first(struct wl_display *display, struct wl_event_queue *queue);
 
 /* Drops all events of a queue. */
-void empty_queue(struct wl_event_queue *queue);
+void queue_drain(struct wl_event_queue *queue);
 
-void init_queue(struct wl_event_queue *queue, struct wl_display *display);
+void queue_init(struct wl_event_queue *queue, struct wl_display *display);
 
 #endif

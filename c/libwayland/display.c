@@ -13,18 +13,18 @@ static const waywire_sizes display_sizes = { 65536, 48, 65536, 256, WAYWIRE_USUA
 
 /* ---- errors */
 
-void wake_readers(struct wl_display *display)
+void reading_wake(struct wl_display *display)
 {
 	display->read_serial++;
 	pthread_cond_broadcast(&display->has_read);
 }
 
-void fail_display(struct wl_display *display, int error)
+void display_fail(struct wl_display *display, int error)
 {
 	if (display->last_error)
 		return;
 	display->last_error = error ? error : EFAULT;
-	wake_readers(display);
+	reading_wake(display);
 }
 
 EXPORT int wl_display_get_error(struct wl_display *display)
@@ -54,8 +54,8 @@ EXPORT uint32_t wl_display_get_protocol_error(struct wl_display *display,
 static void init_display(struct wl_display *display)
 {
 	struct wl_proxy *proxy = &display->proxy;
-	init_queue(&display->display_queue, display);
-	init_queue(&display->default_queue, display);
+	queue_init(&display->display_queue, display);
+	queue_init(&display->default_queue, display);
 	pthread_mutex_init(&display->mutex, NULL);
 	pthread_cond_init(&display->has_read, NULL);
 	proxy->object.interface = &wl_display_interface;
@@ -64,7 +64,7 @@ static void init_display(struct wl_display *display)
 	proxy->queue = &display->default_queue;
 	proxy->user_data = display;
 	proxy->references = 1;
-	give_object(proxy, waywire_end_display(display->client.end));
+	proxy_give_object(proxy, waywire_end_display(display->client.end));
 }
 
 /* Frees a display whose descriptor is closed and whose end is given up. */
@@ -78,9 +78,9 @@ static void free_display(struct wl_display *display)
 
 EXPORT struct wl_display *wl_display_connect_to_fd(int fd)
 {
-	read_debug();
+	log_read_debug();
 	struct wl_display *display = calloc(1, sizeof *display);
-	if (!display || !make_client(display, &display_sizes)) {
+	if (!display || !tables_make_client(display, &display_sizes)) {
 		free(display);
 		waywire_socket_close(fd, NULL);
 		return NULL;
@@ -132,7 +132,7 @@ static void let_go_of_all(struct wl_display *display)
 		if (object.id < WAYWIRE_FIRST_SERVER_ID || !waywire_end_live(end, object, NULL, NULL))
 			proxy = waywire_end_user(end, object);
 		if (proxy)
-			let_go(proxy);
+			proxy_let_go(proxy);
 	}
 }
 
@@ -140,8 +140,8 @@ static void let_go_of_all(struct wl_display *display)
  * are its own to free no more. */
 EXPORT void wl_display_disconnect(struct wl_display *display)
 {
-	empty_queue(&display->default_queue);
-	empty_queue(&display->display_queue);
+	queue_drain(&display->default_queue);
+	queue_drain(&display->display_queue);
 	let_go_of_all(display);
 	waywire_socket_close(display->fd, display->client.end);
 	free_display(display);
@@ -154,12 +154,12 @@ EXPORT int wl_display_get_fd(struct wl_display *display)
 
 /* ---- sending */
 
-int flush_display(struct wl_display *display)
+int display_flush(struct wl_display *display)
 {
 	return waywire_socket_flush(display->fd, display->client.end);
 }
 
-size_t waiting_bytes(const struct wl_display *display)
+size_t display_waiting_bytes(const struct wl_display *display)
 {
 	return waywire_end_goes(display->client.end, PTRDIFF_MAX, PTRDIFF_MAX).bytes;
 }
@@ -172,13 +172,13 @@ static int flush_unless_ended(struct wl_display *display)
 		errno = display->last_error;
 		return -1;
 	}
-	int result = flush_display(display);
+	int result = display_flush(display);
 	if (result && errno != EAGAIN && errno != EPIPE)
-		fail_display(display, errno);
+		display_fail(display, errno);
 	return result;
 }
 
-int flush_uncounted(struct wl_display *display)
+int display_flush_uncounted(struct wl_display *display)
 {
 	pthread_mutex_lock(&display->mutex);
 	int result = flush_unless_ended(display);
@@ -189,7 +189,7 @@ int flush_uncounted(struct wl_display *display)
 EXPORT int wl_display_flush(struct wl_display *display)
 {
 	pthread_mutex_lock(&display->mutex);
-	size_t waits = waiting_bytes(display);
+	size_t waits = display_waiting_bytes(display);
 	int result = flush_unless_ended(display);
 	pthread_mutex_unlock(&display->mutex);
 	return result ? -1 : (int)waits;
@@ -201,7 +201,7 @@ EXPORT void wl_display_set_max_buffer_size(struct wl_display *display, size_t mo
 	(void)display, (void)most;
 }
 
-void close_descriptors(const waywire_report *report)
+void report_close_descriptors(const waywire_report *report)
 {
 	int error = errno;
 	for (size_t i = 0; i < report->token_count; i++)

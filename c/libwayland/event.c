@@ -55,9 +55,9 @@ static void free_event(struct event *event)
 		if (event->signature.letters[i] == 'h' && !event->was_delivered)
 			close(arg->h);
 		if (is_object(event, i) && arg->o)
-			release_proxy((struct wl_proxy *)arg->o);
+			proxy_release((struct wl_proxy *)arg->o);
 	}
-	release_proxy(event->proxy);
+	proxy_release(event->proxy);
 	free(event);
 }
 
@@ -70,7 +70,7 @@ static void drop_destroyed(struct event *event)
 		struct wl_proxy *proxy = (struct wl_proxy *)event->args[i].o;
 		if (!proxy || !proxy->is_destroyed)
 			continue;
-		release_proxy(proxy);
+		proxy_release(proxy);
 		event->args[i].o = NULL;
 	}
 }
@@ -85,7 +85,7 @@ static void destroy_made(const struct event *event)
 			continue;
 		int own = 2 + made->is_held; /* the program's, this event's and the client's */
 		if (made->references == own)
-			destroy_proxy(made);
+			proxy_destroy(made);
 	}
 }
 
@@ -98,7 +98,7 @@ static void show_proxies(const struct event *event)
 }
 
 /* The last events come first: each is gone before the one that made what it names. */
-void empty_queue(struct wl_event_queue *queue)
+void queue_drain(struct wl_event_queue *queue)
 {
 	while (!wl_list_empty(&queue->events)) {
 		struct event *event = wl_container_of(queue->events.prev, event, link);
@@ -163,7 +163,7 @@ static bool read_event(const struct wl_proxy *proxy, const waywire_report *repor
 	const struct wl_interface *interface = proxy->object.interface;
 	sizes->arrays = sizes->bytes = 0;
 	if (report->opcode >= (uint32_t)interface->event_count
-		|| !read_signature(signature, interface->events[report->opcode].signature)
+		|| !signature_read(signature, interface->events[report->opcode].signature)
 		|| signature->count != report->arg_count)
 		return false;
 	for (size_t i = 0; i < signature->count; i++) {
@@ -261,14 +261,14 @@ static bool make_new(struct event *event, size_t index, waywire_object object)
 	struct wl_proxy *maker = event->proxy;
 	const struct wl_interface **types = event->message->types;
 	const struct wl_interface *interface = types ? types[index] : NULL;
-	if (!interface || !agrees_with_tables(maker->display, interface)) {
+	if (!interface || !tables_agree(maker->display, interface)) {
 		errno = EINVAL;
 		return false;
 	}
-	struct wl_proxy *made = create_proxy(maker, interface, maker->version);
+	struct wl_proxy *made = proxy_create(maker, interface, maker->version);
 	if (!made)
 		return false;
-	give_object(made, object);
+	proxy_give_object(made, object);
 	event->args[index].o = referenced(made);
 	return true;
 }
@@ -283,14 +283,14 @@ static struct event *copy_message(struct wl_proxy *proxy, const waywire_report *
 	if (!read_event(proxy, report, &signature, &sizes)) {
 		log_line("%s@%u: event %u is none of its interface, or has a wrong null\n",
 			proxy->object.interface->name, proxy->object.id, report->opcode);
-		close_descriptors(report);
+		report_close_descriptors(report);
 		errno = EINVAL;
 		return NULL;
 	}
 	struct event *event = new_event(proxy, &signature, report->opcode,
 		sizes.arrays + sizes.bytes);
 	if (!event) {
-		close_descriptors(report);
+		report_close_descriptors(report);
 		return NULL;
 	}
 	union wl_argument *end = event->args + signature.count;
@@ -326,16 +326,16 @@ static bool is_zombie(const waywire_report *report)
 static void discard(const waywire_report *report, size_t length)
 {
 	if (is_debugging())
-		print_discarded(is_zombie(report), report->target.id, report->opcode,
+		log_discarded(is_zombie(report), report->target.id, report->opcode,
 			report->token_count, length);
-	close_descriptors(report);
+	report_close_descriptors(report);
 }
 
 /* The object whose id the new object has taken over is gone. */
 static void end_replaced(const waywire_report *report)
 {
 	if (report->replaced_user)
-		let_go(report->replaced_user);
+		proxy_let_go(report->replaced_user);
 }
 
 static int take_message(const waywire_report *report, size_t length)
@@ -351,7 +351,7 @@ static int take_message(const waywire_report *report, size_t length)
 	if (event)
 		put_in_queue(proxy->queue, event);
 	if (replaced)
-		let_go(replaced);
+		proxy_let_go(replaced);
 	return event ? 0 : -1;
 }
 
@@ -398,7 +398,7 @@ static int take_error(struct wl_display *display, const waywire_report *report)
 	return 0;
 }
 
-int take_report(struct wl_display *display, const waywire_report *report, size_t length)
+int event_take(struct wl_display *display, const waywire_report *report, size_t length)
 {
 	switch (report->kind) {
 	case WAYWIRE_MESSAGE:
@@ -409,7 +409,7 @@ int take_report(struct wl_display *display, const waywire_report *report, size_t
 		return 0;
 	case WAYWIRE_DELETED:
 		if (report->user)
-			let_go(report->user);
+			proxy_let_go(report->user);
 		return take_delete_id(display, report->target.id, false);
 	case WAYWIRE_STRAY:
 		return take_delete_id(display, report->id, true);
@@ -426,7 +426,7 @@ static void print_event(const struct event *event, bool is_discarded)
 	struct printed_message printed = { &event->proxy->object, event->message, event->args, 0,
 		false, is_discarded };
 	if (is_debugging())
-		print_message(&printed);
+		log_message(&printed);
 }
 
 /* The errno of a wl_display.error about an object of this interface. */
@@ -525,7 +525,7 @@ static void hear(struct event *event)
 	call_listener(functions[event->opcode], proxy->user_data, event);
 }
 
-void dispatch_first(struct wl_display *display, struct wl_event_queue *queue)
+void queue_dispatch_first(struct wl_display *display, struct wl_event_queue *queue)
 {
 	struct event *event = wl_container_of(queue->events.next, event, link);
 	struct wl_proxy *proxy = event->proxy;

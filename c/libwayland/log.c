@@ -14,7 +14,7 @@ static void print_to_stderr(const char *format, va_list args)
 }
 
 static wl_log_func_t handler = print_to_stderr;
-bool debugging_clients;
+bool log_debugging_clients;
 
 EXPORT void wl_log_set_handler_client(wl_log_func_t new_handler)
 {
@@ -31,12 +31,12 @@ void log_line(const char *format, ...)
 	errno = error;
 }
 
-void read_debug(void)
+void log_read_debug(void)
 {
 	const char *wanted = getenv("WAYLAND_DEBUG");
 	/* It is written once, so threads that connect later do not disturb those that read it. */
-	if (wanted && !debugging_clients && (strstr(wanted, "client") || strstr(wanted, "1")))
-		debugging_clients = true;
+	if (wanted && !log_debugging_clients && (strstr(wanted, "client") || strstr(wanted, "1")))
+		log_debugging_clients = true;
 }
 
 /* The time in microseconds, of which libwayland prints 32 bits. */
@@ -140,7 +140,7 @@ static void print_arguments(FILE *line, const struct printed_message *printed)
 
 /* A line is put together in memory and printed at once, so lines of several threads do not mix.
  * Without memory it is not printed. */
-void print_message(const struct printed_message *printed)
+void log_message(const struct printed_message *printed)
 {
 	int error = errno;
 	char *text = NULL;
@@ -162,7 +162,7 @@ void print_message(const struct printed_message *printed)
 }
 
 /* The id is printed as a signed number, as libwayland does. */
-void print_discarded(bool is_known, uint32_t id, uint32_t opcode, size_t descriptors, size_t bytes)
+void log_discarded(bool is_known, uint32_t id, uint32_t opcode, size_t descriptors, size_t bytes)
 {
 	int error = errno;
 	uint32_t time = microseconds();

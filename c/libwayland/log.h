@@ -10,14 +10,14 @@
 void log_line(const char *format, ...) __attribute__((format(printf, 1, 2)));
 
 /* Reads WAYLAND_DEBUG: call it when a display is connected. */
-void read_debug(void);
+void log_read_debug(void);
 
 /* Whether the messages of clients are printed: once a display was connected while WAYLAND_DEBUG had
  * `1` or `client` in it. Each request and each event asks, so it is no call. */
-extern bool debugging_clients;
+extern bool log_debugging_clients;
 static inline bool is_debugging(void)
 {
-	return debugging_clients;
+	return log_debugging_clients;
 }
 
 /* Prints the line of a message to stderr, word for word as libwayland 1.21 does.
@@ -33,7 +33,7 @@ struct printed_message {
 	bool is_request;
 	bool is_discarded; /* an event whose proxy the program has destroyed */
 };
-void print_message(const struct printed_message *printed);
+void log_message(const struct printed_message *printed);
 
 /* Prints the line of an event whose object has no proxy any more, so its message is not known:
  *
@@ -41,7 +41,7 @@ void print_message(const struct printed_message *printed);
  *
  * `is_known` says whether libwayland would know the id as a zombie. If not, the line has
  * [unknown]. */
-void print_discarded(bool is_known, uint32_t id, uint32_t opcode, size_t descriptors,
+void log_discarded(bool is_known, uint32_t id, uint32_t opcode, size_t descriptors,
 	size_t bytes);
 
 #endif

@@ -8,17 +8,17 @@
 
 /* ---- references */
 
-void release_proxy(struct wl_proxy *proxy)
+void proxy_release(struct wl_proxy *proxy)
 {
 	if (!--proxy->references)
 		free(proxy);
 }
 
-void let_go(struct wl_proxy *proxy)
+void proxy_let_go(struct wl_proxy *proxy)
 {
 	if (proxy->is_held) {
 		proxy->is_held = false;
-		release_proxy(proxy);
+		proxy_release(proxy);
 	}
 }
 
@@ -27,13 +27,13 @@ static bool is_of_server(waywire_object object)
 	return object.id >= WAYWIRE_FIRST_SERVER_ID;
 }
 
-void give_object(struct wl_proxy *proxy, waywire_object object)
+void proxy_give_object(struct wl_proxy *proxy, waywire_object object)
 {
 	proxy->handle = object;
 	proxy->object.id = object.id;
 	proxy->is_registry = !strcmp(proxy->object.interface->name, wl_registry_interface.name);
 	if (waywire_end_set_user(proxy->display->client.end, object, proxy)) {
-		fail_display(proxy->display, ENOMEM);
+		display_fail(proxy->display, ENOMEM);
 		return;
 	}
 	proxy->is_held = true;
@@ -55,7 +55,7 @@ static bool has_descriptor_event(const struct wl_interface *interface)
  * holds the proxy. An object that the server made has no last report, so the client's pointer is
  * taken back when the program destroys the proxy. If the object is dead by then, the pointer stays,
  * but is never followed: see `proxy_of`. */
-void destroy_proxy(struct wl_proxy *proxy)
+void proxy_destroy(struct wl_proxy *proxy)
 {
 	if (proxy->is_wrapper) {
 		log_line("wl_proxy_destroy was called with the wrapper %p\n", (void *)proxy);
@@ -73,7 +73,7 @@ void destroy_proxy(struct wl_proxy *proxy)
 		proxy->is_held = false;
 		proxy->references--; /* the program has another */
 	}
-	release_proxy(proxy);
+	proxy_release(proxy);
 }
 
 struct wl_proxy *proxy_of(const struct wl_display *display, waywire_object object)
@@ -87,7 +87,7 @@ struct wl_proxy *proxy_of(const struct wl_display *display, waywire_object objec
 
 /* ---- making and destroying */
 
-struct wl_proxy *create_proxy(struct wl_proxy *factory, const struct wl_interface *interface,
+struct wl_proxy *proxy_create(struct wl_proxy *factory, const struct wl_interface *interface,
 	uint32_t version)
 {
 	struct wl_proxy *proxy = calloc(1, sizeof *proxy);
@@ -106,7 +106,7 @@ EXPORT struct wl_proxy *wl_proxy_create(struct wl_proxy *factory,
 {
 	struct wl_display *display = factory->display;
 	pthread_mutex_lock(&display->mutex);
-	struct wl_proxy *proxy = create_proxy(factory, interface, factory->version);
+	struct wl_proxy *proxy = proxy_create(factory, interface, factory->version);
 	pthread_mutex_unlock(&display->mutex);
 	return proxy;
 }
@@ -115,7 +115,7 @@ EXPORT void wl_proxy_destroy(struct wl_proxy *proxy)
 {
 	struct wl_display *display = proxy->display;
 	pthread_mutex_lock(&display->mutex);
-	destroy_proxy(proxy);
+	proxy_destroy(proxy);
 	pthread_mutex_unlock(&display->mutex);
 }
 

@@ -12,7 +12,7 @@
 
 /* ---- queues */
 
-void init_queue(struct wl_event_queue *queue, struct wl_display *display)
+void queue_init(struct wl_event_queue *queue, struct wl_display *display)
 {
 	wl_list_init(&queue->events);
 	queue->display = display;
@@ -25,7 +25,7 @@ EXPORT struct wl_event_queue *wl_display_create_queue_with_name(struct wl_displa
 	struct wl_event_queue *queue = malloc(sizeof *queue);
 	if (!queue)
 		return NULL;
-	init_queue(queue, display);
+	queue_init(queue, display);
 	if (name && !(queue->name = strdup(name))) {
 		free(queue);
 		return NULL;
@@ -50,7 +50,7 @@ EXPORT void wl_event_queue_destroy(struct wl_event_queue *queue)
 {
 	struct wl_display *display = queue->display;
 	pthread_mutex_lock(&display->mutex);
-	empty_queue(queue);
+	queue_drain(queue);
 	pthread_mutex_unlock(&display->mutex);
 	free(queue->name);
 	free(queue);
@@ -66,7 +66,7 @@ static int dispatch_most(struct wl_display *display, struct wl_event_queue *queu
 	int count = 0;
 	pthread_mutex_lock(&display->mutex);
 	while (!display->last_error && count < most && !wl_list_empty(&display_queue->events)) {
-		dispatch_first(display, display_queue);
+		queue_dispatch_first(display, display_queue);
 		count++;
 	}
 	if (!display->last_error && display->deleted_count && count < most) {
@@ -77,7 +77,7 @@ static int dispatch_most(struct wl_display *display, struct wl_event_queue *queu
 		count += deleted;
 	}
 	while (!display->last_error && count < most && !wl_list_empty(&queue->events)) {
-		dispatch_first(display, queue);
+		queue_dispatch_first(display, queue);
 		count++;
 	}
 	if (display->last_error) {
@@ -161,7 +161,7 @@ static int wait_until(const struct wl_display *display, short events, int64_t en
  * wait for. */
 static int send_until(struct wl_display *display, int64_t end)
 {
-	while (flush_uncounted(display)) {
+	while (display_flush_uncounted(display)) {
 		if (errno == EPIPE)
 			return 1;
 		if (errno != EAGAIN || wl_display_get_error(display))

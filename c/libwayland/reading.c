@@ -33,7 +33,7 @@ static int refuse(const waywire_report *report, waywire_status status)
 		waywire_strerror(status), report->spelling ? ": " : "",
 		report->spelling ? waywire_strspelling(report->spelling) : "",
 		(unsigned long long)report->offset);
-	close_descriptors(report);
+	report_close_descriptors(report);
 	errno = EINVAL;
 	return -1;
 }
@@ -56,7 +56,7 @@ static int read_reports(struct wl_display *display)
 			return refuse(&report, status);
 		if (report.kind == WAYWIRE_NOTHING)
 			return 0;
-		if (take_report(display, &report, room_of(end) - room))
+		if (event_take(display, &report, room_of(end) - room))
 			return -1;
 	}
 }
@@ -68,8 +68,8 @@ static int hear_waiting_error(struct wl_display *display)
 {
 	struct wl_event_queue *queue = &display->display_queue;
 	while (!display->last_error && !wl_list_empty(&queue->events))
-		dispatch_first(display, queue);
-	wake_readers(display);
+		queue_dispatch_first(display, queue);
+	reading_wake(display);
 	errno = display->last_error;
 	return display->last_error ? -1 : 0;
 }
@@ -91,18 +91,18 @@ static int read_events(struct wl_display *display)
 	int came = receive(display);
 	if (came < 0 || (came && read_reports(display))) {
 		int error = errno;
-		fail_display(display, error);
+		display_fail(display, error);
 		errno = error;
 		return -1;
 	}
-	wake_readers(display);
+	reading_wake(display);
 	return 0;
 }
 
 static void cancel_read(struct wl_display *display)
 {
 	if (!--display->reader_count)
-		wake_readers(display);
+		reading_wake(display);
 }
 
 EXPORT int wl_display_read_events(struct wl_display *display)

@@ -44,7 +44,7 @@ static void begin_request(struct request *request, struct wl_proxy *proxy, uint3
 		|| opcode >= (uint32_t)interface->method_count)
 		return;
 	const struct wl_message *message = &interface->methods[opcode];
-	if (message->signature && read_signature(&request->signature, message->signature)
+	if (message->signature && signature_read(&request->signature, message->signature)
 		&& (!request->is_bind || is_of_bind(&request->signature)))
 		request->message = message;
 	else
@@ -70,7 +70,7 @@ static void say_refused(const struct request *request, const char *why)
 static bool refuse(const struct request *request, int error, const char *why)
 {
 	say_refused(request, why);
-	fail_display(request->proxy->display, error);
+	display_fail(request->proxy->display, error);
 	return false;
 }
 
@@ -130,7 +130,7 @@ static bool can_be_made(const struct request *request)
 	const char *name = name_of_new(request);
 	if (request->made->display != display || request->made->handle.id)
 		return refuse(request, EINVAL, "its new object has an id already");
-	if (!learn_interface(display, interface))
+	if (!tables_learn(display, interface))
 		return refuse(request, errno, "no object of this interface can be made");
 	if (name != interface->name && (!name || strcmp(name, interface->name)))
 		return refuse(request, EINVAL, "its new object is of another interface");
@@ -232,8 +232,8 @@ static waywire_status write_once(const struct request *request, const waywire_ar
 /* Sends what waits. True if that made room: the socket may have taken only some of it. Otherwise false with errno. */
 static bool makes_room(struct wl_display *display)
 {
-	size_t before = waiting_bytes(display);
-	return !flush_display(display) || (errno == EAGAIN && waiting_bytes(display) < before);
+	size_t before = display_waiting_bytes(display);
+	return !display_flush(display) || (errno == EAGAIN && display_waiting_bytes(display) < before);
 }
 
 /* Writes a request. If the outbox is full it is flushed, and a socket that takes nothing is an
@@ -259,7 +259,7 @@ static void print_request(const struct request *request, const waywire_arg *args
 			printed_args[i].h = (int32_t)args[i].u;
 		else
 			printed_args[i] = request->args[i];
-	print_message(&printed);
+	log_message(&printed);
 }
 
 /* Sends a request whose message was found, and gives the new proxy its object. */
@@ -279,7 +279,7 @@ static void send_request(const struct request *request)
 		return;
 	}
 	if (request->made)
-		give_object(request->made, made);
+		proxy_give_object(request->made, made);
 	if (is_debugging())
 		print_request(request, args, made.id);
 }
@@ -298,7 +298,7 @@ static bool find_made(struct request *request, const struct wl_interface *interf
 		return !interface;
 	}
 	if (interface)
-		request->made = create_proxy(request->proxy, interface, version);
+		request->made = proxy_create(request->proxy, interface, version);
 	if (!request->message)
 		return refuse(request, EINVAL, "its interface has none, or a malformed one");
 	if (!interface) { /* the program has called wl_proxy_create */
@@ -322,7 +322,7 @@ static struct wl_proxy *make_request(struct request *request, const struct wl_in
 	if (find_made(request, interface, version) && !display->last_error)
 		send_request(request);
 	if (flags & WL_MARSHAL_FLAG_DESTROY)
-		destroy_proxy(proxy);
+		proxy_destroy(proxy);
 	pthread_mutex_unlock(&display->mutex);
 	return interface ? request->made : NULL;
 }

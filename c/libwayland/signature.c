@@ -38,7 +38,7 @@ static const char *behind_number(const char *text)
 	return text;
 }
 
-bool read_signature(struct signature *signature, const char *text)
+bool signature_read(struct signature *signature, const char *text)
 {
 	size_t count = 0;
 	unsigned found = 0;

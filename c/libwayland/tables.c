@@ -54,7 +54,7 @@ static bool describe_struct(struct described_message *described, const struct wl
 {
 	struct signature signature;
 	if (!message->name || !message->signature
-		|| !read_signature(&signature, message->signature))
+		|| !signature_read(&signature, message->signature))
 		return false;
 	described->count = signature.count;
 	for (size_t i = 0; i < signature.count; i++) {
@@ -177,7 +177,7 @@ static bool is_in_tables(const waywire_tables *tables, uint16_t interface, waywi
 	struct described_message described, wanted;
 	struct signature signature;
 	if (interface == REGISTRY && sender == WAYWIRE_FROM_CLIENT && !opcode)
-		return read_signature(&signature, message->signature) && signature.count == 4
+		return signature_read(&signature, message->signature) && signature.count == 4
 			&& !memcmp(signature.letters, "usun", 4);
 	return describe_struct(&described, message, sender)
 		&& describe_tables(&wanted, tables, interface, sender, opcode)
@@ -258,7 +258,7 @@ static void remember(struct wl_display *display, const struct wl_interface *inte
 	known->was = *interface;
 }
 
-bool agrees_with_tables(struct wl_display *display, const struct wl_interface *interface)
+bool tables_agree(struct wl_display *display, const struct wl_interface *interface)
 {
 	if (is_known(display, interface))
 		return true;
@@ -377,7 +377,7 @@ static bool reach_named(struct growth *growth, const struct wl_interface *interf
 		const struct wl_message *messages = messages_of(interface, sender, &count);
 		for (const struct wl_message *message = messages; message < messages + count; message++) {
 			struct signature signature;
-			read_signature(&signature, message->signature);
+			signature_read(&signature, message->signature);
 			for (size_t i = 0; message->types && i < signature.count; i++) {
 				char letter = signature.letters[i];
 				bool is_object = letter == 'o' || letter == 'n';
@@ -553,7 +553,7 @@ static bool read_growth(const struct growth *growth, const struct wl_interface *
 	return was_read(text, interface, status, line, rule);
 }
 
-bool learn_interface(struct wl_display *display, const struct wl_interface *interface)
+bool tables_learn(struct wl_display *display, const struct wl_interface *interface)
 {
 	if (is_known(display, interface))
 		return true;
@@ -563,7 +563,7 @@ bool learn_interface(struct wl_display *display, const struct wl_interface *inte
 	if (has_grown)
 		remember_written(&growth);
 	end_growth(&growth);
-	if (has_grown && !agrees_with_tables(display, interface)) {
+	if (has_grown && !tables_agree(display, interface)) {
 		errno = EINVAL;
 		return false;
 	}
@@ -602,7 +602,7 @@ static waywire_tables *first_tables(struct wl_display *display, const waywire_ta
 	return more;
 }
 
-bool make_client(struct wl_display *display, const waywire_sizes *sizes)
+bool tables_make_client(struct wl_display *display, const waywire_sizes *sizes)
 {
 	waywire_tables *core;
 	errno = ENOMEM;

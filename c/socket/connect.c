@@ -11,7 +11,7 @@
 #include <sys/time.h>
 #include <unistd.h>
 
-bool address_of(struct sockaddr_un *address, const char *name)
+bool socket_address(struct sockaddr_un *address, const char *name)
 {
 	const char *folder = "";
 	if (*name != '/') {
@@ -68,10 +68,10 @@ static bool set_limit(int fd, struct timeval limit)
 /* Connects a socket within this time, whatever signals come. Afterwards it has no limit; false with errno. */
 static bool connect_within(int fd, const struct sockaddr_un *address, int milliseconds)
 {
-	int64_t end = moment() + milliseconds;
+	int64_t end = connection_moment() + milliseconds;
 	int failed;
 	do {
-		int64_t left = end - moment();
+		int64_t left = end - connection_moment();
 		if (left < 0)
 			left = 0;
 		if (milliseconds >= 0
@@ -87,7 +87,7 @@ int waywire_socket_connect_to(const char *name, int milliseconds)
 	struct sockaddr_un address;
 	if (!name)
 		name = getenv("WAYLAND_DISPLAY");
-	if (!address_of(&address, name ? name : "wayland-0"))
+	if (!socket_address(&address, name ? name : "wayland-0"))
 		return -1;
 	int fd = socket(AF_UNIX, SOCK_STREAM | SOCK_CLOEXEC, 0);
 	if (fd >= 0 && !connect_within(fd, &address, milliseconds)) {

@@ -16,7 +16,7 @@
  * waits counts against the process's limit, often 1,024. */
 static const waywire_sizes usual_sizes = { 65536, 64, 65536, 256, WAYWIRE_USUAL_LIMIT };
 
-int64_t moment(void)
+int64_t connection_moment(void)
 {
 	struct timespec now;
 	clock_gettime(CLOCK_MONOTONIC, &now);
@@ -113,7 +113,7 @@ void waywire_connection_close(waywire_connection *connection)
 		return;
 	waywire_socket_flush(connection->socket, connection->end);
 	waywire_socket_close(connection->socket, connection->end);
-	end_entries(connection);
+	entries_end(connection);
 	waywire_end_free(connection->end);
 	free(connection->implemented);
 	free(connection);
@@ -178,7 +178,7 @@ static int ended(waywire_connection *connection, int error)
 	return -1;
 }
 
-int fail(waywire_connection *connection, int error, const char *text)
+int connection_fail(waywire_connection *connection, int error, const char *text)
 {
 	snprintf(connection->text, sizeof connection->text, "%s", text);
 	return ended(connection, error);
@@ -191,7 +191,7 @@ static bool is_of_argument(waywire_status status)
 		|| status == WAYWIRE_FAULT_BAD_NEW_ID;
 }
 
-int fail_by_fault(waywire_connection *connection, waywire_status status,
+int connection_fail_by_fault(waywire_connection *connection, waywire_status status,
 	const waywire_report *report)
 {
 	char argument[48] = "";
@@ -206,7 +206,7 @@ int fail_by_fault(waywire_connection *connection, waywire_status status,
 	return ended(connection, EPROTO);
 }
 
-int fail_by_error(waywire_connection *connection, const waywire_report *report)
+int connection_fail_by_error(waywire_connection *connection, const waywire_report *report)
 {
 	const char *name = "object";
 	size_t length = strlen(name);

@@ -30,12 +30,12 @@ static bool is_gone(int error)
  * long. */
 static int is_stuck(waywire_connection *connection, bool went)
 {
-	int64_t now = moment();
+	int64_t now = connection_moment();
 	connection->is_blocked = true;
 	if (connection->stuck_since < 0 || went)
 		connection->stuck_since = now;
 	if (connection->patience >= 0 && now - connection->stuck_since >= connection->patience)
-		return fail(connection, ETIMEDOUT, "the other end does not read");
+		return connection_fail(connection, ETIMEDOUT, "the other end does not read");
 	errno = EAGAIN;
 	return -1;
 }
@@ -45,7 +45,7 @@ static int is_stuck(waywire_connection *connection, bool went)
 static int is_closed(waywire_connection *connection, int error)
 {
 	connection->gone = error;
-	drop_outbox(connection->end);
+	connection_drop_outbox(connection->end);
 	errno = error;
 	return -1;
 }
@@ -57,7 +57,7 @@ int waywire_connection_flush(waywire_connection *connection)
 		return ended_before(connection);
 	if (connection->gone)
 		return is_closed(connection, connection->gone);
-	if (!flush_end(connection->socket, connection->end, &went)) {
+	if (!socket_flush_end(connection->socket, connection->end, &went)) {
 		connection->is_blocked = false;
 		connection->stuck_since = -1;
 		return 0;
@@ -67,7 +67,7 @@ int waywire_connection_flush(waywire_connection *connection)
 	if (errno == ENOBUFS || errno == ENOMEM || errno == ETOOMANYREFS)
 		return -1; /* the kernel has no room now */
 	if (!is_gone(errno) || connection->server.end)
-		return fail(connection, errno, "the socket does not take what is written");
+		return connection_fail(connection, errno, "the socket does not take what is written");
 	return is_closed(connection, errno);
 }
 
@@ -107,16 +107,16 @@ int waywire_connection_fill(waywire_connection *connection)
 		return 1;
 	}
 	if (!came)
-		return fail(connection, EPIPE, "the other end has closed the connection");
+		return connection_fail(connection, EPIPE, "the other end has closed the connection");
 	if (errno == EAGAIN)
 		return 0;
 	if (errno == ENOMEM)
 		return -1; /* nothing is lost: it is received by the next call */
 	if (errno == ENOBUFS)
-		return fail(connection, EPROTO, "descriptors came that belong to no message");
+		return connection_fail(connection, EPROTO, "descriptors came that belong to no message");
 	if (errno == EMFILE)
-		return fail(connection, EMFILE, "no descriptor is left for one that came");
-	return fail(connection, errno, "the socket cannot be read");
+		return connection_fail(connection, EMFILE, "no descriptor is left for one that came");
+	return connection_fail(connection, errno, "the socket cannot be read");
 }
 
 /* Destroys the object that the last event has made, by a destructor without arguments. It stays if something
@@ -130,7 +130,7 @@ static void destroy_made(waywire_connection *connection, bool is_discarded)
 	waywire_message request;
 	if (waywire_client_made(connection->client, &made)
 		|| waywire_end_live(connection->end, made, &interface, &version)
-		|| (!is_discarded && is_heard(connection, made, interface)))
+		|| (!is_discarded && connection_is_heard(connection, made, interface)))
 		return;
 	for (uint16_t opcode = 0; !waywire_tables_message(waywire_end_tables(connection->end), interface,
 			WAYWIRE_FROM_CLIENT, opcode, &request, NULL, NULL); opcode++) {
@@ -166,9 +166,9 @@ static struct entry *take_entry(waywire_connection *connection, waywire_report *
 {
 	bool has_entry = report->kind == WAYWIRE_MESSAGE || report->kind == WAYWIRE_DELETED;
 	struct entry *target = has_entry ? report->user : NULL;
-	hold_entry(target);
+	entry_hold(target);
 	if (report->replaced_user)
-		end_entry(connection, report->replaced_user);
+		entry_end(connection, report->replaced_user);
 	report->user = target ? target->data : NULL;
 	report->replaced_user = NULL;
 	return target;
@@ -189,20 +189,20 @@ static void hear(waywire_connection *connection, waywire_report *report)
 		was_heard = call(connection, target, report->interface, report);
 	} else if (report->kind != WAYWIRE_DISCARDED) { /* an event of wl_display */
 		struct entry *display = waywire_end_user(end, waywire_end_display(end));
-		hold_entry(display);
+		entry_hold(display);
 		was_heard = call(connection, display, DISPLAY_INTERFACE, report);
-		release_entry(display);
+		entry_release(display);
 	}
 	if (!was_heard) {
-		close_tokens(tokens, token_count);
+		report_close_tokens(tokens, token_count);
 		if (connection->client.end)
 			destroy_made(connection, report->kind == WAYWIRE_DISCARDED);
 	}
 	bool is_last = report->kind == WAYWIRE_DELETED || (connection->server.end
 		&& waywire_end_live(end, report->target, NULL, NULL));
 	if (target && is_last && !target->is_ended)
-		end_entry(connection, target);
-	release_entry(target);
+		entry_end(connection, target);
+	entry_release(target);
 }
 
 /* Whether the outbox has room for what callbacks write; sends what waits when there is enough of it. Returns 1,
@@ -241,7 +241,7 @@ static int has_too_many(waywire_connection *connection)
 	if (connection->server.end)
 		waywire_server_post_error(connection->server, waywire_end_display(connection->end),
 			WAYWIRE_WL_DISPLAY_ERROR_NO_MEMORY, text);
-	return fail(connection, EPROTO, text);
+	return connection_fail(connection, EPROTO, text);
 }
 
 /* Reads the next message, and calls its callback. Returns 1, or 0 if none is read now, or -1 with errno. */
@@ -262,15 +262,15 @@ static int read_next(waywire_connection *connection)
 		return -1;
 	}
 	if (waywire_is_fault(status))
-		return fail_by_fault(connection, status, &report);
+		return connection_fail_by_fault(connection, status, &report);
 	if (status)
-		return fail(connection, EPROTO, "this end has ended the connection");
+		return connection_fail(connection, EPROTO, "this end has ended the connection");
 	if (report.kind == WAYWIRE_NOTHING) {
 		connection->is_unread = false;
 		return 0;
 	}
 	if (report.kind == WAYWIRE_ERROR)
-		fail_by_error(connection, &report);
+		connection_fail_by_error(connection, &report);
 	hear(connection, &report);
 	/* It can have ended in a callback, too. */
 	return connection->failure.error ? ended_before(connection) : 1;
@@ -300,7 +300,7 @@ int waywire_connection_dispatch_pending(waywire_connection *connection)
 /* The end of a period that begins now; below 0 if it has none. */
 static int64_t end_of(int milliseconds)
 {
-	return milliseconds < 0 ? -1 : moment() + milliseconds;
+	return milliseconds < 0 ? -1 : connection_moment() + milliseconds;
 }
 
 /* How long poll may wait until a moment, and until the other end has not read for too long. */
@@ -312,7 +312,7 @@ static int left_until(const waywire_connection *connection, int64_t end)
 		end = stuck;
 	if (end < 0)
 		return -1;
-	int64_t left = end - moment();
+	int64_t left = end - connection_moment();
 	return left < 0 ? 0 : left > INT_MAX ? INT_MAX : (int)left;
 }
 
@@ -331,7 +331,7 @@ static int wait_until(waywire_connection *connection, int64_t end)
 		return -1;
 	if (ready > 0 && reads && (polled.revents & ~POLLOUT))
 		return waywire_connection_fill(connection) < 0 ? -1 : 1;
-	return ready > 0 || end < 0 || moment() < end;
+	return ready > 0 || end < 0 || connection_moment() < end;
 }
 
 /* Flushes, and calls the callbacks for what waits; if nothing waits, waits itself. Adds to `count` how many
@@ -364,7 +364,7 @@ int waywire_connection_drain(waywire_connection *connection, int milliseconds)
 		int ready = poll(&polled, 1, left_until(connection, end));
 		if (ready < 0 && errno != EINTR)
 			return -1;
-		if (ready <= 0 && end >= 0 && moment() >= end) {
+		if (ready <= 0 && end >= 0 && connection_moment() >= end) {
 			errno = EAGAIN;
 			return -1;
 		}
@@ -375,7 +375,7 @@ int waywire_connection_drain(waywire_connection *connection, int milliseconds)
 /* As `step`, but 0 if the time was over before it and it did nothing. */
 static int step_in_time(waywire_connection *connection, int64_t end, int *count, const bool *is_done)
 {
-	bool is_late = end >= 0 && moment() >= end;
+	bool is_late = end >= 0 && connection_moment() >= end;
 	int went = step(connection, end, count);
 	return went > 0 && is_late && !*is_done ? 0 : went;
 }

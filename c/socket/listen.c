@@ -109,7 +109,7 @@ static bool listen_at(struct waywire_listening_socket *listening, const char *na
 		errno = EINVAL;
 		return false;
 	}
-	if (!address_of(&listening->address, name))
+	if (!socket_address(&listening->address, name))
 		return false;
 	listening->name = strlen(listening->address.sun_path) - strlen(name);
 	snprintf(listening->lock_path, sizeof listening->lock_path, "%s.lock", listening->address.sun_path);

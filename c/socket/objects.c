@@ -51,7 +51,7 @@ static void end_unlinked(struct entry *entry)
 		free_entry(entry);
 }
 
-void end_entry(waywire_connection *connection, struct entry *entry)
+void entry_end(waywire_connection *connection, struct entry *entry)
 {
 	/* Refused if the object is gone: its pointer is not followed then. */
 	waywire_end_set_user(connection->end, entry->object, NULL);
@@ -60,22 +60,22 @@ void end_entry(waywire_connection *connection, struct entry *entry)
 	end_unlinked(entry);
 }
 
-void hold_entry(struct entry *entry)
+void entry_hold(struct entry *entry)
 {
 	if (entry)
 		entry->held++;
 }
 
-void release_entry(struct entry *entry)
+void entry_release(struct entry *entry)
 {
 	if (entry && !--entry->held && entry->is_ended)
 		free_entry(entry);
 }
 
-void end_entries(waywire_connection *connection)
+void entries_end(waywire_connection *connection)
 {
 	while (connection->entries.after != &connection->entries)
-		end_entry(connection, connection->entries.after);
+		entry_end(connection, connection->entries.after);
 }
 
 /* Whether no report will bring an entry any more: its object is gone, and had no last report. At a
@@ -182,7 +182,7 @@ void waywire_connection_forget(waywire_connection *connection, waywire_object ob
 {
 	struct entry *entry = entry_of(connection, object);
 	if (entry)
-		end_entry(connection, entry);
+		entry_end(connection, entry);
 }
 
 /* Makes room for this number of listeners. */
@@ -223,7 +223,7 @@ waywire_status waywire_connection_implement(waywire_connection *connection,
 	return status;
 }
 
-bool is_heard(const waywire_connection *connection, waywire_object object,
+bool connection_is_heard(const waywire_connection *connection, waywire_object object,
 	uint16_t interface)
 {
 	const struct entry *entry = entry_of(connection, object);

@@ -14,18 +14,18 @@
 
 /* Writes the address of a name: a path, if it begins with a slash, else a name in XDG_RUNTIME_DIR.
  * False with errno: ENOENT without such a folder, ENAMETOOLONG. */
-HIDDEN bool address_of(struct sockaddr_un *address, const char *name);
+HIDDEN bool socket_address(struct sockaddr_un *address, const char *name);
 
 /* ---- an end and its socket (transfer.c) */
 
 /* Writes what waits, as waywire_socket_flush; `went` gets whether some of it went. */
-HIDDEN int flush_end(int socket, waywire_end *end, bool *went);
+HIDDEN int socket_flush_end(int socket, waywire_end *end, bool *went);
 
 /* Drops what waits in the outbox, and closes its descriptors. */
-HIDDEN void drop_outbox(waywire_end *end);
+HIDDEN void connection_drop_outbox(waywire_end *end);
 
 /* Closes descriptors that are tokens. */
-HIDDEN void close_tokens(const uint32_t *tokens, size_t count);
+HIDDEN void report_close_tokens(const uint32_t *tokens, size_t count);
 
 /* ---- a connection */
 
@@ -72,16 +72,16 @@ struct waywire_connection {
 };
 
 /* Milliseconds of a clock that only goes on (connection.c). */
-HIDDEN int64_t moment(void);
+HIDDEN int64_t connection_moment(void);
 
 /* Ends a connection for good with an errno and a text; a server still sends what waits. Returns -1, with errno
  * set (connection.c). */
-HIDDEN int fail(waywire_connection *connection, int error, const char *text);
+HIDDEN int connection_fail(waywire_connection *connection, int error, const char *text);
 
 /* The same if a message that came broke a rule, and if wl_display.error came. */
-HIDDEN int fail_by_fault(waywire_connection *connection, waywire_status status,
+HIDDEN int connection_fail_by_fault(waywire_connection *connection, waywire_status status,
 	const waywire_report *report);
-HIDDEN int fail_by_error(waywire_connection *connection, const waywire_report *report);
+HIDDEN int connection_fail_by_error(waywire_connection *connection, const waywire_report *report);
 
 /* ---- the objects of a connection (objects.c) */
 
@@ -90,17 +90,17 @@ HIDDEN int fail_by_error(waywire_connection *connection, const waywire_report *r
 
 /* Takes an entry out of the ring. It is freed, and its data are destroyed, once nothing holds
  * it. */
-HIDDEN void end_entry(waywire_connection *connection, struct entry *entry);
+HIDDEN void entry_end(waywire_connection *connection, struct entry *entry);
 
 /* Keeps an entry while its dispatcher runs. Null is allowed. */
-HIDDEN void hold_entry(struct entry *entry);
-HIDDEN void release_entry(struct entry *entry);
+HIDDEN void entry_hold(struct entry *entry);
+HIDDEN void entry_release(struct entry *entry);
 
 /* Ends all entries. */
-HIDDEN void end_entries(waywire_connection *connection);
+HIDDEN void entries_end(waywire_connection *connection);
 
 /* Whether there is a callback for messages to an object. */
-HIDDEN bool is_heard(const waywire_connection *connection, waywire_object object,
+HIDDEN bool connection_is_heard(const waywire_connection *connection, waywire_object object,
 	uint16_t interface);
 
 #endif

@@ -114,7 +114,7 @@ ssize_t waywire_socket_receive(int socket, const waywire_part parts[2], int desc
 
 /* ---- an end */
 
-void close_tokens(const uint32_t *tokens, size_t count)
+void report_close_tokens(const uint32_t *tokens, size_t count)
 {
 	int error = errno;
 	while (count)
@@ -122,7 +122,7 @@ void close_tokens(const uint32_t *tokens, size_t count)
 	errno = error;
 }
 
-int flush_end(int socket, waywire_end *end, bool *went)
+int socket_flush_end(int socket, waywire_end *end, bool *went)
 {
 	waywire_part parts[2];
 	uint32_t tokens[WAYWIRE_MAX_ARGS];
@@ -150,17 +150,17 @@ int flush_end(int socket, waywire_end *end, bool *went)
 int waywire_socket_flush(int socket, waywire_end *end)
 {
 	bool went;
-	return flush_end(socket, end, &went);
+	return socket_flush_end(socket, end, &went);
 }
 
-void drop_outbox(waywire_end *end)
+void connection_drop_outbox(waywire_end *end)
 {
 	waywire_part parts[2];
 	uint32_t tokens[WAYWIRE_MAX_ARGS];
 	size_t count;
 	while (!waywire_end_peek(end, parts, tokens, WAYWIRE_MAX_ARGS, &count)
 		&& waywire_end_sent(end, parts[0].length + parts[1].length).bytes)
-		close_tokens(tokens, count);
+		report_close_tokens(tokens, count);
 }
 
 ssize_t waywire_socket_fill(int socket, waywire_end *end)
@@ -191,7 +191,7 @@ void waywire_socket_close(int socket, waywire_end *end)
 	size_t count = 0;
 	int error = errno;
 	do
-		close_tokens(tokens, count);
+		report_close_tokens(tokens, count);
 	while (end && !waywire_end_take_waiting_tokens(end, tokens, MOST, &count) && count);
 	if (socket >= 0)
 		close(socket);

@@ -5,9 +5,9 @@
 
 enum { SMALL = 24, LARGE = 100000 };
 
-uint32_t nowhere[1];
+uint32_t call_nowhere[1];
 
-waywire_status slice(const void **bytes, size_t length, size_t size)
+waywire_status call_slice(const void **bytes, size_t length, size_t size)
 {
 	(void)bytes, (void)length, (void)size;
 	return WAYWIRE_OK;

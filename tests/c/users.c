@@ -76,7 +76,7 @@ static void ends_have_none(void)
 static bool is_set_by_one(struct users *users, waywire_object object, void *pointer, size_t count)
 {
 	long before = asks;
-	return !set_user(users, object, pointer) && user_of(users, object) == pointer
+	return !users_set(users, object, pointer) && users_get(users, object) == pointer
 		&& asks == before + 1 && asked == count * sizeof(struct user);
 }
 
@@ -84,7 +84,8 @@ static bool is_set_by_one(struct users *users, waywire_object object, void *poin
 static bool is_set_by_none(struct users *users, waywire_object object, void *pointer)
 {
 	long before = asks;
-	return !set_user(users, object, pointer) && user_of(users, object) == pointer && asks == before;
+	return !users_set(users, object, pointer) && users_get(users, object) == pointer
+		&& asks == before;
 }
 
 static void ranges_lie_apart(void)
@@ -95,13 +96,13 @@ static void ranges_lie_apart(void)
 	MUST(is_set_by_none(&users, first, NULL) && is_set_by_none(&users, display, NULL));
 	MUST(is_set_by_one(&users, first, &one, 1) && !users.of_client.at);
 	MUST(is_set_by_one(&users, second, &other, 2) && !users.of_client.at);
-	MUST(!user_of(&users, same));
+	MUST(!users_get(&users, same));
 	MUST(is_set_by_one(&users, same, &third, 2));
-	MUST(user_of(&users, first) == &one && user_of(&users, second) == &other);
-	MUST(!user_of(&users, again));
-	MUST(is_set_by_none(&users, again, &third) && !user_of(&users, first));
-	MUST(is_set_by_none(&users, second, NULL) && user_of(&users, same) == &third);
-	free_users(&users);
+	MUST(users_get(&users, first) == &one && users_get(&users, second) == &other);
+	MUST(!users_get(&users, again));
+	MUST(is_set_by_none(&users, again, &third) && !users_get(&users, first));
+	MUST(is_set_by_none(&users, second, NULL) && users_get(&users, same) == &third);
+	users_free(&users);
 }
 
 /* Where memory is refused, what was set stays. */
@@ -113,18 +114,19 @@ static void refused(void)
 	static const waywire_object client_between = { 0, 500 };
 	struct users users = { { NULL, 0 }, { NULL, 0 } };
 	refuses = true;
-	MUST(set_user(&users, first, &one) == WAYWIRE_NO_MEMORY && !user_of(&users, first));
+	MUST(users_set(&users, first, &one) == WAYWIRE_NO_MEMORY && !users_get(&users, first));
 	refuses = false;
-	MUST(!set_user(&users, first, &one) && !set_user(&users, display, &other));
+	MUST(!users_set(&users, first, &one) && !users_set(&users, display, &other));
 	refuses = true;
-	MUST(set_user(&users, far, &third) == WAYWIRE_NO_MEMORY && !user_of(&users, far));
-	MUST(set_user(&users, client_far, &third) == WAYWIRE_NO_MEMORY && !user_of(&users, client_far));
+	MUST(users_set(&users, far, &third) == WAYWIRE_NO_MEMORY && !users_get(&users, far));
+	MUST(users_set(&users, client_far, &third) == WAYWIRE_NO_MEMORY);
+	MUST(!users_get(&users, client_far));
 	refuses = false;
-	MUST(user_of(&users, first) == &one && user_of(&users, display) == &other);
+	MUST(users_get(&users, first) == &one && users_get(&users, display) == &other);
 	MUST(is_set_by_one(&users, far, &third, 1001));
 	MUST(is_set_by_one(&users, client_far, &third, 1001));
-	MUST(!user_of(&users, between) && !user_of(&users, client_between));
-	free_users(&users);
+	MUST(!users_get(&users, between) && !users_get(&users, client_between));
+	users_free(&users);
 }
 
 /* All ids of a range, the first object's birth 1: at most 32 bytes for each, in few calls. */
@@ -134,14 +136,14 @@ static void asks_by_count(uint32_t from, uint32_t last)
 	long before = asks;
 	for (uint32_t id = from; id <= last; id++) {
 		waywire_object object = { id - from + 1, id };
-		MUST(!set_user(&users, object, &one) && asks - before <= 22);
+		MUST(!users_set(&users, object, &one) && asks - before <= 22);
 		MUST(asked <= (id - from + 1) * 2 * sizeof(struct user));
 	}
 	for (uint32_t id = from; id <= last; id++) {
 		waywire_object object = { id - from + 1, id };
-		MUST(user_of(&users, object) == &one);
+		MUST(users_get(&users, object) == &one);
 	}
-	free_users(&users);
+	users_free(&users);
 }
 
 int main(void)
