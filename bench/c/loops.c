@@ -7,30 +7,12 @@
  * filled, set and destroyed, with the same. */
 #define _GNU_SOURCE
 #include "../../tests/libwayland/compositor.h"
-#include <wayland-client.h>
 
 #define AT_ONCE 50
 #define BEFORE_A_ROUND_TRIP 25
 
-static struct wl_display *display;
-static struct wl_compositor *compositor;
 static struct wl_surface *surface;
 static int awaited;
-
-static void on_global(void *data, struct wl_registry *registry, uint32_t name,
-	const char *interface, uint32_t version)
-{
-	(void)data, (void)version;
-	if (!strcmp(interface, "wl_compositor"))
-		compositor = wl_registry_bind(registry, name, &wl_compositor_interface, 4);
-}
-
-static void on_global_remove(void *data, struct wl_registry *registry, uint32_t name)
-{
-	(void)data, (void)registry, (void)name;
-}
-
-static const struct wl_registry_listener of_registry = { on_global, on_global_remove };
 
 static void on_done(void *data, struct wl_callback *callback, uint32_t number)
 {
@@ -91,18 +73,12 @@ int main(int argc, char **argv)
 	MUST(argc == 3);
 	while (strcmp(loops[at].name, argv[1]))
 		MUST(++at < sizeof loops / sizeof loops[0]);
-	display = wl_display_connect_to_fd(start_compositor(argv[0], 0));
-	MUST(display);
-	struct wl_registry *registry = wl_display_get_registry(display);
-	wl_registry_add_listener(registry, &of_registry, NULL);
-	MUST(wl_display_roundtrip(display) >= 0 && compositor);
+	connect_to_compositor(argv[0], 0);
 	surface = wl_compositor_create_surface(compositor);
 	for (int time = atoi(argv[2]); time > 0; time--)
 		loops[at].once(time - 1);
 	MUST(!wl_display_get_error(display));
 	wl_surface_destroy(surface);
-	wl_compositor_destroy(compositor);
-	wl_registry_destroy(registry);
-	wl_display_disconnect(display);
+	disconnect();
 	return 0;
 }

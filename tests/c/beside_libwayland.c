@@ -94,7 +94,7 @@ int main(int count, char **words)
 	set("XDG_RUNTIME_DIR", words[1]);
 	wl_log_set_handler_client(say_nothing);
 	wl_log_set_handler_server(say_nothing);
-	size_t before = count_open();
+	int before = count_open();
 	same_errors(words[1]);
 	same_locks();
 	MUST(count_open() == before && !rmdir(words[1]));

@@ -256,11 +256,9 @@ static void test_set_twice(struct side *one, struct side *other)
 int main(int argc, char **argv)
 {
 	static struct side one, other;
-	waywire_tables *core;
-	size_t open_before = count_open();
-	MUST(argc == 2 && !waywire_tables_core(&core));
-	MUST(!waywire_tables_read(core, WW_WLR_DATA_CONTROL_UNSTABLE_V1_TABLES,
-		strlen(WW_WLR_DATA_CONTROL_UNSTABLE_V1_TABLES), &tables, NULL, NULL));
+	int open_before = count_open();
+	MUST(argc == 2);
+	tables = core_and(WW_WLR_DATA_CONTROL_UNSTABLE_V1_TABLES);
 	connect_side(&one, argv[1]);
 	connect_side(&other, argv[1]);
 	test_offers(&one, &other);
@@ -272,7 +270,6 @@ int main(int argc, char **argv)
 	waywire_connection_close(one.connection);
 	waywire_connection_close(other.connection);
 	waywire_tables_free(tables);
-	waywire_tables_free(core);
 	MUST(count_open() == open_before);
 	return 0;
 }

@@ -51,7 +51,7 @@ static void broken(const void *bytes, size_t length)
 	waywire_report report;
 	unsigned char error[256];
 	int client = serve(&link, &server);
-	size_t before = count_open();
+	int before = count_open();
 	send_with_descriptors(client, bytes, length);
 	MUST(waywire_socket_fill(link.socket, link.end) == (ssize_t)length && count_open() == before + MOST);
 	MUST(waywire_is_fault(waywire_end_next(server.end, &report)));
@@ -151,7 +151,7 @@ int main(void)
 	static const unsigned char bad_size[] = { 1, 0, 0, 0, 0, 0, 4, 0 };
 	static const unsigned char unknown[] = { 9, 0, 0, 0, 0, 0, 8, 0 };
 	MUST(!waywire_tables_core(&tables));
-	size_t before = count_open();
+	int before = count_open();
 	for (int i = 0; i < 20; i++) {
 		broken(bad_size, sizeof bad_size);
 		broken(unknown, sizeof unknown);

@@ -1,11 +1,10 @@
 /* How connections end: by errors, by faults, at an other end that goes or does not read, and by
  * limits; and calls that callbacks make. It is linked with `--wrap` for clock_gettime. */
 #define _GNU_SOURCE
-#include "descriptors.h"
+#include "connected.h"
 
 #include <errno.h>
 #include <pthread.h>
-#include <string.h>
 #include <sys/wait.h>
 #include <time.h>
 
@@ -15,12 +14,7 @@ static const char text[] = "interface maker 1\nrequest ask\nrequest give h\neven
 
 enum { ASK = 0, GIVE = 1, PLUGGED = 0, SPLIT = 0 };
 
-static waywire_tables *tables;
-static waywire_connection *client, *server;
-static waywire_client requests;
-static waywire_server events;
-static waywire_wl_display display;
-static size_t before; /* how many descriptors there were */
+static int before; /* how many descriptors there were */
 
 /* How many seconds have gone by that nobody waited for. */
 static time_t skipped;
@@ -61,20 +55,11 @@ static const waywire_listener listeners[] = {
 	{ "maker", on_ask, NULL },
 };
 
-static void begin_server(int socket)
+static void serve(int socket)
 {
-	server = waywire_connection_of_server(tables, NULL, socket);
-	MUST(server && !waywire_connection_implement(server, listeners, 2, NULL));
+	begin_server(socket, NULL);
+	MUST(!waywire_connection_implement(server, listeners, 2, NULL));
 	MUST(!waywire_connection_add_global(server, "maker", 1, NULL));
-	events = waywire_connection_server(server);
-}
-
-static void begin_client(int socket, const waywire_sizes *sizes)
-{
-	client = waywire_connection_of_client(tables, sizes, socket);
-	MUST(client);
-	requests = waywire_connection_client(client);
-	display = waywire_wl_display_of(waywire_end_display(requests.end));
 }
 
 static void begin(const waywire_sizes *of_client)
@@ -83,13 +68,12 @@ static void begin(const waywire_sizes *of_client)
 	before = count_open();
 	make_pair(sockets);
 	begin_client(sockets[0], of_client);
-	begin_server(sockets[1]);
+	serve(sockets[1]);
 }
 
 static void end(void)
 {
-	waywire_connection_close(client);
-	waywire_connection_close(server);
+	end_both();
 	MUST(count_open() == before);
 }
 
@@ -97,13 +81,6 @@ static void turn(void)
 {
 	MUST(!waywire_connection_flush(client) && waywire_connection_dispatch(server, WAIT) > 0);
 	MUST(!waywire_connection_flush(server) && waywire_connection_dispatch(client, WAIT) > 0);
-}
-
-static waywire_wl_registry get_registry(void)
-{
-	waywire_wl_registry made;
-	MUST(!waywire_wl_display_get_registry(requests, display, &made));
-	return made;
 }
 
 /* A connection has ended, with this error at each call from now on. */
@@ -489,7 +466,7 @@ static pid_t begin_with_child(void)
 	MUST(child >= 0);
 	if (!child) {
 		close(sockets[0]);
-		begin_server(sockets[1]);
+		serve(sockets[1]);
 		while (waywire_connection_dispatch(server, WAIT) > 0)
 			;
 		int error = errno;
@@ -638,10 +615,7 @@ static void many_events(void)
 
 int main(void)
 {
-	waywire_tables *core;
-	MUST(!waywire_tables_core(&core));
-	MUST(!waywire_tables_read(core, text, strlen(text), &tables, NULL, NULL));
-	waywire_tables_free(core);
+	tables = core_and(text);
 	error_comes(false);
 	error_comes(true);
 	fault_at_client();

@@ -2,20 +2,15 @@
  * as it was, and can be made again. The program is linked with `--wrap` for each function of
  * memory. */
 #define _GNU_SOURCE
-#include "descriptors.h"
+#include "connected.h"
 #include "refusing.h"
-
-#include <string.h>
 
 /* Objects that the server makes. */
 static const char text[] = "interface maker 1\nevent made N(thing)\n"
 	"interface thing 1\nrequest destroy D\n";
 
-static waywire_tables *tables;
-static waywire_connection *client, *server, *made;
+static waywire_connection *made;
 static waywire_listening_socket *listening;
-static waywire_client requests;
-static waywire_server events;
 static waywire_object object;
 static int pair[2], data, destroyed, heard;
 
@@ -113,33 +108,14 @@ static bool dispatches_at_client(void)
 
 static void begin(void)
 {
-	int sockets[2];
-	make_pair(sockets);
-	client = waywire_connection_of_client(tables, NULL, sockets[0]);
-	server = waywire_connection_of_server(tables, NULL, sockets[1]);
-	MUST(client && server && !waywire_connection_add_global(server, "maker", 1, NULL));
-	requests = waywire_connection_client(client);
-	events = waywire_connection_server(server);
-}
-
-static void end(void)
-{
-	waywire_connection_close(client);
-	waywire_connection_close(server);
-}
-
-static void get_registry(void)
-{
-	waywire_wl_registry made_here;
-	waywire_wl_display display = waywire_wl_display_of(waywire_end_display(requests.end));
-	MUST(!waywire_wl_display_get_registry(requests, display, &made_here));
-	object = made_here.object;
+	begin_both(NULL, NULL);
+	MUST(!waywire_connection_add_global(server, "maker", 1, NULL));
 }
 
 /* A new object of the client's, which the server knows. */
 static void make_object(void)
 {
-	get_registry();
+	object = get_registry().object;
 	MUST(!waywire_connection_flush(client));
 	MUST(waywire_connection_dispatch(server, WAIT) == 1 && !waywire_connection_flush(server));
 	MUST(waywire_connection_dispatch(client, WAIT) == 1);
@@ -171,7 +147,7 @@ static void keeps(void)
 	each_refused("data", sets_data, false);
 	MUST(!destroyed && waywire_connection_data(client, object) == &data);
 	each_refused("listeners of interfaces", implements, false);
-	end();
+	end_both();
 	MUST(destroyed == 1);
 }
 
@@ -182,7 +158,7 @@ static void reads(void)
 	while (waywire_connection_dispatch(server, 0) > 0)
 		;
 	MUST(!waywire_connection_failure(server));
-	get_registry();
+	object = get_registry().object;
 	MUST(!waywire_connection_flush(client));
 	each_refused("a request", dispatches_at_server, true);
 	MUST(!waywire_connection_flush(server) && waywire_connection_dispatch(client, WAIT) >= 1);
@@ -195,18 +171,15 @@ static void reads(void)
 	MUST(!waywire_connection_flush(server));
 	each_refused("an event that makes an object", dispatches_at_client, true);
 	MUST(heard == 1 && !waywire_end_live(requests.end, thing, NULL, NULL));
-	end();
+	end_both();
 }
 
 int main(int count, char **words)
 {
-	waywire_tables *core;
 	MUST(count == 2 && !setenv("XDG_RUNTIME_DIR", words[1], 1));
-	size_t open = count_open();
+	int open = count_open();
 	long before = used;
-	MUST(!waywire_tables_core(&core));
-	MUST(!waywire_tables_read(core, text, strlen(text), &tables, NULL, NULL));
-	waywire_tables_free(core);
+	tables = core_and(text);
 	makes();
 	keeps();
 	reads();

@@ -1,17 +1,11 @@
 /* Connections with both ends in this process: when a connection waits, which callbacks it calls, when data
  * are destroyed, and how it ends. */
 #define _GNU_SOURCE
-#include "descriptors.h"
+#include "connected.h"
 
 #include <errno.h>
 #include <poll.h>
-#include <string.h>
 
-static waywire_tables *tables;
-static waywire_connection *client, *server;
-static waywire_client requests;
-static waywire_server events;
-static waywire_wl_display display;
 static waywire_wl_registry registry;
 static waywire_wl_compositor compositor;
 static waywire_wl_shm shm;
@@ -109,35 +103,23 @@ static const struct waywire_wl_registry_events registry_events = { .global = on_
 /* Both ends; the client has bound the globals. */
 static void begin(const waywire_sizes *sizes)
 {
-	int sockets[2], globals = 0;
+	int globals = 0;
 	memset(&noted, 0, sizeof noted);
 	destroyed = 0;
-	make_pair(sockets);
-	client = waywire_connection_of_client(tables, sizes, sockets[0]);
-	server = waywire_connection_of_server(tables, sizes, sockets[1]);
-	MUST(client && server && waywire_connection_fd(client) == sockets[0]);
-	requests = waywire_connection_client(client);
-	events = waywire_connection_server(server);
+	begin_both(sizes, sizes);
 	MUST(requests.end == waywire_connection_end(client));
 	MUST(events.end == waywire_connection_end(server));
 	MUST(!waywire_connection_server(client).end && !waywire_connection_client(server).end);
 	MUST(!waywire_connection_implement(server, listeners, 4, &noted));
 	MUST(!waywire_connection_add_global(server, WAYWIRE_WL_COMPOSITOR_NAME, 4, NULL));
 	MUST(!waywire_connection_add_global(server, WAYWIRE_WL_SHM_NAME, 1, NULL));
-	display = waywire_wl_display_of(waywire_end_display(requests.end));
-	MUST(!waywire_wl_display_get_registry(requests, display, &registry));
+	registry = get_registry();
 	MUST(!waywire_connection_listen(client, registry.object,
 		waywire_wl_registry_event_dispatcher, &registry_events, &globals));
 	MUST(!waywire_connection_flush(client) && waywire_connection_dispatch(server, WAIT) == 1);
 	MUST(!waywire_connection_flush(server) && waywire_connection_dispatch(client, WAIT) == 2);
 	MUST(globals == 2 && compositor.object.id && shm.object.id);
 	MUST(!waywire_connection_flush(client) && waywire_connection_dispatch(server, WAIT) == 2);
-}
-
-static void end(void)
-{
-	waywire_connection_close(client);
-	waywire_connection_close(server);
 }
 
 /* What the client wrote is read, so many messages, and then what the server wrote. */
@@ -169,7 +151,7 @@ static void waits(void)
 	turn(1, 2);
 	MUST(waywire_connection_roundtrip(server, 1) == -1 && errno == EINVAL);
 	MUST(!waywire_connection_drain(client, 0));
-	end();
+	end_both();
 }
 
 static bool counts(const void *calls, void *data, const waywire_report *report)
@@ -191,7 +173,7 @@ static void round_trips(void)
 	MUST(!waywire_connection_roundtrip(client, 1));
 	turn(1, 2);
 	MUST(!answers && deleted == 1);
-	end();
+	end_both();
 }
 
 /* A loop of one's own. */
@@ -213,7 +195,7 @@ static void own_loop(void)
 	MUST(!waywire_connection_flush(server) && waywire_connection_fill(client) == 1);
 	MUST(waywire_connection_dispatch_pending(client) == 4);
 	MUST(!waywire_connection_failure(client));
-	end();
+	end_both();
 }
 
 /* ---- data */
@@ -254,7 +236,7 @@ static void data_of_client(void)
 	MUST(third == 1 && !waywire_connection_data(client, surface));
 	waywire_connection_forget(client, surface);
 	MUST(!waywire_connection_set_data(client, surface, &other, on_gone));
-	end();
+	end_both();
 	MUST(other == 2 && destroyed == 5);
 }
 
@@ -275,7 +257,7 @@ static void data_of_server(void)
 	MUST(!waywire_wl_surface_destroy(requests, surface));
 	turn(1, 1);
 	MUST(noted.data == &one && one == 1);
-	end();
+	end_both();
 	MUST(one == 1);
 }
 
@@ -299,7 +281,7 @@ static void data_of_callbacks(void)
 	int before = destroyed;
 	waywire_connection_forget(server, noted.callback.object); /* it is gone */
 	MUST(destroyed == before);
-	end();
+	end_both();
 	for (int i = 0; i < 1000; i++)
 		MUST(counts[i] == 1);
 }
@@ -317,7 +299,7 @@ static void data_of_many(void)
 	}
 	turn(200, 100);
 	MUST(destroyed == 100);
-	end();
+	end_both();
 	for (int i = 0; i < 100; i++)
 		MUST(counts[i] == 1);
 }
@@ -347,7 +329,7 @@ static void data_with_data(void)
 	for (int i = 0; i < 40; i++)
 		MUST(!waywire_connection_set_data(client, surfaces[i],
 			&surfaces[(i + 1) % 40], on_gone_with_another));
-	end();
+	end_both();
 	MUST(destroyed == 80);
 }
 
@@ -401,7 +383,7 @@ static void listens(void)
 	MUST(heard_by_object == 1 && heard_by_interface == 1 && deleted == 3);
 	MUST(waywire_connection_add_global(client, "wl_seat", 1, NULL) == WAYWIRE_NULL);
 	MUST(waywire_connection_add_global(server, "no_such", 1, NULL) == WAYWIRE_NOT_FOUND);
-	end();
+	end_both();
 }
 
 /* ---- descriptors */
@@ -438,13 +420,13 @@ static void many_at_once(void)
 	send_part(bytes + 7, taken.bytes - 7, NULL, 0);
 	MUST(waywire_connection_dispatch(server, WAIT) == MOST);
 	MUST(noted.pools == MOST && noted.last_length == MOST);
-	end();
+	end_both();
 }
 
 /* Descriptors that no callback gets, and those that were not sent. */
 static void none_hears(void)
 {
-	size_t before = count_open();
+	int before = count_open();
 	waywire_listener listener = { "wl_shm", NULL, NULL };
 	begin(NULL);
 	MUST(!waywire_connection_implement(server, &listener, 1, NULL));
@@ -454,7 +436,7 @@ static void none_hears(void)
 	for (int i = 0; i < 40; i++)
 		MUST(!waywire_wl_shm_create_pool(requests, shm, new_descriptor(1), 1, NULL));
 	MUST(count_open() == before + 42);
-	end();
+	end_both();
 	MUST(count_open() == before);
 }
 
@@ -472,25 +454,24 @@ static void more_tables(void)
 {
 	static const char text[] = "interface pinger 1\nevent ping u\n";
 	static const waywire_listener listener = { "pinger", on_ping, NULL };
-	waywire_tables *few, *more;
+	waywire_tables *core = tables, *few = tables_over(core, ""), *more = tables_over(core, text);
 	waywire_object pinger;
 	waywire_arg number = waywire_uint(5);
 	uint32_t name;
 	int sockets[2];
 	make_pair(sockets);
-	MUST(!waywire_tables_read(tables, NULL, 0, &few, NULL, NULL));
-	MUST(!waywire_tables_read(tables, text, strlen(text), &more, NULL, NULL));
-	client = waywire_connection_of_client(few, NULL, sockets[0]);
-	server = waywire_connection_of_server(more, NULL, sockets[1]);
+	tables = few;
+	begin_client(sockets[0], NULL);
+	tables = more;
+	begin_server(sockets[1], NULL);
+	tables = core;
 	waywire_tables_free(few);
 	waywire_tables_free(more);
-	requests = waywire_connection_client(client), events = waywire_connection_server(server);
 	MUST(waywire_connection_implement(client, &listener, 1, NULL) == WAYWIRE_NOT_FOUND);
 	MUST(!waywire_client_more_tables(requests, text, strlen(text), NULL, NULL));
 	MUST(!waywire_connection_implement(client, &listener, 1, NULL));
 	MUST(!waywire_connection_add_global(server, "pinger", 1, &name));
-	display = waywire_wl_display_of(waywire_end_display(requests.end));
-	MUST(!waywire_wl_display_get_registry(requests, display, &registry));
+	registry = get_registry();
 	turn(1, 1);
 	MUST(!waywire_client_bind_unannounced(requests, registry.object, name, "pinger", 1, &pinger));
 	turn(1, 0);
@@ -498,13 +479,13 @@ static void more_tables(void)
 	MUST(!waywire_server_post_error(events, pinger, 3, "no") && !waywire_connection_flush(server));
 	MUST(waywire_connection_dispatch(client, WAIT) == -1 && pinged == 5);
 	MUST(!strcmp(waywire_connection_failure(client)->text, "pinger@3: error 3: no"));
-	end();
+	end_both();
 }
 
 int main(void)
 {
 	MUST(!waywire_tables_core(&tables));
-	size_t before = count_open();
+	int before = count_open();
 	waits();
 	round_trips();
 	own_loop();

@@ -4,27 +4,13 @@
 
 #include "must.h"
 
-#include <dirent.h>
 #include <sys/mman.h>
-#include <sys/socket.h>
 #include <sys/stat.h>
 #include <unistd.h>
 #include <waywire-socket.h>
 
 /* How long something may take to come, in milliseconds. */
 #define WAIT 300000
-
-/* How many descriptors this process has. */
-static inline size_t count_open(void)
-{
-	size_t count = 0;
-	DIR *folder = opendir("/proc/self/fd");
-	MUST(folder);
-	while (readdir(folder))
-		count++;
-	closedir(folder);
-	return count;
-}
 
 /* A descriptor that is known by the length of its file. */
 static inline int new_descriptor(int length)
@@ -40,11 +26,6 @@ static inline int length_of(int descriptor)
 	struct stat file;
 	MUST(!fstat(descriptor, &file) && !close(descriptor));
 	return (int)file.st_size;
-}
-
-static inline void make_pair(int sockets[2])
-{
-	MUST(!socketpair(AF_UNIX, SOCK_STREAM | SOCK_CLOEXEC, 0, sockets));
 }
 
 #endif

@@ -113,10 +113,9 @@ static void serve(const waywire_tables *tables, int socket)
 int main(int argc, char **argv)
 {
 	static const char text[] = WW_XDG_SHELL_TABLES WW_WAYLAND_TABLES;
-	waywire_tables *core, *tables;
-	size_t open_before = count_open();
-	MUST(argc == 2 && !waywire_tables_core(&core));
-	MUST(!waywire_tables_read(core, text, strlen(text), &tables, NULL, NULL));
+	int open_before = count_open();
+	waywire_tables *tables = core_and(text);
+	MUST(argc == 2);
 	waywire_listening_socket *listening = waywire_socket_listen(argv[1]);
 	MUST(listening);
 	struct pollfd polled = { waywire_listening_socket_fd(listening), POLLIN, 0 };
@@ -126,7 +125,6 @@ int main(int argc, char **argv)
 	serve(tables, socket);
 	waywire_listening_socket_close(listening);
 	waywire_tables_free(tables);
-	waywire_tables_free(core);
 	MUST(count_open() == open_before);
 	return 0;
 }

@@ -81,7 +81,7 @@ static void unused(void)
 	static const char text[] = "interface some 1\n"
 		"request six i i i i i i\n"
 		"request seven i i i i i i n(some)\n";
-	waywire_tables *more = read_over(tables, text);
+	waywire_tables *more = tables_over(tables, text);
 	struct pair pair;
 	waywire_report report;
 	waywire_arg args[7];
@@ -115,7 +115,7 @@ static void twenty(void)
 {
 	static const char text[] = "interface many 1\n"
 		"request most i i i i i i i i i i i i i i i i i i i i\n";
-	waywire_tables *more = read_over(tables, text), *again = read_over(more, "interface last 1\n");
+	waywire_tables *more = tables_over(tables, text), *again = tables_over(more, "interface last 1\n");
 	struct pair pair;
 	waywire_report report;
 	waywire_arg args[21];

@@ -578,10 +578,7 @@ static void announce(void)
 
 int main(void)
 {
-	waywire_tables *core;
-	MUST(!waywire_tables_core(&core));
-	MUST(!waywire_tables_read(core, tables_text, strlen(tables_text), &tables, NULL, NULL));
-	waywire_tables_free(core);
+	tables = core_and(tables_text);
 	for (size_t scene = 0; scene < SCENES; scene++)
 		for (size_t cut = 0; cut <= MOST + 1; cut++)
 			play(&scenes[scene], cut);

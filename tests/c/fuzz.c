@@ -622,15 +622,13 @@ static void begins(void)
 {
 	/* An inbox of tokens for all of a piece, and for a message that is not whole. */
 	waywire_sizes sizes = { OUT_BYTES, MOST_TOKENS, 4096, MOST_TOKENS + 4, 0 };
-	waywire_tables *core;
 	waywire_report report;
 	waywire_object registry, bound, other;
 	waywire_arg new = waywire_new();
 	uint16_t all;
 	uint32_t name;
 	size_t count;
-	MUST(!waywire_tables_core(&core) && !waywire_tables_read(core, text, strlen(text), &tables, NULL, NULL));
-	waywire_tables_free(core);
+	tables = core_and(text);
 	MUST(!waywire_client_new(tables, &sizes, &client) && !waywire_server_new(tables, &sizes, &server));
 	ends[BY_CLIENT] = client.end;
 	ends[BY_SERVER] = server.end;

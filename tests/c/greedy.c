@@ -155,16 +155,14 @@ int main(int argc, char **argv)
 {
 	static const char text[] = WW_XDG_SHELL_TABLES WW_WAYLAND_TABLES;
 	struct side other;
-	waywire_tables *core;
-	size_t open_before = count_open();
-	MUST(argc == 2 && !waywire_tables_core(&core));
-	MUST(!waywire_tables_read(core, text, strlen(text), &tables, NULL, NULL));
+	int open_before = count_open();
+	MUST(argc == 2);
+	tables = core_and(text);
 	connect_side(&other, argv[1]);
 	test_devices(argv[1], &other);
 	test_descriptors(argv[1], &other);
 	waywire_connection_close(other.connection);
 	waywire_tables_free(tables);
-	waywire_tables_free(core);
 	MUST(count_open() == open_before);
 	return 0;
 }

@@ -39,7 +39,7 @@ static struct pair open_both(void)
 {
 	struct pair pair;
 	waywire_report report;
-	waywire_tables *few = read_over(core, first), *more = read_over(few, second), *all = read_over(more, third);
+	waywire_tables *few = tables_over(core, first), *more = tables_over(few, second), *all = tables_over(more, third);
 	open_pair_over(&pair, few, all, &sizes);
 	waywire_tables_free(few);
 	waywire_tables_free(more);
@@ -213,7 +213,7 @@ static void of_a_failed_client(void)
  * or the client. */
 static void freed_once(void)
 {
-	waywire_tables *few = read_over(core, first);
+	waywire_tables *few = tables_over(core, first);
 	waywire_client one, other;
 	waywire_inspector *inspector;
 	waywire_arg new = waywire_new();

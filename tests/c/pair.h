@@ -5,8 +5,6 @@
 
 #include "must.h"
 
-#include <string.h>
-
 struct pair {
 	waywire_client client;
 	waywire_server server;
@@ -53,23 +51,6 @@ static inline waywire_report server_reads(struct pair *pair)
 static inline waywire_report client_reads(struct pair *pair)
 {
 	return reads(pair->server.end, pair->client.end);
-}
-
-static inline waywire_tables *read_over(const waywire_tables *tables, const char *text)
-{
-	waywire_tables *more;
-	MUST(!waywire_tables_read(tables, text, strlen(text), &more, NULL, NULL));
-	return more;
-}
-
-/* The core's tables, and those of a text. */
-static inline waywire_tables *core_and(const char *text)
-{
-	waywire_tables *core, *more;
-	MUST(!waywire_tables_core(&core));
-	more = read_over(core, text);
-	waywire_tables_free(core);
-	return more;
 }
 
 static inline waywire_wl_registry get_registry(waywire_client client)

@@ -156,7 +156,7 @@ static void failed(void)
 int main(void)
 {
 	int sockets[2], smallest = 1;
-	size_t before = count_open();
+	int before = count_open();
 	make_pair(sockets);
 	MUST(!setsockopt(sockets[0], SOL_SOCKET, SO_SNDBUF, &smallest, sizeof smallest));
 	MUST(!waywire_tables_core(&tables));

@@ -55,11 +55,8 @@ static void begin(struct session *session, const char *tables, const char *manag
 	static const waywire_sizes sizes = { 4096, 64, 4096, 64, 0 };
 	uint32_t global[30] = { 1 };
 	waywire_arg new = waywire_new();
-	waywire_tables *core;
 	waywire_object registry;
-	MUST(!waywire_tables_core(&core));
-	MUST(!waywire_tables_read(core, tables, strlen(tables), &session->tables, NULL, NULL));
-	waywire_tables_free(core);
+	session->tables = core_and(tables);
 	MUST(!waywire_client_new(session->tables, &sizes, &session->client));
 	MUST(!waywire_end_send(session->client.end, waywire_end_display(session->client.end),
 		WAYWIRE_WL_DISPLAY_REQUEST_GET_REGISTRY, &new, 1, &registry, NULL));

@@ -77,7 +77,7 @@ int __wrap_flock(int fd, int operation)
 /* Connecting is refused, with this error and nothing left open. */
 static void not_connected(const char *name, int error)
 {
-	size_t before = count_open();
+	int before = count_open();
 	errno = 0;
 	MUST(waywire_socket_connect(name) == -1 && errno == error && count_open() == before);
 }
@@ -134,7 +134,7 @@ static void without_room(void)
 	int client = waywire_socket_connect_to("full", 0);
 	MUST(client >= 0 && !getsockopt(client, SOL_SOCKET, SO_SNDTIMEO, &left, &size));
 	MUST(!left.tv_sec && !left.tv_usec);
-	size_t before = count_open();
+	int before = count_open();
 	for (int limit = 0; limit <= 1200; limit += 1200) {
 		int64_t began = now();
 		alarms(limit / 20);
@@ -228,7 +228,7 @@ static void by_name(void)
 
 static void not_listening(const char *name, int error)
 {
-	size_t before = count_open();
+	int before = count_open();
 	errno = 0;
 	MUST(!waywire_socket_listen(name) && errno == error && count_open() == before);
 }
@@ -382,7 +382,8 @@ static void too_many(const int sockets[2])
 	int made[MOST_OF_KERNEL + 1], found[MOST_OF_KERNEL];
 	char byte = 'x';
 	waywire_part parts[2] = { { &byte, 1 }, { NULL, 0 } };
-	size_t count, before = count_open();
+	size_t count;
+	int before = count_open();
 	make_descriptors(made, MOST_OF_KERNEL + 1);
 	MUST(waywire_socket_send(sockets[0], parts, made, MOST_OF_KERNEL + 1) == -1 && errno == EINVAL);
 	for (size_t i = 0; i < sizeof rooms / sizeof *rooms; i++) {
@@ -440,7 +441,8 @@ static void with_credentials(void)
 static void passes(void)
 {
 	int sockets[2], found[MOST];
-	size_t count, before = count_open();
+	size_t count;
+	int before = count_open();
 	char byte = 'x';
 	waywire_part parts[2] = { { &byte, 1 }, { NULL, 0 } };
 	waywire_part none[2] = { { NULL, 0 }, { NULL, 0 } };
@@ -468,7 +470,7 @@ int main(int count, char **words)
 	folder = words[1];
 	set("WAYLAND_SOCKET", NULL);
 	set("XDG_RUNTIME_DIR", folder);
-	size_t before = count_open();
+	int before = count_open();
 	by_number();
 	by_name();
 	beside_number();

@@ -2,7 +2,7 @@
  * and by one for an object that the client has destroyed. It keeps what a listener hears of, by the event or by its
  * own interface, and what no request only destroys. It destroys the data of an object that another replaces. */
 #define _GNU_SOURCE
-#include "descriptors.h"
+#include "connected.h"
 
 #include <poll.h>
 
@@ -15,10 +15,6 @@ static const char text[] = "interface maker 1\nrequest release D\nrequest ask\n"
 /* Opcodes of the tables. */
 enum { RELEASE = 0, ASK = 1, MADE = 0, LENT = 1, PLUGGED = 2, GONE = 0, DESTROY = 3 };
 
-static waywire_tables *tables;
-static waywire_connection *client, *server;
-static waywire_client requests;
-static waywire_end *events;
 static waywire_object maker, heard, gone;
 
 static void on_global(void *data, waywire_wl_registry registry, uint32_t name, const char *interface,
@@ -48,28 +44,15 @@ static bool on_gone(const void *calls, void *data, const waywire_report *report)
 /* Both ends, with a maker that the client has bound. */
 static void begin(void)
 {
-	int sockets[2];
-	make_pair(sockets);
-	client = waywire_connection_of_client(tables, NULL, sockets[0]);
-	server = waywire_connection_of_server(tables, NULL, sockets[1]);
-	MUST(client && server && !waywire_connection_add_global(server, "maker", 1, NULL));
-	requests = waywire_connection_client(client);
-	events = waywire_connection_end(server);
-	waywire_wl_registry registry;
-	waywire_wl_display display = waywire_wl_display_of(waywire_end_display(requests.end));
-	MUST(!waywire_wl_display_get_registry(requests, display, &registry));
+	begin_both(NULL, NULL);
+	MUST(!waywire_connection_add_global(server, "maker", 1, NULL));
+	waywire_wl_registry registry = get_registry();
 	MUST(!waywire_connection_listen(client, registry.object, waywire_wl_registry_event_dispatcher,
 		&registry_events, NULL));
 	MUST(!waywire_connection_flush(client) && waywire_connection_dispatch(server, WAIT) == 1);
 	MUST(!waywire_connection_flush(server) && waywire_connection_dispatch(client, WAIT) == 1 && maker.id);
 	MUST(!waywire_connection_flush(client) && waywire_connection_dispatch(server, WAIT) == 1);
-	MUST(!waywire_end_live(events, maker, NULL, NULL));
-}
-
-static void end(void)
-{
-	waywire_connection_close(client);
-	waywire_connection_close(server);
+	MUST(!waywire_end_live(events.end, maker, NULL, NULL));
 }
 
 /* What the server wrote goes to the client, which may answer. */
@@ -85,7 +68,7 @@ static waywire_object makes(bool answered)
 {
 	waywire_object made;
 	waywire_arg new = waywire_new();
-	MUST(!waywire_end_send(events, maker, MADE, &new, 1, &made, NULL));
+	MUST(!waywire_end_send(events.end, maker, MADE, &new, 1, &made, NULL));
 	goes(answered);
 	return made;
 }
@@ -98,7 +81,7 @@ static waywire_object lends(void)
 	waywire_object made;
 	MUST(!pipe(ends));
 	waywire_arg args[] = { waywire_new(), waywire_fd((uint32_t)ends[1]) };
-	MUST(!waywire_end_send(events, maker, LENT, args, 2, &made, NULL));
+	MUST(!waywire_end_send(events.end, maker, LENT, args, 2, &made, NULL));
 	goes(false);
 	struct pollfd ended = { .fd = ends[0], .events = POLLIN };
 	MUST(poll(&ended, 1, WAIT) == 1 && read(ends[0], &byte, 1) == 0);
@@ -118,7 +101,7 @@ static void replaces(void)
 	int destroyed = 0;
 	waywire_object made, other;
 	waywire_arg new = waywire_new();
-	MUST(!waywire_end_send(events, maker, PLUGGED, &new, 1, &made, NULL));
+	MUST(!waywire_end_send(events.end, maker, PLUGGED, &new, 1, &made, NULL));
 	goes(false);
 	MUST(!waywire_connection_set_data(client, made, &destroyed, on_destroy));
 	uint32_t again[] = { maker.id, 12 << 16 | PLUGGED, made.id };
@@ -136,7 +119,7 @@ static void data_go(void)
 	for (int i = 0; i < 200; i++) {
 		waywire_object made;
 		waywire_arg new = waywire_new();
-		MUST(!waywire_end_send(events, maker, MADE, &new, 1, &made, NULL));
+		MUST(!waywire_end_send(events.end, maker, MADE, &new, 1, &made, NULL));
 		goes(false);
 		MUST(!waywire_connection_set_data(client, made, &destroyed, on_destroy));
 		MUST(!waywire_end_send(requests.end, made, DESTROY, NULL, 0, NULL, NULL));
@@ -160,7 +143,7 @@ static void no_room(void)
 			;
 	while (!waywire_connection_flush(client)
 		|| waywire_end_send(requests.end, maker, ASK, NULL, 0, NULL, NULL) != WAYWIRE_FULL);
-	MUST(!waywire_end_send(events, maker, MADE, &new, 1, &made, NULL));
+	MUST(!waywire_end_send(events.end, maker, MADE, &new, 1, &made, NULL));
 	MUST(!waywire_connection_flush(server) && waywire_connection_fill(client) == 1);
 	MUST(waywire_connection_dispatch_pending(client) == 1);
 	MUST(!waywire_end_live(requests.end, made, NULL, NULL));
@@ -169,13 +152,13 @@ static void no_room(void)
 static bool lives(waywire_object object)
 {
 	return !waywire_end_live(requests.end, object, NULL, NULL)
-		&& !waywire_end_live(events, object, NULL, NULL);
+		&& !waywire_end_live(events.end, object, NULL, NULL);
 }
 
 static bool is_gone(waywire_object object)
 {
 	return waywire_end_live(requests.end, object, NULL, NULL) == WAYWIRE_NOT_FOUND
-		&& waywire_end_live(events, object, NULL, NULL) == WAYWIRE_NOT_FOUND;
+		&& waywire_end_live(events.end, object, NULL, NULL) == WAYWIRE_NOT_FOUND;
 }
 
 /* Calls `dispatch` for each thing. */
@@ -187,16 +170,14 @@ static void implement(waywire_dispatcher *dispatch)
 
 int main(void)
 {
-	waywire_tables *core;
 	waywire_object made;
-	MUST(!waywire_tables_core(&core));
-	MUST(!waywire_tables_read(core, text, strlen(text), &tables, NULL, NULL));
+	tables = core_and(text);
 	begin();
 	/* The client does not listen to the maker. */
 	MUST(is_gone(makes(true)) && lives(lends()));
 	implement(on_gone);
 	made = makes(false);
-	MUST(lives(made) && !waywire_end_send(events, made, GONE, NULL, 0, NULL, NULL));
+	MUST(lives(made) && !waywire_end_send(events.end, made, GONE, NULL, 0, NULL, NULL));
 	goes(false);
 	MUST(waywire_object_equal(made, gone));
 	implement(NULL);
@@ -210,19 +191,18 @@ int main(void)
 	implement(on_gone);
 	MUST(!waywire_end_send(requests.end, maker, RELEASE, NULL, 0, NULL, NULL));
 	MUST(is_gone(makes(true)) && is_gone(maker) && lives(made));
-	end();
+	end_both();
 	/* A connection that has implemented no interface. */
 	begin();
 	replaces();
-	end();
+	end_both();
 	begin();
 	no_room();
-	end();
+	end_both();
 	begin();
 	implement(on_gone);
 	data_go();
-	end();
-	waywire_tables_free(core);
+	end_both();
 	waywire_tables_free(tables);
 	return 0;
 }

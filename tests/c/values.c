@@ -261,7 +261,7 @@ static void kinds_of_arguments(void)
 static void server_objects(void)
 {
 	static const char text[] = "interface wp_maker 1\nevent made N(wp_maker)\nrequest make n(wp_maker)";
-	waywire_tables *more = read_over(tables, text);
+	waywire_tables *more = tables_over(tables, text);
 	waywire_kind kind = { 9, true, 9 };
 	uint16_t maker;
 	MUST(!waywire_tables_interface(more, "wp_maker", &maker));
@@ -291,7 +291,7 @@ static void limits(void)
 	static const char declared[] = "interface wp_thing 1\nrequest write a\n";
 	static const uint32_t wrong[] = { 1, 4095, 4098, 65533, 65536, UINT32_MAX };
 	waywire_sizes narrow = { 65536, 64, 4096, 64, 4100 };
-	waywire_tables *more = read_over(tables, declared);
+	waywire_tables *more = tables_over(tables, declared);
 	waywire_client one;
 	for (size_t i = 0; i < sizeof wrong / sizeof *wrong; i++) {
 		waywire_sizes bad = { 65536, 64, 65536, 64, wrong[i] };

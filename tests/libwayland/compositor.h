@@ -1,10 +1,11 @@
-/* A compositor for one client, in a process of its own: it has wl_compositor, whose objects do
- * nothing, and it answers round trips. The process is the client's program again, so that valgrind,
+/* A compositor for one client, in a process of its own, and how the client connects to it: it has wl_compositor,
+ * whose objects do nothing, and it answers round trips. The process is the client's program again, so that valgrind,
  * which does not follow it, counts and checks the client alone. */
 #ifndef COMPOSITOR_H
 #define COMPOSITOR_H
 
 #include "wire.h"
+#include <wayland-client.h>
 
 #define MOST_OBJECTS 4096
 
@@ -99,6 +100,44 @@ static int start_compositor(const char *program, long most)
 	}
 	close(sockets[1]);
 	return sockets[0];
+}
+
+/* ---- the client */
+
+static struct wl_display *display;
+static struct wl_registry *registry;
+static struct wl_compositor *compositor;
+
+static void on_global(void *data, struct wl_registry *registry, uint32_t name,
+	const char *interface, uint32_t version)
+{
+	(void)data, (void)version;
+	if (!strcmp(interface, "wl_compositor"))
+		compositor = wl_registry_bind(registry, name, &wl_compositor_interface, 4);
+}
+
+static void on_global_remove(void *data, struct wl_registry *registry, uint32_t name)
+{
+	(void)data, (void)registry, (void)name;
+}
+
+static const struct wl_registry_listener of_registry = { on_global, on_global_remove };
+
+/* Starts the compositor, connects to it, and binds its global. */
+static void connect_to_compositor(const char *program, long most)
+{
+	display = wl_display_connect_to_fd(start_compositor(program, most));
+	MUST(display);
+	registry = wl_display_get_registry(display);
+	wl_registry_add_listener(registry, &of_registry, NULL);
+	MUST(wl_display_roundtrip(display) >= 0 && compositor);
+}
+
+static void disconnect(void)
+{
+	wl_compositor_destroy(compositor);
+	wl_registry_destroy(registry);
+	wl_display_disconnect(display);
 }
 
 #endif

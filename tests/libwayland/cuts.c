@@ -9,21 +9,10 @@
 #define _GNU_SOURCE
 #define COUNT_CLOSES
 #include "session.h"
-#include <sys/wait.h>
 
 /* How a byte is changed, or how the session ends there. */
 static const char *const ways[] = { "cut", "dies", "more", "ones", "zero", "sign" };
 enum { CUT, DIES, MORE, ONES, ZERO, SIGN, WAYS };
-
-static void quiet(const char *format, va_list list)
-{
-	(void)format, (void)list;
-}
-
-static const char *name_of(int error)
-{
-	return error ? strerrorname_np(error) : "0";
-}
 
 static unsigned char changed(unsigned char byte, int way)
 {
@@ -51,8 +40,16 @@ static int dispatched(struct wl_display *display, int way)
 	return status;
 }
 
-static void play(int way, size_t index)
+/* A way, and the index of a byte. */
+struct cut {
+	int way;
+	size_t index;
+};
+
+static int play(const void *cut)
 {
+	int way = ((const struct cut *)cut)->way;
+	size_t index = ((const struct cut *)cut)->index;
 	static struct wire wire;
 	static struct session session;
 	int before = count_open(), sockets[2];
@@ -89,25 +86,7 @@ static void play(int way, size_t index)
 		printf(", DESCRIPTORS: %d left open, %d closed twice, %d not open", left, closed_twice,
 			session.not_open);
 	printf("\n");
-	fflush(stdout);
-}
-
-static void play_apart(int way, size_t index)
-{
-	pid_t child = fork();
-	int status;
-	MUST(child >= 0);
-	if (!child) {
-		alarm(HANGS);
-		play(way, index);
-		_exit(0);
-	}
-	MUST(waitpid(child, &status, 0) == child);
-	if (WIFSIGNALED(status) || WEXITSTATUS(status)) {
-		printf("%s %zu: CRASHED by signal %d, status %d\n", ways[way], index, WTERMSIG(status),
-			WEXITSTATUS(status));
-		fflush(stdout);
-	}
+	return 0;
 }
 
 int main(int argc, char **argv)
@@ -121,10 +100,12 @@ int main(int argc, char **argv)
 	clear_wire(&whole);
 	for (int way = 0; way < WAYS; way++)
 		for (size_t i = 0; i < length + (way < MORE); i += step ? step : 1) {
-			if (step)
-				play(way, i);
-			else
-				play_apart(way, i);
+			struct cut cut = { way, i };
+			int status = step ? play(&cut) : play_apart(play, &cut);
+			if (status)
+				printf("%s %zu: CRASHED by signal %d, status %d\n", ways[way], i, WTERMSIG(status),
+					WEXITSTATUS(status));
+			fflush(stdout);
 		}
 	return 0;
 }

@@ -9,8 +9,6 @@
 #define COUNT_CLOSES
 #include "thing.h"
 #include "wire.h"
-#include <poll.h>
-#include <sys/wait.h>
 
 static struct wl_display *display;
 static struct wl_registry *registry;
@@ -20,11 +18,6 @@ static struct wire wire;
 static unsigned events;
 static int destroys_seen; /* whether what an event shows is destroyed at once */
 static struct wl_proxy *seen; /* what an event has shown, else */
-
-static void quiet(const char *format, va_list list)
-{
-	(void)format, (void)list;
-}
 
 static int count_event(const void *data, void *proxy, uint32_t opcode,
 	const struct wl_message *message, union wl_argument *args)
@@ -299,13 +292,9 @@ static size_t sent_bytes(void)
 	}
 }
 
-static const char *name_of(int error)
+static int play(const void *its)
 {
-	return error ? strerrorname_np(error) : "0";
-}
-
-static void play(size_t number)
-{
+	size_t number = *(const size_t *)its;
 	int sockets[2], before = count_open();
 	make_pair(sockets);
 	peer = sockets[1];
@@ -336,27 +325,17 @@ static void play(size_t number)
 	if (count_open() != before || closed_twice)
 		printf(", DESCRIPTORS: %d left open, %d closed twice", count_open() - before, closed_twice);
 	printf("\n");
-	fflush(stdout);
+	return 0;
 }
 
 int main(int argc, char **argv)
 {
 	wl_log_set_handler_client(quiet);
-	if (argc > 1) {
-		play((size_t)atoi(argv[1]) % CASES);
-		return 0;
-	}
+	if (argc > 1)
+		return play(&(size_t){ (size_t)atoi(argv[1]) % CASES });
 	for (size_t number = 0; number < CASES; number++) {
-		int status;
-		pid_t child = fork();
-		MUST(child >= 0);
-		if (!child) {
-			alarm(HANGS);
-			play(number);
-			_exit(0);
-		}
-		MUST(waitpid(child, &status, 0) == child);
-		if (WIFSIGNALED(status) || WEXITSTATUS(status))
+		int status = play_apart(play, &number);
+		if (status)
 			printf("%s %zu: CRASHED by signal %d, status %d\n", cases[number].name,
 				cases[number].number, WTERMSIG(status), WEXITSTATUS(status));
 		fflush(stdout);

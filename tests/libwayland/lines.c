@@ -1,20 +1,8 @@
 /* What WAYLAND_DEBUG prints, at a server that is this program: with the same library at hand, or one that is alike,
  * the lines on stderr are the same but for their times. */
+#include "wire.h"
 #include <poll.h>
-#include <stdio.h>
-#include <stdlib.h>
-#include <string.h>
-#include <sys/socket.h>
-#include <unistd.h>
 #include <wayland-client.h>
-
-#define MUST(holds) \
-	do { \
-		if (!(holds)) { \
-			fprintf(stdout, "%s:%d: %s\n", __FILE__, __LINE__, #holds); \
-			exit(1); \
-		} \
-	} while (0)
 
 /* ---- an interface with each kind of argument, both ways */
 
@@ -72,74 +60,30 @@ static const struct {
 
 /* ---- the server */
 
-static uint32_t words[64];
-static size_t length;
+static struct wire wire;
 static int server;
-
-static void add(uint32_t word)
-{
-	words[length++] = word;
-}
-
-static void add_text(const char *text)
-{
-	add((uint32_t)strlen(text) + 1);
-	memcpy(&words[length], text, strlen(text) + 1);
-	length += strlen(text) / 4 + 1;
-}
-
-static void begin(uint32_t id, uint32_t opcode)
-{
-	memset(words, 0, sizeof words);
-	length = 0;
-	add(id);
-	add(opcode);
-}
-
-/* Sends the event, with a descriptor if `fd` is one. */
-static void send_event(int fd)
-{
-	union {
-		struct cmsghdr header;
-		char room[CMSG_SPACE(sizeof(int))];
-	} control;
-	words[1] |= (uint32_t)(4 * length) << 16;
-	struct iovec part = { words, 4 * length };
-	struct msghdr message = { .msg_iov = &part, .msg_iovlen = 1 };
-	if (fd >= 0) {
-		message.msg_control = &control;
-		message.msg_controllen = sizeof control;
-		struct cmsghdr *header = CMSG_FIRSTHDR(&message);
-		header->cmsg_level = SOL_SOCKET;
-		header->cmsg_type = SCM_RIGHTS;
-		header->cmsg_len = CMSG_LEN(sizeof fd);
-		memcpy(CMSG_DATA(header), &fd, sizeof fd);
-	}
-	MUST(sendmsg(server, &message, 0) == (ssize_t)(4 * length));
-}
 
 static void send_all(uint32_t id, uint32_t made)
 {
-	begin(id, 0);
-	add((uint32_t)-2);
-	add(4000000000u);
-	add((uint32_t)-384);
-	add_text("a \"text\"");
-	add(0);
-	add(id);
-	add(0);
-	add(made);
-	add(5);
-	add(1);
-	add(2);
-	send_event(STDIN_FILENO);
+	begin_message(&wire, id, 0);
+	put_word(&wire, (uint32_t)-2);
+	put_word(&wire, 4000000000u);
+	put_word(&wire, (uint32_t)-384);
+	put_text(&wire, "a \"text\"");
+	put_text(&wire, NULL);
+	put_word(&wire, id);
+	put_word(&wire, 0);
+	put_word(&wire, made);
+	put_array(&wire, "\1\0\0\0\2", 5);
+	put_descriptor(&wire, dup(STDIN_FILENO));
+	end_message(&wire);
+	send_wire(&wire, server);
 }
 
-static void send_word(uint32_t id, uint32_t opcode, uint32_t word)
+static void send_word(uint32_t id, uint16_t opcode, uint32_t word)
 {
-	begin(id, opcode);
-	add(word);
-	send_event(-1);
+	put_message(&wire, id, opcode, 1, word);
+	send_wire(&wire, server);
 }
 
 /* ---- the client */
@@ -173,8 +117,8 @@ static void discard(struct wl_display *display, struct wl_proxy *proxy, uint32_t
 {
 	uint32_t id = wl_proxy_get_id(proxy);
 	send_all(id, made);
-	begin(id, 2);
-	send_event(-1);
+	put_message(&wire, id, 2, 0);
+	send_wire(&wire, server);
 	MUST(!wl_display_prepare_read(display));
 	MUST(!wl_display_read_events(display));
 	wl_proxy_marshal_flags(proxy, 2, NULL, 3, WL_MARSHAL_FLAG_DESTROY);
@@ -197,11 +141,12 @@ static void end_with_an_error(struct wl_display *display, uint32_t id)
 {
 	const struct wl_interface *interface;
 	uint32_t about;
-	begin(1, 0);
-	add(id);
-	add(77);
-	add_text("a reason");
-	send_event(-1);
+	begin_message(&wire, 1, 0);
+	put_word(&wire, id);
+	put_word(&wire, 77);
+	put_text(&wire, "a reason");
+	end_message(&wire);
+	send_wire(&wire, server);
 	printf("dispatched: %d\n", wl_display_dispatch(display));
 	uint32_t code = wl_display_get_protocol_error(display, &interface, &about);
 	printf("error %d: %u, %s@%u\n", wl_display_get_error(display), code, interface ? interface->name : "none", about);
@@ -212,7 +157,7 @@ int main(void)
 	int pair[2];
 	struct wl_proxy *made = NULL;
 	setvbuf(stdout, NULL, _IONBF, 0);
-	MUST(!socketpair(AF_UNIX, SOCK_STREAM | SOCK_CLOEXEC, 0, pair));
+	make_pair(pair);
 	server = pair[1];
 	struct wl_display *display = wl_display_connect_to_fd(pair[0]);
 	MUST(display);
@@ -223,10 +168,8 @@ int main(void)
 	MUST(proxy && !wl_proxy_add_listener(proxy, (void (**)(void))(void *)&listener, &made));
 	send_requests(proxy);
 	send_all(3, 0xff000000u);
-	begin(3, 1);
-	add((uint32_t)INT32_MIN);
-	add(333);
-	send_event(-1);
+	put_message(&wire, 3, 1, 2, (uint32_t)INT32_MIN, 333);
+	send_wire(&wire, server);
 	send_word(3, 3, 3);
 	send_word(3, 3, 0);
 	send_word(1, 1, 4);

@@ -9,7 +9,6 @@
 #define COUNT_CLOSES
 #include "thing.h"
 #include "wire.h"
-#include <sys/wait.h>
 
 static const struct wl_interface *const untyped[32];
 /* `untyped`, in the form of a wl_message. */
@@ -266,8 +265,9 @@ enum { RIGHT, FAILED, NOT_REFUSED, LEFT_OPEN };
 static const char *const statuses[] = { "", "failed", "not refused with a line",
 	"a descriptor is open, or was closed twice" };
 
-static int play(size_t number)
+static int play(const void *its)
 {
+	size_t number = *(const size_t *)its;
 	int sockets[2], before = count_open();
 	begin_good();
 	cases[number].spoil();
@@ -278,7 +278,7 @@ static int play(size_t number)
 	int is_refused = use(display, registry, sockets[1]);
 	int error = wl_display_get_error(display);
 	printf("%s: %s, error %s, %d lines\n", cases[number].name, is_refused ? "refused" : "used",
-		error ? strerrorname_np(error) : "0", lines);
+		name_of(error), lines);
 	fflush(stdout);
 	wl_registry_destroy(registry);
 	wl_display_disconnect(display);
@@ -288,16 +288,9 @@ static int play(size_t number)
 	return cases[number].wanted == REFUSED && (!is_refused || !lines) ? NOT_REFUSED : RIGHT;
 }
 
-static int play_apart(size_t number)
+static int is_wrong(size_t number)
 {
-	int status;
-	pid_t child = fork();
-	MUST(child >= 0);
-	if (!child) {
-		alarm(HANGS);
-		exit(play(number));
-	}
-	MUST(waitpid(child, &status, 0) == child);
+	int status = play_apart(play, &number);
 	if (WIFSIGNALED(status))
 		printf("WRONG: %s: signal %d\n", cases[number].name, WTERMSIG(status));
 	else if (WEXITSTATUS(status))
@@ -314,9 +307,9 @@ int main(int argc, char **argv)
 	memset(long_name, 'a', sizeof long_name - 1);
 	wl_log_set_handler_client(count_lines);
 	if (argc > 1)
-		return play((size_t)atoi(argv[1]) % CASES);
+		return play(&(size_t){ (size_t)atoi(argv[1]) % CASES });
 	for (size_t number = 0; number < CASES; number++)
-		wrongs += play_apart(number);
+		wrongs += is_wrong(number);
 	printf("%zu interfaces, %d wrong\n", CASES, wrongs);
 	return wrongs != 0;
 }

@@ -4,7 +4,6 @@
 #define _GNU_SOURCE
 #define COUNT_CLOSES
 #include "session.h"
-#include <sys/wait.h>
 
 extern void *__libc_malloc(size_t), *__libc_calloc(size_t, size_t), *__libc_realloc(void *, size_t);
 
@@ -43,11 +42,6 @@ void *realloc(void *block, size_t size)
 	return fails() ? NULL : __libc_realloc(block, size);
 }
 
-static void quiet(const char *format, va_list list)
-{
-	(void)format, (void)list;
-}
-
 /* How a process ends. */
 enum { LAWFUL, WITH_ERROR, UNNOTICED, OPEN };
 
@@ -57,14 +51,14 @@ static int is_whole(const struct session *session)
 	return session->child && session->events == 11 && session->sum == 2039;
 }
 
-static int play(long successes)
+static int play(const void *successes)
 {
 	static struct wire wire;
 	static struct session session;
 	int before = count_open(), sockets[2], error = 0, status = 0;
 	make_pair(sockets);
 	write_session(&wire);
-	left = successes;
+	left = *(const long *)successes;
 	open_session(&session, sockets[0]);
 	if (session.display) {
 		send_wire(&wire, sockets[1]);
@@ -92,14 +86,7 @@ static int play_all(void)
 {
 	int wrong = 0, ended[4] = { 0 };
 	for (long successes = 0;; successes++) {
-		int status;
-		pid_t child = fork();
-		MUST(child >= 0);
-		if (!child) {
-			alarm(HANGS);
-			_exit(play(successes));
-		}
-		MUST(waitpid(child, &status, 0) == child);
+		int status = play_apart(play, &successes);
 		if (WIFSIGNALED(status) || WEXITSTATUS(status) > UNNOTICED) {
 			wrong++;
 			printf("allocation %ld: signal %d, status %d%s\n", successes, WTERMSIG(status),

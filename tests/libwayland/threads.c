@@ -9,29 +9,11 @@
 #include "compositor.h"
 #include <poll.h>
 #include <pthread.h>
-#include <wayland-client.h>
 
 #define THREADS 8
 #define CALLBACKS 5
 
-static struct wl_display *display;
-static struct wl_compositor *compositor;
 static int rounds;
-
-static void on_global(void *data, struct wl_registry *registry, uint32_t name,
-	const char *interface, uint32_t version)
-{
-	(void)data, (void)version;
-	if (!strcmp(interface, "wl_compositor"))
-		compositor = wl_registry_bind(registry, name, &wl_compositor_interface, 4);
-}
-
-static void on_global_remove(void *data, struct wl_registry *registry, uint32_t name)
-{
-	(void)data, (void)registry, (void)name;
-}
-
-static const struct wl_registry_listener of_registry = { on_global, on_global_remove };
 
 static void on_done(void *data, struct wl_callback *callback, uint32_t number)
 {
@@ -111,11 +93,7 @@ int main(int argc, char **argv)
 	int before = count_open();
 	long most = argc > 2 ? atol(argv[2]) : 0;
 	rounds = atoi(argv[1]);
-	display = wl_display_connect_to_fd(start_compositor(argv[0], most));
-	MUST(display);
-	struct wl_registry *registry = wl_display_get_registry(display);
-	wl_registry_add_listener(registry, &of_registry, NULL);
-	MUST(wl_display_roundtrip(display) > 0 && compositor);
+	connect_to_compositor(argv[0], most);
 	for (int at = 0; at < THREADS; at++)
 		MUST(!pthread_create(&threads[at], NULL, work, NULL));
 	for (int at = 0; at < THREADS; at++) {
@@ -123,9 +101,7 @@ int main(int argc, char **argv)
 		MUST(!pthread_join(threads[at], &went_well) && !went_well == (most != 0));
 	}
 	MUST(!wl_display_get_error(display) == !most);
-	wl_compositor_destroy(compositor);
-	wl_registry_destroy(registry);
-	wl_display_disconnect(display);
+	disconnect();
 	MUST(count_open() == before);
 	return 0;
 }

@@ -10,11 +10,6 @@
 static struct wl_display *display;
 static int peer;
 
-static void quiet(const char *format, va_list list)
-{
-	(void)format, (void)list;
-}
-
 static void send_error(void)
 {
 	struct wire wire = { .length = 0 };

@@ -3,26 +3,16 @@
 #ifndef WIRE_H
 #define WIRE_H
 
-#include <dirent.h>
+#include "../must.h"
+
 #include <errno.h>
 #include <stdarg.h>
 #include <stdint.h>
-#include <stdio.h>
-#include <stdlib.h>
 #include <string.h>
 #include <sys/mman.h>
-#include <sys/socket.h>
 #include <sys/syscall.h>
+#include <sys/wait.h>
 #include <unistd.h>
-
-/* Ends the program with a line about what did not hold. */
-#define MUST(holds) \
-	do { \
-		if (!(holds)) { \
-			fprintf(stderr, "%s:%d: %s\n", __FILE__, __LINE__, #holds); \
-			exit(1); \
-		} \
-	} while (0)
 
 #define FIRST_SERVER_ID 0xff000000u
 #define MOST_DESCRIPTORS 28
@@ -149,21 +139,31 @@ static inline int new_descriptor(void)
 /* A signal ends a process that hangs after this many seconds: many times what it needs. */
 #define HANGS 240
 
-/* How many descriptors this process has. */
-static inline int count_open(void)
+/* A log handler that prints nothing. */
+static inline void quiet(const char *format, va_list list)
 {
-	int count = 0;
-	DIR *folder = opendir("/proc/self/fd");
-	MUST(folder);
-	while (readdir(folder))
-		count++;
-	closedir(folder);
-	return count;
+	(void)format, (void)list;
 }
 
-static inline void make_pair(int sockets[2])
+static inline const char *name_of(int error)
 {
-	MUST(!socketpair(AF_UNIX, SOCK_STREAM | SOCK_CLOEXEC, 0, sockets));
+	return error ? strerrorname_np(error) : "0";
+}
+
+/* Plays in a process of its own, whose status is the play's. Returns how the process has ended. */
+static inline int play_apart(int (*play)(const void *), const void *what)
+{
+	int status;
+	pid_t child = fork();
+	MUST(child >= 0);
+	if (!child) {
+		alarm(HANGS);
+		status = play(what);
+		fflush(stdout);
+		_exit(status);
+	}
+	MUST(waitpid(child, &status, 0) == child);
+	return status;
 }
 
 #ifdef COUNT_CLOSES
