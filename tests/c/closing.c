@@ -80,72 +80,6 @@ static void cut_off(void)
 	MUST(waywire_socket_flush(client, NULL) == -1 && errno == EINVAL);
 }
 
-/* All that one end wrote is read by the other. */
-static waywire_report pass(struct link *from, struct link *to)
-{
-	waywire_report report, last = { 0 };
-	MUST(!waywire_socket_flush(from->socket, from->end) && waywire_socket_fill(to->socket, to->end) > 0);
-	for (;;) {
-		MUST(!waywire_end_next(to->end, &report));
-		if (report.kind == WAYWIRE_NOTHING)
-			return last;
-		last = report;
-	}
-}
-
-/* A client gives up with messages in its outbox, some of which have a descriptor. */
-static void not_sent(void)
-{
-	struct link one, other;
-	waywire_client client;
-	waywire_server server;
-	waywire_wl_registry registry;
-	waywire_wl_shm shm;
-	waywire_wl_shm_pool pool;
-	uint16_t index;
-	one.socket = serve(&other, &server);
-	MUST(!waywire_client_new(tables, &sizes, &client));
-	one.end = client.end;
-	waywire_wl_display display = waywire_wl_display_of(waywire_end_display(client.end));
-	MUST(!waywire_wl_display_get_registry(client, display, &registry));
-	pass(&one, &other);
-	MUST(!waywire_tables_interface(tables, WAYWIRE_WL_SHM_NAME, &index));
-	MUST(!waywire_server_add_global(server, index, 1, NULL));
-	MUST(!waywire_server_announce(server, NULL));
-	pass(&other, &one);
-	MUST(!waywire_wl_shm_bind(client, registry, 1, 1, &shm));
-	for (int i = 0; i < 40; i++) {
-		MUST(!waywire_wl_shm_create_pool(client, shm, new_descriptor(4096), 4096, &pool));
-		MUST(!waywire_wl_shm_pool_destroy(client, pool));
-	}
-	end(&one);
-	end(&other);
-}
-
-/* The tokens that wait, in order: those that came, then those that were not sent. Nothing is read or written
- * afterwards. */
-static void in_order(void)
-{
-	static const unsigned char bytes[] = { 9, 0, 0, 0 };
-	uint32_t tokens[3], fed[MOST];
-	waywire_amounts amounts;
-	waywire_server server;
-	size_t count;
-	for (uint32_t i = 0; i < MOST; i++)
-		fed[i] = 100 + i;
-	MUST(!waywire_server_new(tables, &sizes, &server));
-	MUST(!waywire_end_feed(server.end, bytes, 4, fed, MOST, &amounts));
-	for (uint32_t next = 100; next < 100 + MOST; next += (uint32_t)count) {
-		MUST(!waywire_end_take_waiting_tokens(server.end, tokens, 3, &count) && count);
-		for (uint32_t i = 0; i < count; i++)
-			MUST(tokens[i] == next + i);
-	}
-	MUST(!waywire_end_take_waiting_tokens(server.end, tokens, 3, &count) && !count);
-	MUST(waywire_end_feed(server.end, bytes, 4, fed, 1, &amounts) == WAYWIRE_FAILED);
-	MUST(waywire_server_post_error(server, waywire_end_display(server.end), 0, "") == WAYWIRE_FAILED);
-	waywire_end_free(server.end);
-}
-
 int main(void)
 {
 	static const unsigned char bad_size[] = { 1, 0, 0, 0, 0, 0, 4, 0 };
@@ -156,10 +90,8 @@ int main(void)
 		broken(bad_size, sizeof bad_size);
 		broken(unknown, sizeof unknown);
 		cut_off();
-		not_sent();
 		MUST(count_open() == before);
 	}
-	in_order();
 	waywire_tables_free(tables);
 	printf("closing: ok\n");
 	return 0;

@@ -2,10 +2,32 @@
  * descriptors both ways, objects that are destroyed while events for them are on their way, ids used
  * again, and wl_display.error at the end. The client runs in a child. */
 #define _GNU_SOURCE
-#include "rounds.h"
+#include "descriptors.h"
 
 #include <errno.h>
+#include <poll.h>
+#include <sys/wait.h>
 #include <wayland-client.h>
+
+#define ROUNDS 600
+#define ERROR_CODE 7
+#define ERROR_TEXT "enough"
+
+static int memory_with(uint32_t number)
+{
+	int fd = memfd_create("number", MFD_CLOEXEC);
+	MUST(fd >= 0 && write(fd, &number, sizeof number) == sizeof number);
+	return fd;
+}
+
+/* The number in memory, whose descriptor is closed. */
+static uint32_t number_in(int fd)
+{
+	uint32_t number = 0;
+	MUST(pread(fd, &number, sizeof number, 0) == sizeof number);
+	close(fd);
+	return number;
+}
 
 /* ---- the client, of libwayland */
 
@@ -149,11 +171,11 @@ static int be_client(int fd)
 	struct wl_pointer *pointer = wl_seat_get_pointer(seat);
 	wl_pointer_add_listener(pointer, &pointer_events, NULL);
 	MUST(wl_display_roundtrip(display) >= 0);
-	int before = descriptors();
+	int before = count_open();
 	while (round_number < ROUNDS)
 		play_round(display);
 	MUST(wl_display_roundtrip(display) >= 0);
-	MUST(descriptors() == before);
+	MUST(count_open() == before);
 	MUST(keymaps == ROUNDS && moves == ROUNDS && frames == ROUNDS && dead_names == ROUNDS);
 	struct wl_surface *surface = wl_compositor_create_surface(compositor);
 	wl_surface_set_buffer_scale(surface, -1);
@@ -315,6 +337,23 @@ static void serve(void)
 		MUST(!waywire_server_announce(server, NULL));
 }
 
+/* Flushes, and waits until something comes. */
+static void wait_for_more(int socket, waywire_end *end)
+{
+	for (;;) {
+		struct pollfd wanted = { socket, POLLIN, 0 };
+		if (waywire_socket_flush(socket, end)) {
+			MUST(errno == EAGAIN);
+			wanted.events |= POLLOUT;
+		}
+		MUST(poll(&wanted, 1, 120000) == 1);
+		if (wanted.revents & ~POLLOUT) {
+			MUST(waywire_socket_fill(socket, end) > 0);
+			return;
+		}
+	}
+}
+
 static void add(const char *name, uint32_t version)
 {
 	uint16_t interface;
@@ -326,7 +365,7 @@ int main(void)
 {
 	waywire_sizes sizes = { 65536, 64, 65536, 64 };
 	int sockets[2], status;
-	MUST(!socketpair(AF_UNIX, SOCK_STREAM | SOCK_CLOEXEC, 0, sockets));
+	make_pair(sockets);
 	pid_t child = fork();
 	MUST(child >= 0);
 	if (!child) {

@@ -8,12 +8,11 @@
 #include <stdlib.h>
 #include <string.h>
 
-/* From version 3 on a request can end a head. */
-static const char text[] = "interface manager 3\nrequest release D\nevent head N(head)\n"
-	"interface head 3\nrequest release D @3\nevent again N(head)\n";
+static const char text[] = "interface manager 2\nevent head N(head)\n"
+	"interface head 2\nevent again N(head)\n";
 
 /* Opcodes of the tables. */
-enum { RELEASE = 0, HEAD = 0, AGAIN = 0 };
+enum { HEAD = 0, AGAIN = 0 };
 
 /* A client that has bound a manager, and what it read last. */
 struct session {
@@ -166,44 +165,6 @@ static void target_is_replaced(void)
 	end(&session);
 }
 
-/* An event for a manager that the client has destroyed. */
-static void discarded_event_replaces(void)
-{
-	static const uint32_t id = WAYWIRE_FIRST_SERVER_ID;
-	char one;
-	struct session session;
-	begin(&session, text, "manager", 2);
-	waywire_object first = head(&session, id);
-	MUST(!waywire_end_set_user(session.client.end, first, &one));
-	MUST(!waywire_end_send(session.client.end, session.manager, RELEASE, NULL, 0, NULL, NULL));
-	comes(&session, session.manager.id, HEAD, &id, 1);
-	MUST(reads(&session) == WAYWIRE_DISCARDED && has_replaced(&session, first, &one) && !session.report.user);
-	MUST(!waywire_end_live(session.client.end, made_last(&session), NULL, NULL) && !is_listed(&session, first));
-	MUST(!waywire_end_user(session.client.end, made_last(&session)));
-	end(&session);
-}
-
-/* What a request can end is not replaced while it is live. What the client has destroyed is no live object. */
-static void ended_by_request(void)
-{
-	static const uint32_t id = WAYWIRE_FIRST_SERVER_ID;
-	char one;
-	struct session session;
-	begin(&session, text, "manager", 3);
-	waywire_object first = head(&session, id);
-	MUST(!waywire_end_set_user(session.client.end, first, &one));
-	MUST(!waywire_end_send(session.client.end, first, RELEASE, NULL, 0, NULL, NULL));
-	waywire_object second = head(&session, id);
-	MUST(has_replaced_none(&session) && !waywire_end_user(session.client.end, second));
-	MUST(!waywire_end_set_user(session.client.end, second, &one));
-	comes(&session, session.manager.id, HEAD, &id, 1);
-	MUST(waywire_end_next(session.client.end, &session.report) == WAYWIRE_FAULT_BAD_NEW_ID);
-	MUST(session.report.place == 0);
-	MUST(session.report.kind == WAYWIRE_FAULT && has_replaced_none(&session));
-	MUST(waywire_end_user(session.client.end, second) == &one);
-	end(&session);
-}
-
 /* ---- a program that keeps what it knows of each output, as kanshi does */
 
 /* Opcodes of wlr-output-management. */
@@ -286,8 +247,6 @@ int main(int count, char **words)
 	MUST(count == 2);
 	report_has_the_old_object();
 	target_is_replaced();
-	discarded_event_replaces();
-	ended_by_request();
 	nothing_is_lost(words[1]);
 	return 0;
 }

@@ -431,12 +431,6 @@ def sockets_are_those_of_libwayland(_program):
         run([compiled("beside_libwayland", *words), tempfile.mkdtemp(dir=folder)])
 
 
-def our_client_at_libwayland(_program):
-    """Our client at a server of libwayland, over a socket, with descriptors both ways."""
-    words = libwayland("wayland-server")
-    run([compiled("our_client", *words)])
-
-
 def libwayland_at_our_server(_program):
     """A client of libwayland at our server, over a socket, with descriptors both ways."""
     words = libwayland("wayland-client")
@@ -707,7 +701,7 @@ TESTS_IN_ORDER = (header_is_c99_and_cpp, every_message_goes_by_its_stub,
                   works_beside_many_registries, shared_tables,
                   no_leak_to_the_sanitizer, exports_its_calls_alone, examples, installed, installing_compiles_nothing,
                   package, debian_package, debian_package_at_a_clean_debian,
-                  sockets_are_those_of_libwayland, our_client_at_libwayland, libwayland_at_our_server, compositor,
+                  sockets_are_those_of_libwayland, libwayland_at_our_server, compositor,
                   client_of_weston_at_our_compositor, client_of_gtk_at_our_compositor,
                   texts_at_our_compositor, clients_go_at_our_compositor, much_at_our_clipboard,
                   greedy_clients_at_our_compositor,

@@ -1,13 +1,14 @@
-//! Every message of the core between two ends, with arguments at the corners of their types; and the
-//! demonstration's session, whose bytes are those of the pair in Rattle.
+//! Two ends with nothing between: the demonstration's session, whose bytes are those of the pair in
+//! Rattle, and what calls and reports say of objects, refusals and tables. That each message passes
+//! is tested with the typed calls (tests/every_typed_call.py).
 
 mod common;
 
-use common::{core_messages, number_of, numbered, repository, Core};
+use common::{number_of, numbered, repository};
 use std::fs;
-use std::os::fd::{AsFd, OwnedFd};
+use std::os::fd::AsFd;
 use waywire::{
-    event, request, Arg, ArgKind, Client, Connection, Decoded, Destroys, Failed, FaultKind, Fixed,
+    event, request, Arg, ArgKind, Client, Connection, Decoded, Destroys, Failed, FaultKind,
     Incoming, NextError, Object, Replaced, SendError, Sender, Server, Sizes, Spelled, Tables,
     Value,
 };
@@ -68,88 +69,6 @@ impl Pair {
         assert_eq!(self.server.live(bound), Some((place, version)));
         bound
     }
-
-    /// An argument of a kind.
-    fn arg<'a>(&mut self, kind: &str, corner: usize, descriptor: &'a OwnedFd) -> Arg<'a> {
-        const TEXTS: [&[u8]; 3] = [b"", b"a text of more than one word", b"\x01\xff\""];
-        let may_be_null = kind.starts_with('?') && corner == 2;
-        match kind.trim_start_matches('?').chars().next().unwrap() {
-            'i' => Arg::Int([i32::MIN, i32::MAX, 0][corner]),
-            'u' => Arg::Uint([0, u32::MAX, 1][corner]),
-            'f' => Arg::Fixed(Fixed::from_raw([i32::MIN, i32::MAX, -1][corner])),
-            's' if may_be_null => Arg::Str(None),
-            's' => Arg::Str(Some(TEXTS[corner])),
-            'a' => Arg::Array(TEXTS[corner]),
-            'h' => descriptor.as_fd().into(),
-            'n' => Arg::NewId,
-            _ if may_be_null => Arg::Object(None),
-            _ => {
-                let interface = kind.trim_start_matches('?').trim_start_matches("o(");
-                Arg::Object(Some(self.object(interface.trim_end_matches(')'))))
-            }
-        }
-    }
-}
-
-/// Whether a value is the one that was sent; it makes no object.
-fn is_sent(sent: &Arg<'_>, came: &Value<'_>, made: Option<Object>) -> bool {
-    match (sent, came) {
-        (Arg::Int(one), Value::Int(other)) => one == other,
-        (Arg::Uint(one), Value::Uint(other)) => one == other,
-        (Arg::Fd(one), Value::Fd(Some(other))) => number_of(*one) == number_of(*other),
-        (Arg::Fixed(one), Value::Fixed(other)) => one == other,
-        (Arg::Str(one), Value::Str(other)) => one == other,
-        (Arg::Array(one), Value::Array(other)) => one == other,
-        (Arg::Object(one), Value::Object(other)) => one == other,
-        (Arg::NewId, Value::NewId(object)) => made == Some(*object),
-        _ => false,
-    }
-}
-
-fn passes(tables: &Tables, message: &Core, corner: usize) {
-    let mut pair = Pair::new(tables);
-    let descriptor = numbered(corner as u32);
-    let kinds = message.kinds.iter();
-    let args: Vec<Arg<'_>> = kinds.map(|it| pair.arg(it, corner, &descriptor)).collect();
-    let target = pair.object(&message.interface);
-    let check = |came: Vec<Value<'_>>, made| {
-        let Core { interface, name, .. } = message;
-        assert_eq!(came.len(), args.len(), "{interface}.{name}");
-        assert!(args.iter().zip(&came).all(|(one, other)| is_sent(one, other, made)), "{name}");
-    };
-    if message.is_request {
-        let made = pair.client.send(target, message.opcode, &args).unwrap();
-        pair.carry_to_server();
-        let came = pair.server.next().unwrap().unwrap();
-        assert_eq!((came.target(), came.opcode()), (target, message.opcode));
-        check(came.args().collect(), made);
-    } else {
-        pair.server.send(target, message.opcode, &args).unwrap();
-        pair.carry_to_client();
-        let Some(Incoming::Event(came)) = pair.client.next().unwrap() else { panic!("no event") };
-        assert_eq!((came.target(), came.opcode()), (target, message.opcode));
-        check(came.args().collect(), None);
-    }
-}
-
-#[test]
-fn every_core_message_passes() {
-    let tables = Tables::core().unwrap();
-    let mut passed = 0;
-    for message in core_messages() {
-        // Other calls write these.
-        let is_hidden = message.kinds.contains(&"n".to_string())
-            || !message.is_request
-                && ["wl_display", "wl_registry"].contains(&message.interface.as_str());
-        if is_hidden {
-            continue;
-        }
-        for corner in 0..3 {
-            passes(&tables, &message, corner);
-        }
-        passed += 1;
-    }
-    assert_eq!(passed, 96);
 }
 
 /// The bytes of each direction of a recording.
