@@ -1,6 +1,5 @@
 """Recordings as `reference` judges them, and the comparison of a program with it."""
 
-import contextlib
 import os
 import re
 import subprocess
@@ -9,7 +8,7 @@ import tempfile
 import unittest
 
 from tests import reference
-from tests.checks import TOP
+from tests.checks import TOP, joined_tables, read
 from tests.parts import compare
 from tools.waywire import table_text
 
@@ -17,53 +16,33 @@ from tools.waywire import table_text
 class Sessions(unittest.TestCase):
     """Recordings as `reference` judges them."""
 
-    def judged(self, name, tables=()):
-        core, texts = table_text.core_tables(), b""
-        for it in tables:
-            with open(f"{TOP}/protocols/{it}.tables", "rb") as file:
-                texts += file.read()
-        with open(f"{TOP}/examples/{name}.rec", "rb") as file:
-            return reference.judged(table_text.read_more(core, texts), file.read())
+    # The verdict of each with all tables, how many objects the server made in it, how many ids these have, and lines
+    # of its trace. wp_drm_lease_device_v1 has requests, so its `released` is a plain event: the delete_id ends the
+    # object.
+    RECORDED = {
+        "clipboard": ("lawful: 12 requests, 14 events, 0 and 0 bytes left", 3, 2, ()),
+        "copy_and_paste": ("lawful: 557 requests, 429 events, 0 and 0 bytes left", 10, 3, ()),
+        "drm_lease": ("lawful: 3 requests, 5 events, 0 and 0 bytes left", 0, 0,
+                      ("<- wp_drm_lease_device_v1@3.released()",)),
+        "gtk_dialog": ("lawful: 363 requests, 199 events, 0 and 0 bytes left", 0, 0,
+                       ("<- wl_data_device@15.selection(nil)", "<- wl_keyboard@7.keymap(1, fd 1, 64434)")),
+        "kanshi": ("lawful: 155 requests, 290 events, 0 and 0 bytes left", 22, 6, ()),
+        "presentation": ("lawful: 139 requests, 95 events, 0 and 0 bytes left", 0, 0,
+                         ("<- wl_display@1.delete_id(73)",)),
+        "wl_paste": ("lawful: 83 requests, 297 events, 0 and 0 bytes left", 26, 1, ()),
+        "wl_paste_at_kwin": ("lawful: 50 requests, 175 events, 0 and 0 bytes left", 13, 1, ()),
+    }
 
-    def test_stored_runs(self):
-        names = [it.removesuffix(".rec") for it in os.listdir(f"{TOP}/examples") if it.endswith(".rec")]
-        compared = 0
-        for name in names:
-            for command in ("trace", "check"):
-                path = f"{TOP}/tests/runs/{command}_{name}.run"
-                with contextlib.suppress(FileNotFoundError), open(path, encoding="utf-8") as file:
-                    case = file.read()
-                    if f"\nwords: {command} examples/{name}.rec\n" not in case:
-                        continue
-                    output = case[case.index("\noutput:\n") :].split("\n")[2:]
-                    stored = [it[2:] for it in output if it.startswith("  ")]
-                    lines, verdict = self.judged(name)
-                    if command == "check":
-                        lines = [verdict]
-                    elif verdict.startswith("broken"):
-                        lines = [*lines, verdict]
-                    self.assertEqual(lines, stored, path)
-                    compared += 1
-        self.assertGreater(compared, 5)
-
-    def test_a_toolkits_window(self):
-        lines, verdict = self.judged("gtk_dialog", ("xdg-shell", "xdg-output", "data-device"))
-        self.assertEqual(verdict, "lawful: 363 requests, 199 events, 0 and 0 bytes left")
-        self.assertIn("<- wl_data_device@15.selection(nil)", lines)
-        self.assertIn("<- wl_keyboard@7.keymap(1, fd 1, 64434)", lines)
-        _, verdict = self.judged("gtk_dialog")
+    def test_recordings(self):
+        core = table_text.core_tables()
+        tables, first = table_text.read_more(core, joined_tables()), reference.FIRST_OF_SERVER
+        for name, (verdict, objects, ids, shown) in self.RECORDED.items():
+            lines, found = reference.judged(tables, read(f"examples/{name}.rec").encode())
+            made = [int(re.search("@([0-9]+)\\)$", it)[1]) for it in lines if re.match("<- .*new id ", it)]
+            self.assertEqual((found, len(made), {*made}), (verdict, objects, {*range(first, first + ids)}), name)
+            self.assertLessEqual({*shown}, {*lines}, name)
+        _, verdict = reference.judged(core, read("examples/gtk_dialog.rec").encode())
         self.assertEqual(verdict, "broken: > message 5 at byte 108: F9 bad bind")
-
-    def test_an_event_that_cannot_destroy(self):
-        """wp_drm_lease_device_v1 has requests, so its `released` is a plain event: the delete_id ends the object."""
-        lines, verdict = self.judged("drm_lease", ("drm-lease",))
-        self.assertEqual(verdict, "lawful: 3 requests, 5 events, 0 and 0 bytes left")
-        self.assertIn("<- wp_drm_lease_device_v1@3.released()", lines)
-
-    def test_events_that_destroy(self):
-        lines, verdict = self.judged("presentation", ("xdg-shell", "presentation-time"))
-        self.assertEqual(verdict, "lawful: 139 requests, 95 events, 0 and 0 bytes left")
-        self.assertIn("<- wl_display@1.delete_id(73)", lines)
 
     def test_rows_with_tables(self):
         viewporter = b"interface wp_viewporter 1\nrequest destroy D\n"
