@@ -7,6 +7,7 @@ WAYLAND_DEBUG makes the program print, in the same order in each direction.
 The environment is that of inspecting.py. A program that is not installed is skipped, and so
 is one that makes no connection."""
 import contextlib
+import functools
 import os
 import re
 import signal
@@ -149,32 +150,8 @@ class Desktop(at_sway.Sway):
         for why in skipped:
             print(f"\nskipped: {kind}: {why}")
 
-    def test_gtk3(self):
-        self.programs("gtk3")
-
-    def test_gtk4(self):
-        self.programs("gtk4")
-
-    def test_qt(self):
-        self.programs("qt")
-
-    def test_foot(self):
-        self.programs("foot")
-
-    def test_swaybg(self):
-        self.programs("swaybg")
-
-    def test_wlr_randr(self):
-        self.programs("wlr-randr")
-
-    def test_waybar(self):
-        self.programs("waybar")
-
-    def test_mpv(self):
-        self.programs("mpv")
-
-    def test_clients_of_weston(self):
-        self.programs("weston")
+    test_gtk3, test_gtk4, test_qt, test_foot, test_swaybg, test_wlr_randr, test_waybar, test_mpv, test_weston = map(
+        functools.partial(functools.partialmethod, programs), PROGRAMS)
 
     def test_primary_selection(self):
         """A text is copied and pasted by the tool itself, also as primary selection."""

@@ -59,7 +59,19 @@ def wrapped(*functions):
 
 
 # What tests/c/refusing.h replaces.
-REFUSING = wrapped("malloc", "calloc", "realloc", "free")
+REFUSING = ("malloc", "calloc", "realloc", "free")
+
+
+def of_program(test_name, name, *words, wraps=(), sources=(), checked=None, timeout=LONG):
+    """A test that a program of tests/c ends well with these words, and under valgrind with the words `checked`."""
+    def test(_program):
+        path = compiled(name, *wrapped(*wraps), sources=sources)
+        run([path, *words], timeout=timeout)
+        if checked is not None:
+            need("valgrind")
+            run([*VALGRIND, path, *checked])
+    test.__name__ = test_name
+    return test
 
 
 # ---- the tests
@@ -232,11 +244,6 @@ def inspector_says_what_the_reference_says(_program):
                     raise Failed(f"{recording} {tables}, parts of {most} bytes: it says something else")
 
 
-def long_session_takes_no_more_memory(_program):
-    """Ten gigabytes pass an inspector."""
-    run([compiled("long_session")], timeout=2 * LONG)
-
-
 def no_error_and_no_leak(_program):
     need("valgrind")
     run([*VALGRIND, compiled("inspector"), "examples/surface.rec", "-", "7"])
@@ -245,26 +252,36 @@ def no_error_and_no_leak(_program):
     run([*VALGRIND, compiled("edges")])
 
 
-def refused_allocations(_program):
-    """In each run another allocation of a call fails."""
-    run([compiled("refused", *REFUSING)])
-
-
-def followed_messages(_program):
-    """What an inspector says about messages that are judged or not, however they are cut; also if any allocation
-    fails."""
-    path = compiled("following", *REFUSING)
-    run([path])
-    need("valgrind")
-    run([*VALGRIND, path])
-
-
-def tables_that_grow(_program):
-    """A client's tables grow while it has objects. It binds globals that it was not told of, and the server judges that."""
-    path = compiled("more_tables")
-    run([path, "all"])
-    need("valgrind")
-    run([*VALGRIND, path])
+MEMORY = ("malloc", "realloc", "free")
+OUTPUTS = "protocols/output-management.tables"
+USERS = os.path.join(TOP, "c", "lib", "users.c")
+ALONE = (
+    # In each run another allocation of a call fails.
+    of_program("refused_allocations", "refused", wraps=REFUSING),
+    # What an inspector says about messages that are judged or not, however they are cut; also if any allocation fails.
+    of_program("followed_messages", "following", wraps=REFUSING, checked=()),
+    # The caller's pointers at objects of both ranges of ids are kept apart, and their memory grows with their number.
+    of_program("pointers_of_both_ranges", "users", wraps=MEMORY[:2], sources=[USERS], checked=()),
+    # Ends with objects that the server makes: their bytes, their ids, their cost, and allocations that fail.
+    of_program("objects_of_the_server", "made", wraps=MEMORY),
+    # Objects of the server that are replaced while they live: the reports have the old objects and their pointers, and a
+    # program that frees these leaks nothing.
+    of_program("replaced_objects", "replaced", OUTPUTS, checked=[OUTPUTS]),
+    # A client's tables grow while it has objects. It binds globals that it was not told of, and the server judges that.
+    of_program("tables_that_grow", "more_tables", "all", checked=()),
+    # A million messages of random calls, some of them wrong, compared with a model; some allocations fail.
+    of_program("random_calls", "fuzz", "1000000", wraps=MEMORY[:2], timeout=2 * LONG),
+    # A connection that is broken or closed while descriptors wait leaves none open.
+    of_program("no_descriptor_is_left_open", "closing"),
+    # Everything arrives through a socket that takes only a part at a time, without a second buffer.
+    of_program("socket_takes_a_part", "parts"),
+    # Bytes whose tokens had no room wait in the space that was lent, whatever is read and sent meanwhile.
+    of_program("space_keeps_what_was_written", "space"),
+    # 100,000 open registries take less than 40 MB.
+    of_program("many_registries", "registries"),
+    # Ten gigabytes pass an inspector.
+    of_program("long_session_takes_no_more_memory", "long_session", timeout=2 * LONG),
+)
 
 
 def memory_has_one_form(_program):
@@ -274,28 +291,6 @@ def memory_has_one_form(_program):
     run([path])
     need("valgrind")
     run([*VALGRIND, path])
-
-
-def pointers_of_both_ranges(_program):
-    """The caller's pointers at objects of both ranges of ids are kept apart, and their memory grows with their number."""
-    path = compiled("users", *wrapped("malloc", "realloc"), sources=[os.path.join(TOP, "c", "lib", "users.c")])
-    run([path])
-    need("valgrind")
-    run([*VALGRIND, path])
-
-
-def objects_of_the_server(_program):
-    """Ends with objects that the server makes: their bytes, their ids, their cost, and allocations that fail."""
-    run([compiled("made", *wrapped("malloc", "realloc", "free"))], timeout=LONG)
-
-
-def replaced_objects(_program):
-    """Objects of the server that are replaced while they live: the reports have the old objects and their pointers, and
-    a program that frees these leaks nothing."""
-    words = [compiled("replaced"), "protocols/output-management.tables"]
-    run(words)
-    need("valgrind")
-    run([*VALGRIND, *words])
 
 
 def sockets(_program):
@@ -317,34 +312,9 @@ def connections(_program):
 
 def connections_without_memory(_program):
     """In each run another allocation of a connection's calls fails."""
-    path = compiled("connection_memory", *REFUSING)
+    path = compiled("connection_memory", *wrapped(*REFUSING))
     with tempfile.TemporaryDirectory() as folder:
         run([path, folder])
-
-
-def random_calls(_program):
-    """A million messages of random calls, some of them wrong, compared with a model; some allocations fail."""
-    run([compiled("fuzz", *wrapped("malloc", "realloc")), "1000000"], timeout=2 * LONG)
-
-
-def no_descriptor_is_left_open(_program):
-    """A connection that is broken or closed while descriptors wait leaves none open."""
-    run([compiled("closing")])
-
-
-def socket_takes_a_part(_program):
-    """Everything arrives through a socket that takes only a part at a time, without a second buffer."""
-    run([compiled("parts")])
-
-
-def space_keeps_what_was_written(_program):
-    """Bytes whose tokens had no room wait in the space that was lent, whatever is read and sent meanwhile."""
-    run([compiled("space")])
-
-
-def many_registries(_program):
-    """100,000 open registries take less than 40 MB."""
-    run([compiled("registries")])
 
 
 def instructions_of(work, beside):
@@ -547,35 +517,6 @@ def inspecting(program, *names, by=(), file="inspecting"):
         print(f"skipped: {it}")
 
 
-def inspecting_at_weston(program, *names):
-    inspecting(program, *(f"Weston.{it}" for it in names), file="at_weston")
-
-
-def inspector(program):
-    """waywire-inspect passes everything on, names what breaks a rule, and reports what goes wrong."""
-    inspecting(program, "Passing", "Sockets", "Judging", "Failing")
-
-
-def inspector_words(program):
-    """What it prints, records and reads."""
-    inspecting(program, file="words")
-
-
-def inspector_questions(program):
-    """What was asked and not answered, and when a session ended."""
-    inspecting(program, file="questions")
-
-
-def inspector_names(program):
-    """The names that it prints beside numbers."""
-    inspecting(program, file="names")
-
-
-def inspector_lines(program):
-    """What it prints beside messages: times, programs, what led to an error."""
-    inspecting(program, file="lines")
-
-
 def inspector_has_no_error_and_no_leak(program):
     need("valgrind")
     inspecting(program, "Asking", by=[*VALGRIND, "--track-fds=yes"], file="questions")
@@ -591,114 +532,75 @@ def inspector_has_no_error_and_no_leak(program):
                "Sockets.test_its_socket_and_its_lock", by=[*VALGRIND, "--track-fds=yes"])
 
 
-def inspector_takes_what_passes(program):
-    """The cost of an attack is linear in the number of its messages."""
-    need("valgrind")
-    inspecting(program, file="attacks")
-
-
-def inspector_names_what_is_so(program):
-    """Generated sessions with interfaces that it does not know."""
-    inspecting(program, file="unknown_sessions")
-
-
-def inspector_at_a_client_of_weston(program):
-    """It prints the messages that WAYLAND_DEBUG names, also if the compositor hangs or is killed."""
-    need("weston", "weston-simple-shm")
-    inspecting_at_weston(program, "test_simple_shm", "test_the_compositor_hangs", "test_the_compositor_is_killed")
-
-
-def inspector_at_a_client_of_cairo(program):
-    need("weston", "weston-flower")
-    inspecting_at_weston(program, "test_flower")
-
-
-def inspector_at_a_client_of_gtk(program):
-    need("weston", "zenity")
-    inspecting_at_weston(program, "test_gtk")
-
-
-def desktop(program, kind, *needed):
-    need("sway", "wtype", "wl-copy", *needed)
-    inspecting(program, f"Desktop.test_{kind}", file="at_a_desktop")
-
-
-def inspector_at_programs_of_gtk3(program):
-    desktop(program, "gtk3", "zenity", "gtk3-demo")
-
-
-def inspector_at_programs_of_gtk4(program):
-    desktop(program, "gtk4", "gtk4-demo")
-
-
-def inspector_at_a_program_of_qt(program):
-    desktop(program, "qt", "featherpad")
-
-
 def inspector_at_mutter(_program):
     """Programs of GTK 3 and 4 at the compositor of GNOME."""
     gnome.is_judged_at_mutter(INSPECT)
 
 
-def inspector_beside_the_log_of_mutter(program):
-    """It prints the same as mutter's log for each message, judged or not."""
-    need("mutter", "dbus-daemon")
-    inspecting(program, file="at_mutter")
+def of_inspector(name, file="inspecting", tests="", needed=""):
+    """A test that runs tests of a file in tests/inspector, if what they need is installed."""
+    def test(program):
+        need(*needed.split())
+        inspecting(program, *tests.split(), file=file)
+    test.__name__ = name
+    return test
 
 
-def inspector_at_foot(program):
-    desktop(program, "foot", "foot")
+def of_desktop(name, kind, needed):
+    """A test of programs at sway, with a keyboard and a text in the clipboard."""
+    return of_inspector(f"inspector_at_{name}", "at_a_desktop", f"Desktop.test_{kind}", f"sway wtype wl-copy {needed}")
 
 
-def inspector_at_swaybg(program):
-    desktop(program, "swaybg", "swaybg")
-
-
-def inspector_at_wlr_randr(program):
-    desktop(program, "wlr_randr", "wlr-randr")
-
-
-def inspector_at_waybar(program):
-    desktop(program, "waybar", "waybar")
-
-
-def inspector_at_mpv(program):
-    desktop(program, "mpv", "mpv")
-
-
-def inspector_at_the_clients_of_weston(program):
-    """Under sway, with a keyboard and a text in the clipboard."""
-    desktop(program, "clients_of_weston", "weston-flower")
-
-
-def inspector_at_the_primary_selection(program):
-    desktop(program, "primary_selection", "wl-paste")
-
-
-def inspector_at_wf_recorder(program):
-    """It names the message of sway that breaks a rule."""
-    desktop(program, "wf_recorder", "wf-recorder")
-
-
-def inspector_at_clients_that_copy_and_paste(program):
-    """wl-copy and wl-paste at a compositor that makes an object for each selection."""
-    need("sway", "wl-copy", "wl-paste")
-    inspecting(program, "Sway.test_wl_paste", "Sway.test_wl_copy", file="at_sway")
-
-
-def inspector_at_a_client_of_gtk_that_copies_and_pastes(program):
-    need("sway", "wl-copy", "wl-paste", "wtype", "zenity")
-    inspecting(program, "Sway.test_gtk", file="at_sway")
+INSPECTOR = (
+    # waywire-inspect passes everything on, names what breaks a rule, and reports what goes wrong.
+    of_inspector("inspector", tests="Passing Sockets Judging Failing"),
+    # What it prints, records and reads.
+    of_inspector("inspector_words", "words"),
+    # What was asked and not answered, and when a session ended.
+    of_inspector("inspector_questions", "questions"),
+    # The names that it prints beside numbers.
+    of_inspector("inspector_names", "names"),
+    # What it prints beside messages: times, programs, what led to an error.
+    of_inspector("inspector_lines", "lines"),
+    # Generated sessions with interfaces that it does not know.
+    of_inspector("inspector_names_what_is_so", "unknown_sessions"),
+    # The cost of an attack is linear in the number of its messages.
+    of_inspector("inspector_takes_what_passes", "attacks", needed="valgrind"),
+)
+# It prints the messages that WAYLAND_DEBUG or the compositor's log names.
+INSPECTOR_AT_PROGRAMS = (
+    # Also if the compositor hangs or is killed.
+    of_inspector("inspector_at_a_client_of_weston", "at_weston", "Weston.test_simple_shm "
+                 "Weston.test_the_compositor_hangs Weston.test_the_compositor_is_killed", "weston weston-simple-shm"),
+    of_inspector("inspector_at_a_client_of_cairo", "at_weston", "Weston.test_flower", "weston weston-flower"),
+    of_inspector("inspector_at_a_client_of_gtk", "at_weston", "Weston.test_gtk", "weston zenity"),
+    # A compositor that makes an object for each selection.
+    of_inspector("inspector_at_clients_that_copy_and_paste", "at_sway", "Sway.test_wl_paste Sway.test_wl_copy",
+                 "sway wl-copy wl-paste"),
+    of_inspector("inspector_at_a_client_of_gtk_that_copies_and_pastes", "at_sway", "Sway.test_gtk",
+                 "sway wl-copy wl-paste wtype zenity"),
+    of_desktop("programs_of_gtk3", "gtk3", "zenity gtk3-demo"),
+    of_desktop("programs_of_gtk4", "gtk4", "gtk4-demo"),
+    inspector_at_mutter,
+    # Each message, judged or not.
+    of_inspector("inspector_beside_the_log_of_mutter", "at_mutter", needed="mutter dbus-daemon"),
+    of_desktop("a_program_of_qt", "qt", "featherpad"),
+    of_desktop("foot", "foot", "foot"),
+    of_desktop("swaybg", "swaybg", "swaybg"),
+    of_desktop("wlr_randr", "wlr_randr", "wlr-randr"),
+    of_desktop("waybar", "waybar", "waybar"),
+    of_desktop("mpv", "mpv", "mpv"),
+    of_desktop("the_clients_of_weston", "weston", "weston-flower"),
+    of_desktop("the_primary_selection", "primary_selection", "wl-paste"),
+    # It names the message of sway that breaks a rule.
+    of_desktop("wf_recorder", "wf_recorder", "wf-recorder"),
+)
 
 
 TESTS_IN_ORDER = (header_is_c99_and_cpp, every_message_goes_by_its_stub,
                   stubs_compile_everywhere, ends_and_objects_have_types, session, values,
-                  inspector_says_what_the_reference_says,
-                  long_session_takes_no_more_memory, no_error_and_no_leak, refused_allocations,
-                  followed_messages, tables_that_grow, memory_has_one_form, pointers_of_both_ranges, objects_of_the_server, replaced_objects, random_calls,
-                  sockets, connections, connections_without_memory, no_descriptor_is_left_open,
-                  socket_takes_a_part, space_keeps_what_was_written, many_registries,
-                  works_beside_many_registries, shared_tables,
+                  inspector_says_what_the_reference_says, no_error_and_no_leak, *ALONE, memory_has_one_form,
+                  sockets, connections, connections_without_memory, works_beside_many_registries, shared_tables,
                   no_leak_to_the_sanitizer, exports_its_calls_alone, examples, installed, installing_compiles_nothing,
                   package, debian_package, debian_package_at_a_clean_debian,
                   sockets_are_those_of_libwayland, libwayland_at_our_server, compositor,
@@ -708,31 +610,19 @@ TESTS_IN_ORDER = (header_is_c99_and_cpp, every_message_goes_by_its_stub,
                   gtk_copies_and_pastes_at_our_compositor, foot_copies_at_our_compositor,
                   windows_copy_and_paste_at_our_compositor, client_pastes_at_our_compositor,
                   client_pastes_during_a_drag, client_pastes_at_sway,
-                  inspector, inspector_words, inspector_questions, inspector_names, inspector_lines,
-                  inspector_names_what_is_so, inspector_takes_what_passes,
-                  inspector_has_no_error_and_no_leak, inspector_is_installed, taken_from_a_package,
-                  compiled_without_a_proof,
-                  inspector_at_a_client_of_weston, inspector_at_a_client_of_cairo,
-                  inspector_at_a_client_of_gtk, inspector_at_clients_that_copy_and_paste,
-                  inspector_at_a_client_of_gtk_that_copies_and_pastes, inspector_at_programs_of_gtk3,
-                  inspector_at_programs_of_gtk4, inspector_at_mutter, inspector_beside_the_log_of_mutter,
-                  inspector_at_a_program_of_qt, inspector_at_foot,
-                  inspector_at_swaybg, inspector_at_wlr_randr, inspector_at_waybar, inspector_at_mpv,
-                  inspector_at_the_clients_of_weston, inspector_at_the_primary_selection,
-                  inspector_at_wf_recorder)
-
-
+                  *INSPECTOR, inspector_has_no_error_and_no_leak, inspector_is_installed, taken_from_a_package,
+                  compiled_without_a_proof, *INSPECTOR_AT_PROGRAMS)
+BY_NAME = {it.__name__: it for it in TESTS_IN_ORDER}
 # What `make check` runs.
-SHORT = (header_is_c99_and_cpp, ends_and_objects_have_types, session, values, tables_that_grow, memory_has_one_form,
-         pointers_of_both_ranges, replaced_objects, sockets, connections, no_descriptor_is_left_open,
-         socket_takes_a_part, space_keeps_what_was_written, exports_its_calls_alone, examples)
+SHORT = [BY_NAME[it] for it in """header_is_c99_and_cpp ends_and_objects_have_types session values tables_that_grow
+    memory_has_one_form pointers_of_both_ranges replaced_objects sockets connections no_descriptor_is_left_open
+    socket_takes_a_part space_keeps_what_was_written exports_its_calls_alone examples""".split()]
 
 
 def asked(words):
     """The program and the tests that the command line names."""
-    by_name = {it.__name__: it for it in TESTS_IN_ORDER}
-    named = [by_name[it] for it in words if it in by_name]
-    others = [it for it in words if it not in by_name and it != "--short"]
+    named = [BY_NAME[it] for it in words if it in BY_NAME]
+    others = [it for it in words if it not in BY_NAME and it != "--short"]
     for place, it in enumerate(others):
         if place or not os.path.isfile(it):
             usage.refuse(f"{it} is {'a second program' if place else 'neither a test nor a file'}")
