@@ -4,7 +4,8 @@
 #                     (scripts/toolchain.py), and then builds the tools. If a package has the archive of the exports that
 #                     was proved from these sources, it takes that, and proves nothing
 #     make UNPROVED=1 compiles the library without a proof, unless a proved one is there
-#     make install    installs all of it, with the manual pages; also the program `waywire`, if that is built
+#     make install    installs all of it, with the manual pages, the table texts (in PREFIX/share/waywire/protocols),
+#                     the package for Rust, the guide and the examples; also the program `waywire`, if that is built
 #                     (./waywire --build)
 #     make dist       packs all of that for machines without the toolchain
 #     make deb        makes a Debian package of it

@@ -3,9 +3,10 @@
     ./test c [PROGRAM] [--short | TEST..]
 
 PROGRAM is a built `waywire`, which traces what the session in C wrote. `--short`, as in `make check`, runs only the
-tests that take seconds and need no compositor. With names of tests, such as installed, only these are run. It prints
-what failed, and what was skipped because something is not installed (scripts/install-packages installs all of it).
-The last line counts what passed and failed. The exit status is 0 if nothing failed."""
+tests that take seconds and need no compositor. With names of tests, such as installed, only these are run:
+TESTS_IN_ORDER in tests/parts/c.py lists them. It prints what failed, and what was skipped because something is not
+installed (scripts/install-packages installs all of it). The last line counts what passed and failed. The exit status
+is 0 if nothing failed."""
 import glob
 import os
 import re
