@@ -83,6 +83,6 @@ if __name__ == "__main__":
     try:
         sys.exit(main())
     except protocol.BadProtocol as error:
-        sys.exit(f"core-files: {error}")
+        sys.exit(f"core_files: {error}")
     except subprocess.CalledProcessError:
         sys.exit(1)

@@ -118,7 +118,7 @@ def main() -> int:
     strange = sorted({it.kind for it in found.values()} - {*ROOMS})
     if strange:
         kinds = ", ".join(map(repr, strange))
-        print(f"draw-crates: crates.txt has a kind without a room: {kinds}", file=sys.stderr)
+        print(f"draw_crates: crates.txt has a kind without a room: {kinds}", file=sys.stderr)
         return 1
     print("\n".join(drawn(found)))
     return 0

@@ -84,7 +84,7 @@ def text_of(name: str, files: Mapping[str, str]) -> str | None:
     named = PROTOCOLS[name].names
     for needed in (name, *named):
         if needed not in files:
-            print(f"make-tables: the file for {needed} is not there", file=sys.stderr)
+            print(f"make_tables: the file for {needed} is not there", file=sys.stderr)
             return None
     words = [it for line in origin_of(name, files) for it in ("--comment", line)]
     words += [f"--with={files[it]}" for it in named]
@@ -99,7 +99,7 @@ def main(names: list[str]) -> int:
     if unknown := [it for it in names if it not in PROTOCOLS]:
         by_hand = [it for it in unknown if it in BY_HAND]
         said = f"{by_hand[0]} is written by hand" if by_hand else f"no text has the name {', '.join(unknown)}"
-        print(f"make-tables: {said}", file=sys.stderr)
+        print(f"make_tables: {said}", file=sys.stderr)
         return 2
     for name in names or sorted(PROTOCOLS):
         text = text_of(name, files)

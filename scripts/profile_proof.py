@@ -224,11 +224,11 @@ def main() -> int:
     unknown = [it for it in asked if it not in clone.crates]
     if unknown:
         usage.refuse(f"there is no crate {unknown[0]}")
-    if not toolchain.has_toolchain("profile-proof"):
+    if not toolchain.has_toolchain("profile_proof"):
         return toolchain.NOT_BUILT
     with tempfile.TemporaryDirectory(prefix="profile-", ignore_cleanup_errors=True) as room:
         if not libraries(clone, asked, f"{room}/below"):
-            print("profile-proof: the libraries below are not proved", file=sys.stderr)
+            print("profile_proof: the libraries below are not proved", file=sys.stderr)
             return toolchain.NOT_BUILT
         folder = toolchain.kit()
         found = [profile(clone, it, room, folder) for it in asked]

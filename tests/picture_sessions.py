@@ -1,4 +1,4 @@
-"""Generated sessions for `check-picture`: a short one as lines of the inspector, and a long recording."""
+"""Generated sessions for `./test picture`: a short one as lines of the inspector, and a long recording."""
 
 import itertools
 import json

@@ -2,9 +2,7 @@
 
 This is the only reader of the wire beside the proved one. Tests compare the two. It was written from that page
 alone, is slow, and has no bounds on memory. Tools decode messages with waywire_tables_decode, or read the output
-of `waywire-inspect --json`. tools/waywire/table_text.py reads table texts. Import `checks` first: it puts tools/ on the
-path.
-"""
+of `waywire-inspect --json`. tools/waywire/table_text.py reads table texts."""
 
 import re
 from dataclasses import dataclass

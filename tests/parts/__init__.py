@@ -1,1 +1,1 @@
-"""The parts that `./test` runs, each of its own name."""
+"""The parts of `./test`: a module for each, with its name."""

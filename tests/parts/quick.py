@@ -4,8 +4,8 @@
     ./test quick CRATE..
 
 Without crates it proves nothing. It tests the working tree, several parts at once: the layout, the tests of the
-tools, the tests in Rattle with `hello`, and the stored runs. It also compares the program with the
-reference. What is not proved and built already is compiled with checks from the sources
+tools, the tests in Rattle with `hello`, the stored runs and the commands of the pages. It also compares
+the program with the reference. What is not proved and built already is compiled with checks from the sources
 (scripts/unproved.py). If the library for C is not built, its tests are left to the gate. It prints what
 was left out.
 

@@ -1,4 +1,4 @@
-"""Runs the tests of the tools, of the script `waywire` and of the pages, which are in tests/tooling/.
+"""Runs the tests of the tools, the scripts, `./waywire` and the pages, which are in tests/tooling/.
 
     ./test tools [CLASS[.TEST]..]
 

@@ -1,1 +1,1 @@
-"""The tests of the tools, of the script `waywire` and of the pages, by subject."""
+"""The tests of the tools, the scripts, `./waywire` and the pages, by subject."""

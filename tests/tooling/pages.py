@@ -25,7 +25,7 @@ class Pages(unittest.TestCase):
 
     def pages(self):
         found = []
-        for folder in ("", "docs", "examples/*", "rust/*", "tests/rattle/*"):
+        for folder in ("", "docs", "examples/*", "protocols", "rust/*", "tests/rattle/*"):
             found += glob.glob(f"{TOP}/{folder}/*.md")
         return sorted(os.path.relpath(it, TOP) for it in found)
 

@@ -1,6 +1,6 @@
 """Reads table texts in Python, as docs/FORMATS.md describes them. It is for the tools and the tests: slow, and
 without bounds on memory. It was written from that page alone, so that its results can be compared with those of
-the program. `../protocols/core/core.tables` has the core interfaces."""
+the program. protocols/core/core.tables has the core interfaces."""
 
 import os
 import re
