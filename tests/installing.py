@@ -291,6 +291,7 @@ def debian_package_at_a_clean_debian(program):
         except (Failed, subprocess.TimeoutExpired) as why:
             raise Skipped(f"debootstrap has not made one: {str(why)[-300:]}") from None
         shutil.copytree(TESTS, os.path.join(root, "tests", "c"))
+        shutil.copy(os.path.join(TOP, "tests", "must.h"), os.path.join(root, "tests"))
         shutil.copy(path, os.path.join(root, "waywire.deb"))
         run(["chroot", root, "dpkg", "-i", "/waywire.deb"])
         said = run(["chroot", root, "sh", "-c", AT_DEBIAN])

@@ -1,6 +1,5 @@
-/* Messages that are decoded by their signatures, those at fault with all that is known of them; and the
- * objects of an end, which are gone through. That each message is decoded as it is read is tested with the
- * stubs (every_stub.h). */
+/* Messages that are decoded by their signatures, those at fault with all that is known of them. That each message
+ * is decoded as it is read is tested with the stubs (every_stub.h). */
 #include "must.h"
 
 static waywire_tables *tables;
@@ -103,46 +102,6 @@ static void refusals(void)
 	MUST(!memcmp(&before, &decoded, sizeof before));
 }
 
-/* The objects of an end, gone through while some of them end. */
-static void objects(void)
-{
-	static const waywire_sizes sizes = { 65536, 64, 4096, 20, 0 };
-	waywire_object made[4], object = { 0, 0 }, untouched = { 7, 7 };
-	waywire_arg new = waywire_new();
-	waywire_client client;
-	waywire_server server;
-	waywire_amounts amounts;
-	waywire_report report;
-	unsigned char bytes[256];
-	size_t count = 0;
-	MUST(!waywire_client_new(tables, &sizes, &client) && !waywire_server_new(tables, &sizes, &server));
-	waywire_object display = waywire_end_display(client.end);
-	for (int i = 0; i < 4; i++)
-		MUST(!waywire_end_send(client.end, display, WAYWIRE_WL_DISPLAY_REQUEST_SYNC, &new, 1, &made[i],
-			NULL));
-	while (!waywire_end_object_after(client.end, object.id, &object)) {
-		MUST(waywire_object_equal(object, count ? made[count - 1] : display));
-		count++;
-	}
-	MUST(count == 5);
-	MUST(!waywire_end_take(client.end, bytes, sizeof bytes, NULL, 0, &amounts));
-	MUST(!waywire_end_feed(server.end, bytes, amounts.bytes, NULL, 0, &amounts));
-	for (int i = 0; i < 4; i++)
-		MUST(!waywire_end_next(server.end, &report) && report.kind == WAYWIRE_MESSAGE);
-	MUST(!waywire_end_object_after(server.end, 1, &object) && waywire_object_equal(object, made[0]));
-	MUST(!waywire_server_drop_object(server, made[1]));
-	MUST(!waywire_end_object_after(server.end, object.id, &object) && waywire_object_equal(object, made[2]));
-	MUST(!waywire_end_take_waiting_tokens(server.end, NULL, 0, &count)); /* also at a failed end */
-	MUST(!waywire_end_object_after(server.end, object.id, &object) && waywire_object_equal(object, made[3]));
-	MUST(waywire_end_object_after(server.end, object.id, &untouched) == WAYWIRE_NOT_FOUND);
-	MUST(waywire_end_object_after(server.end, UINT32_MAX, &untouched) == WAYWIRE_NOT_FOUND);
-	MUST(untouched.id == 7 && untouched.birth == 7);
-	MUST(waywire_end_object_after(NULL, 0, &object) == WAYWIRE_NULL);
-	MUST(waywire_end_object_after(client.end, 0, NULL) == WAYWIRE_NULL);
-	waywire_end_free(client.end);
-	waywire_end_free(server.end);
-}
-
 int main(void)
 {
 	MUST(!waywire_tables_core(&tables));
@@ -150,7 +109,6 @@ int main(void)
 	unusual();
 	faults();
 	refusals();
-	objects();
 	waywire_tables_free(tables);
 	return 0;
 }

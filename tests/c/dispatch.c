@@ -91,18 +91,6 @@ static void deleted(void)
 	close_pair();
 }
 
-static void stray(void)
-{
-	static const unsigned char delete_9[] = { 1, 0, 0, 0, 1, 0, 12, 0, 9, 0, 0, 0 };
-	waywire_amounts fed;
-	open_pair();
-	MUST(!waywire_end_feed(client.end, delete_9, sizeof delete_9, NULL, 0, &fed));
-	MUST(!waywire_end_next(client.end, &report) && report.kind == WAYWIRE_STRAY);
-	MUST(waywire_wl_display_dispatch_event(&display_events, &mark, &report));
-	MUST(calls_that_came == 1 && number == 9);
-	close_pair();
-}
-
 static void failed(void)
 {
 	static const struct waywire_wl_display_events none = { 0 };
@@ -152,7 +140,6 @@ int main(void)
 	globals();
 	by_interface();
 	deleted();
-	stray();
 	failed();
 	waywire_tables_free(tables);
 	return 0;

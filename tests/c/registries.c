@@ -35,7 +35,7 @@ static uint32_t get_registry(void)
 	return next_id++;
 }
 
-static uint32_t bind(uint32_t registry, uint32_t name, const char *interface)
+static uint32_t bind_global(uint32_t registry, uint32_t name, const char *interface)
 {
 	size_t length = strlen(interface) + 1;
 	uint32_t words[10] = { registry, 0, name, (uint32_t)length };
@@ -79,8 +79,8 @@ static void make_server(size_t globals)
 		MUST(!waywire_server_add_global(server, index_of(WAYWIRE_WL_COMPOSITOR_NAME), 1, NULL));
 	uint32_t registry = get_registry();
 	MUST(announce() == globals);
-	fixes = bind(registry, of_fixes, WAYWIRE_WL_FIXES_NAME);
-	compositor = bind(registry, of_compositor, WAYWIRE_WL_COMPOSITOR_NAME);
+	fixes = bind_global(registry, of_fixes, WAYWIRE_WL_FIXES_NAME);
+	compositor = bind_global(registry, of_compositor, WAYWIRE_WL_COMPOSITOR_NAME);
 }
 
 /* ---- the works, beside `open` registries whose ids begin at `first`; each returns how often */

@@ -16,6 +16,8 @@ static void nulls(void)
 	size_t count = 7;
 	MUST(waywire_tables_core(NULL) == WAYWIRE_NULL);
 	MUST(waywire_tables_interface(NULL, "wl_seat", &interface) == WAYWIRE_NULL);
+	MUST(waywire_end_object_after(NULL, 0, &display) == WAYWIRE_NULL);
+	MUST(waywire_end_object_after(client.end, 0, NULL) == WAYWIRE_NULL);
 	MUST(waywire_tables_interface(tables, NULL, &interface) == WAYWIRE_NULL);
 	MUST(waywire_client_new(tables, NULL, &client) == WAYWIRE_NULL);
 	MUST(waywire_end_next(NULL, &report) == WAYWIRE_NULL);

@@ -1,6 +1,6 @@
 //! The arguments of messages.
 
-use crate::sys::{self, ArgOf, Kind};
+use crate::sys::{self, ArgOf};
 use crate::tables::Object;
 use std::fmt;
 use std::os::fd::{AsFd, AsRawFd, BorrowedFd, OwnedFd};
@@ -155,20 +155,22 @@ impl<D: AsRawFd> PartialEq for Value<'_, D> {
 #[inline]
 fn value<'a, D>(arg: &ArgOf<'a>, next: impl FnOnce() -> Option<D>) -> Value<'a, D> {
     match arg.kind() {
-        Kind::Int => Value::Int(arg.int()),
-        Kind::Uint => Value::Uint(arg.uint()),
-        Kind::Fixed => Value::Fixed(Fixed(arg.int())),
-        Kind::Str => Value::Str(Some(arg.bytes())),
-        Kind::NullStr => Value::Str(None),
-        Kind::Object => Value::Object(Some(arg.object())),
-        Kind::NullObject => Value::Object(None),
-        Kind::Dead => Value::Dead(arg.object()),
-        Kind::NewId => Value::NewId(arg.object()),
-        Kind::Bound => {
+        sys::INT => Value::Int(arg.int()),
+        sys::UINT => Value::Uint(arg.uint()),
+        sys::FIXED => Value::Fixed(Fixed(arg.int())),
+        sys::STRING => Value::Str(Some(arg.bytes())),
+        sys::NULL_STRING => Value::Str(None),
+        sys::OBJECT => Value::Object(Some(arg.object())),
+        sys::NULL_OBJECT => Value::Object(None),
+        sys::DEAD_OBJECT => Value::Dead(arg.object()),
+        sys::NEW => Value::NewId(arg.object()),
+        sys::BOUND => {
             Value::Bound { interface: arg.bytes(), version: arg.uint(), object: arg.object() }
         }
-        Kind::Array => Value::Array(arg.bytes()),
-        Kind::Fd => Value::Fd(next()),
+        sys::ARRAY => Value::Array(arg.bytes()),
+        sys::FD => Value::Fd(next()),
+        // No report has another kind.
+        other => unreachable!("an argument of kind {other}"),
     }
 }
 

@@ -122,22 +122,6 @@ impl Sender {
     }
 }
 
-/// The kinds of arguments of a report.
-pub enum Kind {
-    Int,
-    Uint,
-    Fixed,
-    Str,
-    NullStr,
-    Object,
-    NullObject,
-    NewId,
-    Array,
-    Fd,
-    Dead,
-    Bound,
-}
-
 /// `waywire_arg`.
 #[derive(Clone, Copy, Debug)]
 #[repr(C)]
@@ -397,25 +381,8 @@ pub struct ArgOf<'a>(&'a RawArg);
 
 impl<'a> ArgOf<'a> {
     #[inline]
-    pub fn kind(&self) -> Kind {
-        match self.0.kind {
-            INT => Kind::Int,
-            UINT => Kind::Uint,
-            FIXED => Kind::Fixed,
-            STRING => Kind::Str,
-            NULL_STRING => Kind::NullStr,
-            OBJECT => Kind::Object,
-            NULL_OBJECT => Kind::NullObject,
-            NEW => Kind::NewId,
-            ARRAY => Kind::Array,
-            FD => Kind::Fd,
-            DEAD_OBJECT => Kind::Dead,
-            BOUND => Kind::Bound,
-            // Of a message that was decoded.
-            NEW_BY_SERVER => Kind::NewId,
-            // No report has another kind.
-            other => unreachable!("an argument of kind {other}"),
-        }
+    pub fn kind(&self) -> u32 {
+        self.0.kind
     }
 
     pub fn int(&self) -> i32 {

@@ -161,6 +161,9 @@ extern "C" {
     ) -> u32;
 }
 
+/// A call of the library that binds a global.
+type Bind = unsafe extern "C" fn(RawClient, Object, u32, *const c_char, u32, *mut Object) -> u32;
+
 /// Why a message was not written.
 fn send_error(status: u32, place: usize) -> SendError {
     match status {
@@ -185,11 +188,6 @@ fn send_result(status: u32) -> Result<(), SendError> {
         OK => Ok(()),
         _ => Err(send_error(status, 0)),
     }
-}
-
-/// A name for C. No interface has a NUL in its name.
-fn interface_name(interface: &str) -> Result<CString, SendError> {
-    CString::new(interface).map_err(|_| SendError::BadBind)
 }
 
 /// Gives an end the first descriptors of a list, those that it has taken in.
@@ -614,19 +612,7 @@ impl End {
         interface: &str,
         version: u32,
     ) -> Result<Object, SendError> {
-        let interface = interface_name(interface)?;
-        let mut bound = Object::NONE;
-        let status = unsafe {
-            waywire_client_bind(
-                self.as_client(),
-                registry,
-                name,
-                interface.as_ptr(),
-                version,
-                &mut bound,
-            )
-        };
-        send_result(status).map(|()| bound)
+        self.bind_by(waywire_client_bind, registry, name, interface, version)
     }
 
     pub fn bind_unannounced(
@@ -636,19 +622,24 @@ impl End {
         interface: &str,
         version: u32,
     ) -> Result<Object, SendError> {
-        let interface = interface_name(interface)?;
-        let mut bound = Object::NONE;
-        let status = unsafe {
-            waywire_client_bind_unannounced(
-                self.as_client(),
-                registry,
-                name,
-                interface.as_ptr(),
-                version,
-                &mut bound,
-            )
-        };
-        send_result(status).map(|()| bound)
+        self.bind_by(waywire_client_bind_unannounced, registry, name, interface, version)
+    }
+
+    /// No interface has a NUL in its name.
+    fn bind_by(
+        &mut self,
+        call: Bind,
+        registry: Object,
+        name: u32,
+        interface: &str,
+        version: u32,
+    ) -> Result<Object, SendError> {
+        let interface = CString::new(interface).map_err(|_| SendError::BadBind)?;
+        let (mut bound, interface) = (Object::NONE, interface.as_ptr());
+        send_result(unsafe {
+            call(self.as_client(), registry, name, interface, version, &mut bound)
+        })
+        .map(|()| bound)
     }
 
     pub fn more_tables(&mut self, text: &[u8]) -> Result<(), TablesError> {
