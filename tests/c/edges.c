@@ -417,29 +417,14 @@ static void refused_by_server(const struct pair *pair)
 	MUST(is_state_of(wrong.end, before));
 }
 
-/* Each call that only one end has is made with the other end: while that has something to read and to write,
- * and after it has failed. The connection goes on as if no call had been made. */
+/* Each call that only one end has is made with the other end, also after that has failed. */
 static void other_end(void)
 {
 	struct pair pair;
-	waywire_report report;
 	size_t count;
 	open_pair(&pair, tables, &sizes);
-	waywire_object compositor = bound(&pair, "wl_compositor");
-	waywire_object surface = new_surface(&pair, compositor);
 	refused_by_client(&pair);
 	refused_by_server(&pair);
-	to_server(&pair);
-	refused_by_client(&pair);
-	MUST(!waywire_end_next(pair.server.end, &report) && report.kind == WAYWIRE_MESSAGE);
-	MUST(waywire_object_equal(report.args[0].object, surface));
-	MUST(!waywire_wl_surface_destroy(pair.client, waywire_wl_surface_of(surface)));
-	to_server(&pair);
-	MUST(!waywire_end_next(pair.server.end, &report) && report.kind == WAYWIRE_MESSAGE);
-	to_client(&pair);
-	refused_by_server(&pair);
-	MUST(!waywire_end_next(pair.client.end, &report) && report.kind == WAYWIRE_DELETED);
-	MUST(waywire_object_equal(report.target, surface));
 	MUST(!waywire_end_take_waiting_tokens(pair.client.end, NULL, 0, &count));
 	MUST(!waywire_end_take_waiting_tokens(pair.server.end, NULL, 0, &count));
 	refused_by_client(&pair);

@@ -62,19 +62,13 @@ static inline waywire_wl_registry get_registry(waywire_client client)
 }
 
 /* Both ends, and a registry that both have. */
-static inline void open_pair_over(struct pair *pair, const waywire_tables *of_client, const waywire_tables *of_server,
-	const waywire_sizes *sizes)
+static inline void open_pair(struct pair *pair, const waywire_tables *tables, const waywire_sizes *sizes)
 {
-	MUST(!waywire_client_new(of_client, sizes, &pair->client));
-	MUST(!waywire_server_new(of_server, sizes, &pair->server));
+	MUST(!waywire_client_new(tables, sizes, &pair->client));
+	MUST(!waywire_server_new(tables, sizes, &pair->server));
 	pair->display = waywire_wl_display_of(waywire_end_display(pair->client.end));
 	pair->registry = get_registry(pair->client);
 	server_reads(pair);
-}
-
-static inline void open_pair(struct pair *pair, const waywire_tables *tables, const waywire_sizes *sizes)
-{
-	open_pair_over(pair, tables, tables, sizes);
 }
 
 static inline void close_pair(struct pair *pair)
