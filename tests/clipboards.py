@@ -357,14 +357,10 @@ def client_pastes_at_sway(paste, checked):
     need("sway", "wl-copy", "wl-paste")
     with tempfile.TemporaryDirectory(prefix="sway-") as room:
         words, path, kept = compositors.sway(room, dict(os.environ))
-        with open(f"{room}/said", "w+b") as said:
-            process, listens = compositors.started(words, path, said, **kept)
+        with compositors.running(words, path, room, **kept) as process:
             board = Clipboard(path, process, {**os.environ, "XDG_RUNTIME_DIR": room,
                                               "WAYLAND_DISPLAY": path, "HOME": room})
             try:
-                if not listens:
-                    raise Skipped(f"sway has not come up: {end_of(said)}")
                 client_pastes(board, paste, checked)
             finally:
                 board.end_clients()
-                end(process)

@@ -1,14 +1,15 @@
 """Runs clients of the distribution at the example compositors in C and in Rust, which play a script of events; and
-starts sway without a screen."""
+starts sway and weston without a screen."""
 
+import contextlib
 import os
 import pwd
 import shutil
 import subprocess
 import tempfile
 
-from tests.checks import (COMES_UP, LONG, Failed, Skipped, comes_to_listen, has_client, has_come, has_waiting_client,
-                          need)
+from tests.checks import (COMES_UP, LONG, Failed, Skipped, comes_to_listen, end, has_client, has_come,
+                          has_waiting_client, need)
 
 # What is played at a window of weston-simple-shm, which draws until it is asked to close.
 DRAWN = "motion 20 20\nbutton 272\nkey 30\nclose\n"
@@ -30,6 +31,26 @@ def sway(room, env):
     env.pop("WAYLAND_DISPLAY", None)
     as_user = {"user": user.pw_uid, "group": user.pw_gid, "extra_groups": []} if user else {}
     return ["sway", "--config", f"{room}/config"], f"{room}/wayland-1", {"env": env, **as_user}
+
+
+def weston(room, env):
+    """How to start weston without a screen, in a folder of its own, as for sway."""
+    words = ["weston", "--backend=headless-backend.so", "--socket=weston", "--idle-time=0"]
+    return words, f"{room}/weston", {"env": {**env, "XDG_RUNTIME_DIR": room}}
+
+
+@contextlib.contextmanager
+def running(words, path, room, **kept):
+    """A compositor that listens at a path, and ends with the test. If it does not come up, the test is skipped."""
+    with open(f"{room}/{words[0]}.log", "w+b") as said:
+        process, listens = started(words, path, said, **kept)
+        try:
+            if not listens:
+                said.seek(0)
+                raise Skipped(f"{words[0]} has not come up within {COMES_UP} s: {said.read()[-300:]!r}")
+            yield process
+        finally:
+            end(process)
 
 
 def started(words, path, said, **kept):

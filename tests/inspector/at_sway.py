@@ -28,7 +28,7 @@ class Sway(real_clients.RealClients):
         self.room = self.enterContext(tempfile.TemporaryDirectory(prefix="sway-"))
         words, display, kept = compositors.sway(self.room, self.env)
         self.env["WAYLAND_DISPLAY"] = display
-        self.start_compositor(words, display, **kept)
+        self.start_compositor(words, display, kept)
 
     def quiet(self):
         """The environment of other clients: only the inspected client prints its messages."""

@@ -6,6 +6,7 @@ The environment is that of inspecting.py."""
 import signal
 import time
 
+from tests import compositors
 from tests.checks import need
 from tests.inspector import real_clients
 from tests.inspector.inspecting import GONE, LONG, main
@@ -18,8 +19,7 @@ class Weston(real_clients.RealClients):
         super().setUp()
         need("weston", "weston-simple-shm")
         self.env["WAYLAND_DISPLAY"] = "weston"
-        words = ["weston", "--backend=headless-backend.so", "--socket=weston", "--idle-time=0"]
-        self.weston = self.start_compositor(words, f"{self.folder}/weston", self.env)
+        self.weston = self.start_compositor(*compositors.weston(self.folder, self.env))
 
     def test_simple_shm(self):
         self.inspected("weston-simple-shm")

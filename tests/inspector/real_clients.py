@@ -1,13 +1,11 @@
 """Real clients, with waywire-inspect between them and their compositor: the tool prints the messages that the
 clients print."""
 import collections
-import contextlib
 import re
 import signal
-import socket
-import subprocess
 import time
 
+from tests import compositors
 from tests.checks import COMES_UP, end, has_come, joined_tables, need
 from tests.inspector.inspecting import LONG, Inspected
 from tools.waywire import table_text
@@ -36,23 +34,9 @@ class RealClients(Inspected):
                        r"\.(\w+|\[event \d+\])\((?:(-?\d+)[.,)])?")
     LINE = re.compile(r"(->|<-) (\w+)@(\d+)\.(\w+)\((?:(-?\d+)[., )])?")
 
-    def start_compositor(self, words, path, env, **kept):
-        """Starts a compositor, which is ended with the test, and waits until a client can connect
-        to it at a path."""
-        log = self.enterContext(open(f"{self.folder}/{words[0]}.log", "wb"))
-        started = subprocess.Popen(words, env=env, stdout=log, stderr=log, **kept)
-        self.addCleanup(self.end_all, [started])
-
-        def takes_clients():
-            with socket.socket(socket.AF_UNIX) as tried, contextlib.suppress(OSError):
-                tried.connect(path)
-                return True
-
-        has_come(lambda: started.poll() is not None or takes_clients())
-        if started.poll() is not None or not takes_clients():
-            said = self.read(log.name)[-300:]
-            self.skipTest(f"{words[0]} has not come up within {COMES_UP} s: {said!r}")
-        return started
+    def start_compositor(self, words, path, kept):
+        """Starts a compositor, which is ended with the test."""
+        return self.enterContext(compositors.running(words, path, self.folder, **kept))
 
     def end_all(self, programs):
         for it in programs:

@@ -217,9 +217,8 @@ def weston():
     with tempfile.TemporaryDirectory(prefix="weston-") as room:
         os.chmod(room, 0o700)
         env = environment(room)
-        words = ["weston", "--backend=headless-backend.so", "--socket=weston", "--idle-time=0"]
-        own = {**env, "XDG_RUNTIME_DIR": room}
-        desktop = come_up(Desktop, "weston", room, words, f"{room}/weston", env, env=own)
+        words, path, kept = compositors.weston(room, env)
+        desktop = come_up(Desktop, "weston", room, words, path, env, **kept)
         try:
             yield desktop
         finally:

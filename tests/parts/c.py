@@ -10,7 +10,6 @@ is 0 if nothing failed."""
 import glob
 import os
 import re
-import signal
 import subprocess
 import sys
 import tempfile
@@ -412,22 +411,9 @@ def compositor(_program):
     """The example client at a compositor of the distribution, without a screen."""
     need("weston", "make")
     with tempfile.TemporaryDirectory() as folder:
-        os.chmod(folder, 0o700)
-        env = {**os.environ, "XDG_RUNTIME_DIR": folder}
-        path = os.path.join(folder, "wayland-test")
-        words = ["weston", "--backend=headless-backend.so", "--socket=wayland-test", "--idle-time=0"]
-        try:
-            weston = start_and_wait(words, path, env=env)
-        except Failed as why:
-            raise Skipped(f"it has not come up: {why}") from None
-        try:
-            run([example("client")], env={**env, "WAYLAND_DISPLAY": "wayland-test"})
-        finally:
-            weston.send_signal(signal.SIGTERM)
-            try:
-                weston.communicate(timeout=20)
-            except subprocess.TimeoutExpired:
-                weston.kill()
+        words, path, kept = compositors.weston(folder, os.environ)
+        with compositors.running(words, path, folder, **kept):
+            run([example("client")], env={**kept["env"], "WAYLAND_DISPLAY": path})
 
 
 def client_of_weston_at_our_compositor(_program):

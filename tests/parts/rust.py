@@ -256,14 +256,9 @@ def at_a_compositor_of_the_distribution():
     """The window at weston, and then through the proxy; a client of libwayland through the proxy."""
     need("weston", "weston-simple-shm")
     with tempfile.TemporaryDirectory() as folder:
-        outer = {"XDG_RUNTIME_DIR": folder, "WAYLAND_DISPLAY": "wayland-outer"}
-        words = ["weston", "--backend=headless-backend.so", "--socket=wayland-outer", "--idle-time=0"]
-        try:
-            weston = Running(words, os.path.join(folder, "wayland-outer"), XDG_RUNTIME_DIR=folder)
-        except Failed as why:
-            raise Skipped(f"it has not come up: {why}") from None
-        inner = {**outer, "WAYLAND_DISPLAY": "inner"}
-        try:
+        words, display, kept = compositors.weston(folder, environment())
+        outer, inner = ({"XDG_RUNTIME_DIR": folder, "WAYLAND_DISPLAY": it} for it in (display, "inner"))
+        with compositors.running(words, display, folder, **kept):
             run([example("window")], **outer)
             for client in (lambda _: run([example("window")], **inner),
                            lambda proxy: draws(folder, "inner", proxy)):
@@ -275,8 +270,6 @@ def at_a_compositor_of_the_distribution():
                         raise Failed(f"the proxy says {proxy.output()[-300:]!r}")
                 finally:
                     proxy.stop()
-        finally:
-            weston.stop()
 
 
 def pasted(room, display, tables):
@@ -309,20 +302,15 @@ def clipboard_through_the_proxy():
     """One client copies and another pastes, each through a proxy."""
     need("sway", "wl-copy", "wl-paste")
     tables = os.path.join(TABLES, "data-control.tables")
-    with tempfile.TemporaryDirectory(prefix="sway-") as room, tempfile.TemporaryFile() as said:
+    with tempfile.TemporaryDirectory(prefix="sway-") as room:
         words, display, kept = compositors.sway(room, environment())
-        sway, listens = compositors.started(words, display, said, **kept)
-        try:
-            if not listens:
-                raise Skipped("sway has not come up")
+        with compositors.running(words, display, room, **kept):
             path = os.path.join(room, "copies")
             proxy = Running([example("proxy"), path, tables], path, WAYLAND_DISPLAY=display)
             try:
                 copies(proxy, path, lambda: pasted(room, display, tables))
             finally:
                 proxy.stop()
-        finally:
-            end(sway)
 
 
 def word(number):
