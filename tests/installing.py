@@ -21,13 +21,10 @@ def installed(program):
     need("make", "pkg-config")
     with tempfile.TemporaryDirectory() as prefix:
         libraries = os.path.join(prefix, "lib", "here")
-        built = [f"program={program}"] if program else []
-        run(["make", "-s", "install", f"PREFIX={prefix}", f"LIBDIR={libraries}", *built])
+        run(["make", "-s", "install", f"PREFIX={prefix}", f"LIBDIR={libraries}", *with_program(program)])
         env = {**os.environ, "PKG_CONFIG_PATH": os.path.join(libraries, "pkgconfig")}
-        words = run(["pkg-config", "--cflags", "--libs", "waywire"], env=env).split()
         for name in ("values", "connections"):
-            run(["cc", f"tests/c/{name}.c", "-Itests/c", *words, "-o", f"{prefix}/{name}"])
-            run([f"{prefix}/{name}"], env={**os.environ, "LD_LIBRARY_PATH": libraries})
+            builds_a_program(prefix, {**env, "LD_LIBRARY_PATH": libraries}, name)
         version = run(["pkg-config", "--modversion", "waywire"], env=env).strip()
         is_proved = run(["pkg-config", "--variable=proved", "waywire"], env=env).strip()
         if is_proved != ("no" if not_proved() else "yes"):
@@ -43,12 +40,42 @@ def installed(program):
             found_by_cmake(prefix, libraries, version)
         has_what_the_header_names(prefix)
         has_its_soname(libraries, version)
-        for tool in ("tables-from-xml", "stubs-from-xml"):
-            run([f"{prefix}/bin/waywire-{tool}", f"{prefix}/share/waywire/protocols/core/core.xml"])
+        tools_read_the_core(prefix)
         if program and os.path.exists(program):
             if run([program, "--version"]) != f"waywire {version}\n":
                 raise Failed(f"the program has another version than {version}")
             is_a_manual_page(os.path.join(prefix, "share", "man", "man1", "waywire.1"))
+
+
+def builds_a_program(folder, env, name="values"):
+    """A program of tests/c is built with the library that pkg-config finds, and runs. Returns what pkg-config says."""
+    words = run(["pkg-config", "--cflags", "--libs", "waywire"], env=env).split()
+    run(["cc", f"tests/c/{name}.c", "-Itests/c", *words, "-o", f"{folder}/{name}"], env=env)
+    run([f"{folder}/{name}"], env=env)
+    return words
+
+
+def tools_read_the_core(prefix, **kept):
+    """The installed tools for XML read the installed file of the core."""
+    for tool in ("tables-from-xml", "stubs-from-xml"):
+        run([f"{prefix}/bin/waywire-{tool}", f"{prefix}/share/waywire/protocols/core/core.xml"], **kept)
+
+
+def made_twice(goal, program):
+    """Makes a package twice, which must be the same each time. Returns its path."""
+    made = []
+    for _ in range(2):
+        path = os.path.join(TOP, run(["make", "-s", goal, AS_IT_IS, *with_program(program)]).split()[-1])
+        with open(path, "rb") as file:
+            made.append(file.read())
+    if made[0] != made[1]:
+        raise Failed("made twice, the package has other bytes")
+    return path
+
+
+def with_program(program):
+    """The word for make that installs or packs a built program, if there is one."""
+    return [f"program={program}"] if program else []
 
 
 def is_a_manual_page(path):
@@ -191,9 +218,7 @@ def compiled_without_a_proof(_program):
             raise Failed(f"it is installed without UNPROVED=1, and says {said!r}")
         run([*installing, "UNPROVED=1"], cwd=copy)
         env = {**os.environ, "PKG_CONFIG_PATH": f"{room}/lib/pkgconfig", "LD_LIBRARY_PATH": f"{room}/lib"}
-        words = run(["pkg-config", "--cflags", "--libs", "waywire"], env=env).split()
-        run(["cc", "tests/c/values.c", "-Itests/c", *words, "-o", f"{room}/values"])
-        run([f"{room}/values"], env=env)
+        builds_a_program(room, env)
         said = run([f"{room}/bin/waywire-inspect", "--version"])
         said += run(["pkg-config", "--variable=proved", "waywire"], env=env)
         if said != f"waywire-inspect {version_of_the_library()} (not proved)\nno\n":
@@ -226,14 +251,7 @@ waywire-run true
 def debian_package(program):
     """The Debian package has its fields, is the same each time, and works where it is unpacked."""
     need("make", "dpkg-deb", "pkg-config")
-    built = [f"program={program}"] if program else []
-    made = []
-    for _ in range(2):
-        path = os.path.join(TOP, run(["make", "-s", "deb", AS_IT_IS, *built]).split()[-1])
-        with open(path, "rb") as file:
-            made.append(file.read())
-    if made[0] != made[1]:
-        raise Failed("made twice, the package has other bytes")
+    path = made_twice("deb", program)
     has_its_fields(path)
     with tempfile.TemporaryDirectory() as root:
         run(["dpkg-deb", "-x", path, root])
@@ -259,16 +277,13 @@ def serves_unpacked(root):
     usr = os.path.join(root, "usr")
     config = glob.glob(f"{usr}/lib/**/pkgconfig", recursive=True)[0]
     env = {**os.environ, "PKG_CONFIG_PATH": config, "LD_LIBRARY_PATH": os.path.dirname(config)}
-    words = run(["pkg-config", "--cflags", "--libs", "waywire"], env=env).split()
+    words = builds_a_program(root, env)
     if f"-I{usr}/include" not in [os.path.normpath(it) for it in words]:
         raise Failed(f"pkg-config says {words}")
-    run(["cc", "tests/c/values.c", "-Itests/c", *words, "-o", f"{root}/values"])
-    run([f"{root}/values"], env=env)
     tells_its_version(f"{usr}/bin/waywire-inspect")
     carries_the_proof(f"{usr}/share")
     knows_installed_tables(f"{usr}/bin/waywire-inspect", root)
-    for tool in ("tables-from-xml", "stubs-from-xml"):
-        run([f"{usr}/bin/waywire-{tool}", f"{usr}/share/waywire/protocols/core/core.xml"])
+    tools_read_the_core(usr)
     run([f"{usr}/bin/waywire-run", "true"])
     for name in ("share/doc/waywire/copyright", "share/doc/waywire/LICENSE", "share/doc/waywire/GUIDE.md",
                  "share/waywire/rust/Cargo.toml", "share/doc/waywire/examples/client.c",
@@ -282,8 +297,7 @@ def debian_package_at_a_clean_debian(program):
     need("make", "dpkg-deb", "debootstrap")
     if os.geteuid():
         raise Skipped("only root can make a Debian")
-    built = [f"program={program}"] if program else []
-    path = os.path.join(TOP, run(["make", "-s", "deb", AS_IT_IS, *built]).split()[-1])
+    path = os.path.join(TOP, run(["make", "-s", "deb", AS_IT_IS, *with_program(program)]).split()[-1])
     with tempfile.TemporaryDirectory() as root:
         try:
             run(["debootstrap", "--variant=minbase", "--include=gcc,libc6-dev,pkg-config,python3",
@@ -317,35 +331,20 @@ def without_toolchain(top):
             "LD_LIBRARY_PATH": os.path.join(top, "lib")}
 
 
-def made_package(program):
-    """Makes the package twice, and returns its path."""
-    made = []
-    for _ in range(2):
-        archive = os.path.join(TOP, run(["make", "-s", "dist", AS_IT_IS, f"program={program}"]).split()[-1])
-        with open(archive, "rb") as file:
-            made.append(file.read())
-    if made[0] != made[1]:
-        raise Failed("made twice, the package has other bytes")
-    return archive
-
-
 def package(program):
     """The package is the same each time, and works without the toolchain: a program is built with its library, and its
     program and its tools run. If xdg-shell is installed, the examples are built and run too."""
     need("make", "pkg-config", "tar")
     if not program or not os.path.exists(program):
         raise Skipped("the program is not built")
-    archive = made_package(program)
+    archive = made_twice("dist", program)
     with tempfile.TemporaryDirectory() as folder:
         run(["tar", "-xzf", archive, "-C", folder])
         top = os.path.join(folder, *os.listdir(folder))
         env = without_toolchain(top)
-        words = run(["pkg-config", "--cflags", "--libs", "waywire"], env=env).split()
-        run(["cc", "tests/c/values.c", "-Itests/c", *words, "-o", f"{folder}/values"], env=env)
-        run([f"{folder}/values"], env=env)
+        builds_a_program(folder, env)
         run([f"{top}/bin/waywire", "demo"], env=env)
-        for tool in ("tables-from-xml", "stubs-from-xml"):
-            run([f"{top}/bin/waywire-{tool}", f"{top}/share/waywire/protocols/core/core.xml"], env=env)
+        tools_read_the_core(top, env=env)
         run([f"{top}/bin/waywire-run", "true"], env=env)
         carries_the_proof(f"{top}/share")
         need_protocols()
