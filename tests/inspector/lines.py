@@ -143,11 +143,6 @@ class Before(Talking):
                                                  "  > message 4: -> wl_display@1.sync(new id wl_callback@5)"))
         self.assertEqual([it for it in lines if "<-" in it], [])
 
-    def test_although_it_is_not_asked_for(self):
-        said = (*BOUND, message(3, 0, 4), (error(4, 1, "no"),))
-        self.assertEqual(self.lines(*said, status=1, options=["--only", "wl_output"])[1:-1], [
-            "the last messages about wl_surface@4:", "  > message 3: -> wl_compositor@3.create_surface(new id wl_surface@4)"])
-
 
 if __name__ == "__main__":
     main()

@@ -254,17 +254,6 @@ def lines_of_another_client():
         equal(said, "waywire-picture: there is no client 3; there are [1, 2]\n" if status else "", f"client {client}")
 
 
-def manual_page():
-    """It has no error, and has each option of the tool."""
-    page = checks.read("tools/waywire-picture.1.in").replace("\\-", "-")
-    said = checks.run([sys.executable, TOOL, "--help"])
-    for option in set(re.findall(r"--?[a-z]+", said)) - {"-h", "--help"}:
-        holds(option in page, f"the manual page lacks {option}")
-    checks.need("groff")
-    said = checks.run(["groff", "-man", "-ww", "-z", f"{TOOLS}/waywire-picture.1.in"], with_error=True)
-    equal(said, "", "groff")
-
-
 # ---- the page
 
 
@@ -367,15 +356,19 @@ def amber_is_what_was_late():
 
 
 def words_of_findings():
-    """Each finding consists of whole sentences."""
+    """Each finding consists of whole sentences. That of an error has the last messages about its object, with their
+    numbers; and the name of its code."""
     for name in examples():
         for words in opened(name).run("app.session.findings.filter((it) => it.level !== 'note').map((it) => it.words)"):
             holds(re.search("[.”]$", words) and ";" not in words, f"{name}: {words}")
     page = browser()
-    page.open(page_of_lines("ended", picture_sessions.small(error="gone")))
-    equal(page.run("app.session.findings.map((it) => it.words)"),
-          ["The compositor ended the session with error 3 for wl_surface@4. It says: “gone”. Before it: "
-           "create_surface (3), commit (6), commit (7), commit (8)."], "an error")
+    lines = picture_sessions.small(error="gone")
+    for name in ("", " bad_size"):
+        lines[-2]["names"] = name.split()
+        page.open(page_of_lines("ended", lines))
+        equal(page.run("app.session.findings.map((it) => it.words)"),
+              [f"The compositor ended the session with error 3{name} for wl_surface@4. It says: “gone”. Before it: "
+               "create_surface (3), commit (6), commit (7), commit (8)."], "an error")
     page.open(page_of_lines("left", picture_sessions.left_objects()))
     equal(page.run("app.session.findings.map((it) => it.words)"),
           ["The client never destroyed 20 of 20 wl_region objects.", "The compositor made 4 wl_data_offer objects. "
@@ -619,18 +612,6 @@ def names_of_values():
         rows = page.run("[...document.querySelectorAll('#told .row')].map((it) => it.textContent)")
         holds(row in rows, f"{row} is not in {rows}")
         holds(page.run(f"app.session.line(app.session.count + {place})").endswith(printed), printed)
-    clean(page)
-
-
-def what_led_to_an_error():
-    """The last messages about its object, with their numbers; and the name of its code."""
-    lines = picture_sessions.small(error="gone")
-    lines[-2]["names"] = ["bad_size"]
-    page = browser()
-    page.open(page_of_lines("led", lines))
-    equal(page.run("app.session.findings[0].words"), "The compositor ended the session with error 3 bad_size for "
-          "wl_surface@4. It says: “gone”. Before it: create_surface (3), commit (6), commit (7), commit (8).",
-          "the words")
     clean(page)
 
 
@@ -1013,12 +994,12 @@ def hundred_thousand_messages():
 
 TESTS = (files_are_short, files_are_javascript, same_page_twice, bad_line_is_named, no_recording,
          times_that_are_none, inspector_that_fails, no_inspector, page_that_cannot_be_written,
-         lines_of_another_client, manual_page, *picture_scripts.TESTS, lists_are_traces, bytes_of_messages,
+         lines_of_another_client, *picture_scripts.TESTS, lists_are_traces, bytes_of_messages,
          letters_of_all_scripts, untroubled_sessions, late_frame, amber_is_what_was_late, words_of_findings,
          holders_of_selections, holders_in_recordings, holders_by_a_data_control_and_none, hang_is_seen,
          end_is_not_said,
          answer_after_seconds, questions_without_an_answer, part_of_a_session, waits_are_found, lives_of_objects,
-         broken_session, broken_message_without_parts, names_of_values, what_led_to_an_error, who_the_clients_are,
+         broken_session, broken_message_without_parts, names_of_values, who_the_clients_are,
          words_of_filters, filter_takes_what_is_shown,
          selection_in_the_hash, keys_lead_to_messages, keys_change_the_picture, keys_open_parts_of_the_page, pointer,
          focus_in_a_tab, effects_of_a_commit, numbers_of_the_list,

@@ -274,12 +274,3 @@ class Run(unittest.TestCase):
         self.assertTrue(checks.make("out/c/waywire-run"))
         for path in (f"{OURS}/waywire-run", f"{TOP}/out/c/waywire-run"):
             self.assertEqual(run([path, "--version"]), f"waywire-run {numbered}\n")
-
-    def test_manual_page(self):
-        """It has no error, and each option of the tool."""
-        page = read("c/libwayland/waywire-run.1.in").replace("\\-", "-")
-        for option in re.findall(r"(?m)^  (--[a-z]+)", run([f"{OURS}/waywire-run", "--help"])):
-            self.assertIn(option, page)
-        if checks.can("errors of waywire-run.1", "groff"):
-            said = run(["groff", "-man", "-ww", "-z", f"{OURS}/waywire-run.1.in"], with_error=True)
-            self.assertEqual(said, "")

@@ -192,6 +192,13 @@ class ManPage(unittest.TestCase):
             listed = re.findall(r"(?m)^\.TP\n(.*)", page[page.index(".SH OPTIONS") : page.index(".SH EXIT STATUS")])
             self.assertEqual(sorted(it for line in listed for it in re.findall(r"--[a-z-]+", line)), sorted(options))
 
+    def test_other_tools(self):
+        """Their pages have each option. `./test c` looks for errors in all pages."""
+        for tool in ("tools/waywire-picture", "c/libwayland/waywire-run"):
+            page = read(f"{tool}.1.in").replace("\\-", "-")
+            for option in {*re.findall(r"--[a-z]+", run([f"{TOP}/{tool}", "--help"]))} - {"--help"}:
+                self.assertIn(option, page, tool)
+
     def test_statuses(self):
         """The table of docs/FORMATS.md names each exit status, in order, and when it comes."""
         found = man_page.statuses()

@@ -207,27 +207,6 @@ esac
             self.assertEqual(self.made(room)[0], ["waywire_c"])
             self.assertEqual(self.how(room), "kept rattle-kit-1")
 
-    def test_taken_from_a_package(self):
-        """It needs no toolchain. After a change, the library is proved, and the file is named."""
-        with self.room() as room:
-            self.builds_a_library(room)
-            pack = ("python3", "-m", "scripts.proved_archive", "pack", f"{room}/packed")
-            self.assertEqual(self.proves(room, *pack), ([], ""))
-            shutil.rmtree(f"{room}/crates/waywire_c/out")
-            places, bare = [f"{room}/none", f"{room}/packed"], {"PATH": "/usr/bin:/bin"}
-            proved, said = self.made(room, places, **bare)
-            self.assertEqual((proved, self.how(room)), ([], "taken rattle-kit-1"))
-            self.assertIn(f"{room}/packed has an archive that was proved from these sources", said)
-            self.assertEqual(self.made(room, places, **bare), ([], ""))
-            self.assertFalse(self.proves_for_a_package(room))
-            self.changes(room, "crates/wl_wire/src/lib.rt")
-            ran = self.built(room, "make", "-s", ARCHIVE, f"proved_places={room}/packed", **bare)[0]
-            self.assertEqual(ran.returncode, 2)
-            self.assertIn("with another crates/wl_wire/src/lib.rt\n", ran.stderr)
-            self.assertIn("rt is not on this machine", ran.stderr)
-            self.assertEqual(self.made(room, places)[0], ["waywire_c"])
-            self.assertEqual(self.how(room), "whole rattle-kit-1")
-
     def test_names_are_not_taken(self):
         with self.room() as room:
             library = self.made(room, CI="true")[0]
@@ -330,37 +309,6 @@ sys.exit(status)
             self.built(room, *self.GATE, FAILS="wl_objects")
             self.proves(room, *self.GATE)
             self.assertEqual(self.made(room)[0], ["waywire_c"])
-
-    def test_libraries_that_are_not_taken(self):
-        """Those of another command, and those of two runs."""
-        def stamp(room):
-            os.rename(f"{room}/stamp", f"{room}/crates/wl_wire/out/rlib/stamp")
-
-        def swap(room):
-            shutil.move(f"{room}/stamp", f"{room}/crates/wl_wire/out/rlib/wl_wire.rlib/format")
-
-        def change_of_a_proof(room):
-            os.utime(f"{room}/crates/wl_wire/proofs")
-
-        for change in (stamp, swap, change_of_a_proof):
-            with self.room() as room, self.subTest(change.__name__):
-                self.proves(room, *self.GATE)
-                with open(f"{room}/stamp", "w", encoding="utf-8") as file:
-                    file.write("rattle-build a\ncrate wl_wire\nsum another\n")
-                change(room)
-                before = self.formats(room)
-                self.builds_a_library(room)
-                self.assertEqual(self.formats(room), before)
-
-    def test_another_compiler(self):
-        with self.room() as room:
-            self.proves(room, *self.GATE)
-            os.makedirs(f"{room}/kit/rlibs/std.rlib")
-            for compiler, proved in (("b", True), ("a", False)):
-                with open(f"{room}/kit/rlibs/std.rlib/format", "w", encoding="utf-8") as file:
-                    file.write(f"rattle-build {compiler}\ncrate std\n")
-                self.changes(room, "crates/waywire_c/src/lib.rt")
-                self.assertEqual("wl_wire" in self.made(room)[0], proved, compiler)
 
     def test_a_proof_that_fails(self):
         self.stops_where_a_proof_fails()
