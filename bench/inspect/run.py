@@ -13,6 +13,7 @@ import subprocess
 import sys
 import tempfile
 
+from bench.counting import build_c
 from scripts import usage
 from scripts.crates import TOP
 from tests.checks import comes_to_listen
@@ -22,12 +23,6 @@ CLIENT = os.path.join(OUT, "requests")
 INSPECT = os.path.join(OUT, "waywire-inspect")
 COUNT = 100_000
 RUNS = 7
-
-
-def built():
-    words = ["pkg-config", "--cflags", "--libs", "wayland-client"]
-    flags = subprocess.run(words, check=True, capture_output=True, text=True).stdout.split()
-    subprocess.run(["cc", "-O2", f"{TOP}/bench/inspect/requests.c", "-o", CLIENT, *flags], check=True)
 
 
 def started(folder, env):
@@ -50,7 +45,8 @@ def seconds(words, output, env):
 
 def main():
     relays = usage.words(__doc__)
-    built()
+    if not build_c(f"{TOP}/bench/inspect/requests.c", CLIENT, packages=("wayland-client",)):
+        sys.exit("libwayland-dev is not installed")
     with tempfile.TemporaryDirectory() as folder:
         env = {**os.environ, "XDG_RUNTIME_DIR": folder, "WAYLAND_DISPLAY": "outer"}
         file, recording = os.path.join(folder, "lines"), os.path.join(folder, "recording")

@@ -8,8 +8,7 @@ import os
 import re
 import struct
 
-from tests import checks
-from tests.inspector.inspecting import INSPECT, Inspected, done, main, message, sync
+from tests.inspector.inspecting import done, main, message, sync
 from tests.inspector.words import LAWFUL, REGISTRY, Talking, announced, bind, error, raw, text
 
 # A client that has bound these, from wl_compositor@3 on, and has made wl_surface@10 and wl_pointer@11.
@@ -196,16 +195,18 @@ class Ending(Talking):
         self.assertEqual(again[-2]["type"], "unanswered")
 
     def test_it_is_cut(self):
-        """The last line says when it was cut. The rest is missing, which is reported when the recording is
-        read."""
+        """It ends with the last whole piece within the limit, which is reported. Everything is still passed on. The
+        last line says when it was cut. The rest is missing, which is reported when the recording is read."""
         self.start("--no-tables", "--record", self.recorded, "--output", "/dev/null")
         client, compositor = self.client()
         part = sync(2) * 5000
         for _ in range(150):
             self.passes(client, compositor, part)
         _, error_said = self.finish(status=1)
-        self.assertIn("16777216 is the most that is read; the recording ends there", error_said)
-        self.assertLessEqual(os.path.getsize(self.recorded), 16777216)
+        size = os.path.getsize(self.recorded)
+        self.assertEqual(error_said, f"waywire-inspect: {self.recorded} has {size} bytes, and 16777216 is the most that "
+                                     "is read; the recording ends there\n")
+        self.assertEqual((size <= 16777216, size > 16777216 - 140000), (True, True))
         cut = re.fullmatch(r"# cut (\d+\.\d{6})", self.last_line())
         self.assertTrue(cut, self.last_line())
         said, told = self.ran("--read", self.recorded, "--json", status=1)
@@ -323,28 +324,6 @@ class LastPart(Talking):
     def test_words(self):
         self.assertEqual(self.ran("--record-last", "true", status=125)[1],
                          "waywire-inspect: --record-last needs --record\n")
-
-
-class Costs(Inspected):
-    """The cost of a session with many questions."""
-
-    def instructions(self, count):
-        """The instructions for reading this many syncs, the last of which is answered first."""
-        checks.need("valgrind")
-        path = f"{self.folder}/{count}.rec"
-        with open(path, "w", encoding="ascii") as file:
-            for first in range(0, count, 1000):
-                file.write(f"> {b''.join(sync(2 + it) for it in range(first, first + 1000)).hex()}\n")
-            for first in range(count, 0, -1000):
-                file.write(f"< {b''.join(message(1 + it, 0, 1) for it in range(first, first - 1000, -1)).hex()}\n")
-        tool = ["valgrind", "--tool=callgrind", "--callgrind-out-file=/dev/null", *INSPECT]
-        said = checks.run([*tool, "--no-tables", "--stats", "--read", path, "--output", "/dev/null"], with_error=True)
-        return int(re.search(r"Collected : (\d+)", said)[1])
-
-    def test_they_grow_with_the_messages(self):
-        few, none, many = self.instructions(2000), self.instructions(1000), self.instructions(4000)
-        self.assertLess((many - none) / (few - none), 3.3)
-        self.assertLess(many / few, 2.3)
 
 
 if __name__ == "__main__":

@@ -552,21 +552,6 @@ class Recording(Talking):
         self.ran("--record", self.recorded + ".new", "true", status=125)
         self.assertEqual(sorted(os.listdir(self.folder)), ["a.rec", "display"])
 
-    def test_the_longest(self):
-        """It ends with the last whole piece within the limit, which is reported. Everything is still passed on."""
-        self.start("--no-tables", "--record", self.recorded)
-        client, compositor = self.client()
-        part = bytes(2**18)
-        for _ in range(40):
-            self.passes(client, compositor, part)
-        _, said = self.finish(status=1)
-        size = os.path.getsize(self.recorded)
-        self.assertEqual(said, f"waywire-inspect: {self.recorded} has {size} bytes, and 16777216 is the most that "
-                               "is read; the recording ends there\n")
-        self.assertEqual((size <= 16777216, size > 16777216 - 140000), (True, True))
-        with open(self.recorded, "rb") as file:
-            self.assertEqual(file.read()[-1:], b"\n")
-
 
 class BehindAnError(Talking):
     """The bytes left after wl_display.error are those that the program counts."""

@@ -10,7 +10,7 @@ from scripts import usage
 from tests import checks
 
 SUBJECTS = ("gate", "mutants", "sources", "pages", "tables", "malformed", "texts", "sessions",
-            "server_objects", "building", "compiling", "proving", "profiles", "toolchains", "archives",
+            "building", "compiling", "proving", "profiles", "toolchains", "archives",
             "libwayland")
 
 

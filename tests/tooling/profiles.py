@@ -9,6 +9,7 @@ import unittest
 import unittest.mock
 
 from scripts import crates, profile_proof, toolchain
+from tests.tooling.toolchains import write
 
 CRATES = """# library: what others stand on
 
@@ -91,10 +92,7 @@ class ProfileProof(unittest.TestCase):
             files = {"clone/crates.txt": CRATES, "clone/HANDLES": "", "bin/rt": RT, "kit/bin/rattle": RATTLE}
             files |= {f"clone/crates/{it}/src/lib.rt": "" for it in ("low", "middle", "top")}
             for path, text in files.items():
-                os.makedirs(os.path.dirname(f"{room}/{path}"), exist_ok=True)
-                with open(f"{room}/{path}", "w", encoding="utf-8") as file:
-                    file.write(text)
-                os.chmod(f"{room}/{path}", 0o755)
+                write(f"{room}/{path}", text, 0o755)
             path = f"{room}/bin:{os.environ['PATH']}"
             env = {"PATH": path, "ROOM": room, "FAILS": fails}
             clone = toolchain.Clone(f"{room}/clone")

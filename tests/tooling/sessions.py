@@ -6,11 +6,15 @@ import subprocess
 import sys
 import tempfile
 import unittest
+from unittest import mock
 
 from tests import reference
 from tests.checks import TOP, joined_tables, read
 from tests.parts import compare
 from tools.waywire import table_text
+
+
+FIRST = reference.FIRST_OF_SERVER
 
 
 class Sessions(unittest.TestCase):
@@ -35,11 +39,11 @@ class Sessions(unittest.TestCase):
 
     def test_recordings(self):
         core = table_text.core_tables()
-        tables, first = table_text.read_more(core, joined_tables()), reference.FIRST_OF_SERVER
+        tables = table_text.read_more(core, joined_tables())
         for name, (verdict, objects, ids, shown) in self.RECORDED.items():
             lines, found = reference.judged(tables, read(f"examples/{name}.rec").encode())
             made = [int(re.search("@([0-9]+)\\)$", it)[1]) for it in lines if re.match("<- .*new id ", it)]
-            self.assertEqual((found, len(made), {*made}), (verdict, objects, {*range(first, first + ids)}), name)
+            self.assertEqual((found, len(made), {*made}), (verdict, objects, {*range(FIRST, FIRST + ids)}), name)
             self.assertLessEqual({*shown}, {*lines}, name)
         _, verdict = reference.judged(core, read("examples/gtk_dialog.rec").encode())
         self.assertEqual(verdict, "broken: > message 5 at byte 108: F9 bad bind")
@@ -61,6 +65,39 @@ class Sessions(unittest.TestCase):
         self.assertEqual(verdict, "lawful: 2 requests, 1 events, 0 and 0 bytes left")
         _, verdict = reference.judged(core, recording)
         self.assertEqual(verdict, "broken: > message 2 at byte 12: F9 bad bind")
+
+
+class Sorts(reference.Session):
+    """A session that says which sorts of messages with objects of the server it was given."""
+
+    seen = set()
+
+    def fresh_of_server(self, number, place):
+        there, following = self.held.get(number), FIRST + self.used_by_server
+        if there is None or number < FIRST:
+            sort = "the next" if number == following else "below" if number < FIRST else "past the next"
+        elif there.is_ending:
+            sort = "of an ended one"
+        else:
+            sort = "of an open one" if there.is_ended_by_request() else "of one that none ends"
+        self.seen.add(sort)
+        super().fresh_of_server(number, place)
+
+    def fresh(self, number, place):
+        if number >= FIRST:
+            self.seen.add("in a request")
+        super().fresh(number, place)
+
+    def follow(self, sign, target, to, message, made, values):
+        is_of_server = target >= FIRST
+        if made is not None and made[0] >= FIRST:
+            self.seen |= {"by an ended maker"} if to.is_ending else set()
+            self.seen |= {"by one of its own"} if is_of_server else set()
+        elif is_of_server:
+            self.seen.add("an event for an ended one" if to.is_ending else f"{sign} for an open one")
+        if (sign, to.interface.name, message.name) == ("<", "wl_display", "delete_id") and values[0] >= FIRST:
+            self.seen.add("its delete_id")
+        super().follow(sign, target, to, message, made, values)
 
 
 class Compare(unittest.TestCase):
@@ -126,3 +163,15 @@ sys.exit(is_broken)
         self.assertEqual(faults, {"", *(f"F{number}" for number in range(1, 10))})
         self.assertEqual(rules, {"line", *(f"V{number}" for number in (*range(1, 10), 11))})
         self.assertGreater(len(messages), 200)
+
+    def test_all_sorts_of_objects_of_the_server(self):
+        wanted = {
+            "the next", "below", "past the next", "of an ended one", "of an open one", "of one that none ends",
+            "in a request", "by an ended maker", "by one of its own", "its delete_id",
+            "> for an open one", "< for an open one", "an event for an ended one",
+        }
+        with mock.patch.object(reference, "Session", Sorts):
+            for _ in compare.cases(5000, "1", ("--tables", "--limit")):
+                if Sorts.seen == wanted:
+                    break
+        self.assertEqual(Sorts.seen, wanted)

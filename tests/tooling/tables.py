@@ -8,7 +8,7 @@ import unittest
 import xml.etree.ElementTree as ElementTree
 
 from tests.checks import TOP
-from tools.waywire import protocol, table_text, tables_from_xml
+from tools.waywire import protocol, table_text, tables_from_xml, valid_tables
 
 MANY_EVENTS = " / ".join(f"event e{place}" for place in range(257))
 # Texts of tables, with the line and the rule that each breaks. `/` ends a line.
@@ -60,6 +60,20 @@ BROKEN = (
     ("extend wl_seat 10 / request r o(b)", 2, 9),
     ("extend wl_seat 10 / request r N(wl_seat)", 2, 11),
     ("interface a 1 / event e N(b) / interface b 1 / extend b 2 / event gone D", 2, 11),
+    ("interface a 1 / request r N(a)", 2, 11),
+    ("interface a 1 / event e N(a) N(a)", 2, 11),
+    ("interface a 1 / event e N(b) / interface b 1 / event gone D", 2, 11),
+    ("interface b 1 / event gone D / interface a 1 / event f / event e u N(b)", 5, 11),
+    ("interface a 1 / event e N(a) D", 2, 11),
+    *((f"interface a 1 / event e N(wl_{it})", 2, 11) for it in ("display", "registry", "callback", "fixes")),
+    # The least of the rules that a line breaks.
+    ("interface a 1 / event e N(no_such)", 2, 9),
+    ("interface a 1 / event e N(wl_fixes) o(no_such)", 2, 9),
+    ("interface a 1 / event e N(a) n(a)", 2, 4),
+    ("interface a 1 / event e N(wl_callback) @2", 2, 8),
+    # V7 and V11 may stand at two lines of one interface.
+    ("interface a 1 / event gone D / request r / event e N(a)", 2, 7),
+    ("interface a 1 / event e N(a) / event gone D / request r", 2, 11),
 )
 
 
@@ -91,6 +105,20 @@ class TextOfTables(unittest.TestCase):
         # An extension counts as no interface, and may name one that stands further down.
         self.assertEqual(self.verdict("extend wl_seat 9"), 0)
         self.assertEqual(self.verdict("extend wl_seat 10 / request r n(b) @10 / interface b 1 / extend b 1"), 1)
+        # An event may make an object and destroy its target, and a request may make such an object too.
+        for text, count in (
+            ("interface a 1 / event e N(b) / interface b 1 / request r D", 2),
+            ("interface a 2 / event e u N(b) ?o(b) h @2 / interface b 1", 2),
+            ("interface a 1 / event e N(wl_buffer)", 1),
+            ("interface a 1 / event e N(a)", 1),
+            ("interface a 1 / event e N(b) D / interface b 1 / request r n(b) o(b)", 2),
+        ):
+            self.assertEqual(self.verdict(text), count, text)
+
+    def test_as_a_text(self):
+        text = "interface a 2\nevent e u N(b) @2\ninterface b 1\n"
+        found = table_text.parse_tables(text.encode())
+        self.assertEqual("".join(f"{it}\n" for it in valid_tables.lines_of(found, [])), text)
 
     def test_extended(self):
         text = b"""extend wl_seat 10\nrequest pad n(pad) @10\nevent mode u @10\ninterface pad 1
@@ -129,6 +157,12 @@ request destroy D\nextend wl_seat 12\nrequest more @11\nextend pad 2\nevent told
             "extend b ",
             "extend b 4294967296",
             "extend  b 1",
+            "event e N",
+            "event e ?N(a)",
+            "event e N()",
+            "event e N(a",
+            "request r N",
+            "event e NN(a)",
         ):
             self.assertEqual(self.verdict(f"interface a 1 / {message}"), "line 2: bad line", message)
         self.assertEqual(self.verdict("request poke"), "line 1: bad line")
