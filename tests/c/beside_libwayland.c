@@ -98,6 +98,5 @@ int main(int count, char **words)
 	same_errors(words[1]);
 	same_locks();
 	MUST(count_open() == before && !rmdir(words[1]));
-	printf("beside_libwayland: ok\n");
 	return 0;
 }

@@ -93,6 +93,5 @@ int main(void)
 		MUST(count_open() == before);
 	}
 	waywire_tables_free(tables);
-	printf("closing: ok\n");
 	return 0;
 }

@@ -634,6 +634,5 @@ int main(void)
 	replaces_itself();
 	many_events();
 	waywire_tables_free(tables);
-	printf("connection_ends: ok\n");
 	return 0;
 }

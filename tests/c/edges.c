@@ -461,6 +461,5 @@ int main(void)
 	other_end();
 	numbers();
 	waywire_tables_free(tables);
-	printf("edges: ok\n");
 	return 0;
 }

@@ -186,6 +186,5 @@ int main(int argc, char **argv)
 	if (argc > 1)
 		no_ids();
 	waywire_tables_free(core);
-	printf("more_tables: ok\n");
 	return 0;
 }

@@ -48,11 +48,6 @@ static inline waywire_report server_reads(struct pair *pair)
 	return reads(pair->client.end, pair->server.end);
 }
 
-static inline waywire_report client_reads(struct pair *pair)
-{
-	return reads(pair->server.end, pair->client.end);
-}
-
 static inline waywire_wl_registry get_registry(waywire_client client)
 {
 	waywire_wl_registry made;

@@ -174,6 +174,5 @@ int main(void)
 	waywire_end_free(client.end);
 	waywire_end_free(server.end);
 	waywire_tables_free(tables);
-	printf("parts: ok\n");
 	return 0;
 }

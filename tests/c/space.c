@@ -94,6 +94,5 @@ int main(void)
 
 	waywire_end_free(server.end);
 	waywire_tables_free(tables);
-	printf("space: ok\n");
 	return 0;
 }

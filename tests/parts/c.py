@@ -262,12 +262,12 @@ ALONE = (
     of_program("followed_messages", "following", wraps=REFUSING, checked=()),
     # The caller's pointers at objects of both ranges of ids are kept apart, and their memory grows with their number.
     of_program("pointers_of_both_ranges", "users", wraps=MEMORY[:2], sources=[USERS], checked=()),
-    # Ends with objects that the server makes: their bytes, their ids, their cost, and allocations that fail.
+    # Ends with objects that the server makes: their pointers, their cost, and allocations that fail.
     of_program("objects_of_the_server", "made", wraps=MEMORY),
     # Objects of the server that are replaced while they live: the reports have the old objects and their pointers, and a
     # program that frees these leaks nothing.
     of_program("replaced_objects", "replaced", OUTPUTS, checked=[OUTPUTS]),
-    # A client's tables grow while it has objects. It binds globals that it was not told of, and the server judges that.
+    # A client's tables grow while it has objects: texts that are refused, and when tables are freed.
     of_program("tables_that_grow", "more_tables", "all", checked=()),
     # A million messages of random calls, some of them wrong, compared with a model; some allocations fail.
     of_program("random_calls", "fuzz", "1000000", wraps=MEMORY[:2], timeout=2 * LONG),
