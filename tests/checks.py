@@ -16,7 +16,7 @@ import time
 import traceback
 import unittest
 
-from scripts import protocol_files, usage
+from scripts import crates, protocol_files, usage
 from scripts.crates import TOP
 
 TOOLS = f"{TOP}/tools"
@@ -258,6 +258,24 @@ def out_of_layout(crate, is_mended=False):
                 if is_mended:
                     shutil.copyfile(copy, f"{folder}/{name}")
     return [why] if why else sorted(wrong)
+
+
+def tried(name, uses, sources):
+    """The output of a program in Rattle, run unproved with a copy of the crates that it uses. `sources` has its
+    modules by their names."""
+    found = crates.read()
+    own = [it for it in uses.split() if it in found]
+    with tempfile.TemporaryDirectory() as room:
+        with open(f"{room}/crates.txt", "w", encoding="utf-8") as file:
+            for it in dict.fromkeys([*own, *(low for it in own for low in crates.below(found)[it])]):
+                file.write(f"{found[it].line}\n")
+                shutil.copytree(f"{TOP}/crates/{it}", f"{room}/crates/{it}", ignore=shutil.ignore_patterns("out"))
+            file.write(f"{name}: {uses}\n")
+        os.makedirs(f"{room}/crates/{name}/src")
+        for module, text in sources.items():
+            with open(f"{room}/crates/{name}/src/{module}.rt", "w", encoding="utf-8") as file:
+                file.write(text)
+        return run(["rt", "try"], cwd=f"{room}/crates/{name}", timeout=4 * LONG)
 
 
 def joined_tables():

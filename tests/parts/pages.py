@@ -10,13 +10,12 @@ examples/c; if the library for C is not built, they are skipped. The last line i
 import contextlib
 import os
 import re
-import shutil
 import subprocess
 import sys
 import tempfile
 import unittest
 
-from scripts import crates, protocol_files, usage
+from scripts import protocol_files, usage
 from tests import checks, clipboards
 from tests.checks import LONG, TOP, Skipped, is_installed, need, read, run
 
@@ -189,17 +188,8 @@ class AtOnce(OfPages):
     @unittest.skipUnless(is_installed("rt"), "the toolchain is not installed")
     def test_rattle(self):
         """The program over a compositor in the same process, with a copy of the crates below it."""
-        found = crates.read()
-        with tempfile.TemporaryDirectory() as room:
-            with open(f"{room}/crates.txt", "w", encoding="utf-8") as file:
-                for it in ["wl", *crates.below(found)["wl"]]:
-                    file.write(f"{found[it].line}\n")
-                    shutil.copytree(f"{TOP}/crates/{it}", f"{room}/crates/{it}", ignore=shutil.ignore_patterns("out"))
-                file.write("guide: wl anyhow\n")
-            os.makedirs(f"{room}/crates/guide/src")
-            with open(f"{room}/crates/guide/src/main.rt", "w", encoding="utf-8") as file:
-                file.write(f"#![tactic(auto)]\n\n{self.program('Rattle')}{read('tests/guide_compositor.rattle')}")
-            said = run(["rt", "try"], cwd=f"{room}/crates/guide", timeout=4 * LONG)
+        program = f"#![tactic(auto)]\n\n{self.program('Rattle')}{read('tests/guide_compositor.rattle')}"
+        said = checks.tried("guide", "wl anyhow", {"main": program})
         # The memory that was sent, and the keymap that was received.
         self.assertEqual(said.splitlines()[:2], ["closed 3", "closed 7"], said)
 

@@ -6,15 +6,14 @@ for Rust, and the modules of names for Rattle and Rust. The last line is 'N pass
 
 import os
 import re
-import shutil
 import subprocess
 import sys
 import tempfile
 import unittest
 
-from scripts import crates, protocol_files, usage
+from scripts import protocol_files, usage
 from tests.checks import (COMPILERS, STRICT, TOOLS, TOP, VALGRIND, Failed, count_cases, is_installed, make, need,
-                          suite_of)
+                          suite_of, tried)
 from tools.waywire import protocol, stubs_from_xml, table_text
 
 FILES = protocol_files.found()
@@ -272,31 +271,13 @@ class Modules(unittest.TestCase):
                                  functions="".join(function(it, self.messages(it)) for it in self.NAMES))
         return modules, program
 
-    def said(self, modules, program):
-        """The output of the program, run unproved, with a copy of the crates that it uses."""
-        found = crates.read()
-        with tempfile.TemporaryDirectory() as room:
-            with open(f"{room}/crates.txt", "w", encoding="utf-8") as file:
-                for it in ["wl_sigs", *crates.below(found)["wl_sigs"]]:
-                    file.write(f"{found[it].line}\n")
-                    shutil.copytree(f"{TOP}/crates/{it}", f"{room}/crates/{it}",
-                                    ignore=shutil.ignore_patterns("out"))
-                file.write("names: wl_sigs\n")
-            os.makedirs(f"{room}/crates/names/src")
-            for name, text in {**modules, "main": program}.items():
-                with open(f"{room}/crates/names/src/{module(name)}.rt", "w", encoding="utf-8") as file:
-                    file.write(text)
-            ran = subprocess.run(["rt", "try"], cwd=f"{room}/crates/names", capture_output=True, text=True,
-                                 check=False)
-        self.assertEqual(ran.returncode, 0, ran.stdout + ran.stderr)
-        return ran.stdout.splitlines()
-
     @unittest.skipUnless(is_installed("rt"), "the toolchain is not installed")
     def test_opcodes_are_those_of_the_tables(self):
         """Each opcode is the one that `Tables::opcode` returns, if the module's text has the message; and each message
         of the text has one."""
         modules, program = self.sources()
-        lines = [it.split() for it in self.said(modules, program)]
+        sources = {**{module(name): text for name, text in modules.items()}, "main": program}
+        lines = [it.split() for it in tried("names", "wl_sigs", sources).splitlines()]
         said = {tuple(it[:3]): it[3:] for it in lines if len(it) == 5}
         named = {one for it in self.NAMES for one in self.messages(it)}
         self.assertLessEqual(named, {*said})

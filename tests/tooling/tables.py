@@ -449,14 +449,5 @@ class TablesFromXml(unittest.TestCase):
         self.assertRegex(said[1], "passed over: /no/such/file: ")
 
     def test_no_protocol(self):
-        for text in (
-            "<interface>",
-            '<interface name="a"/>',
-            '<interface name="a" version="x"/>',
-            '<interface name="a b" version="1"/>',
-            '<interface name="a" version="1"><event name="e"><arg name="x" type="long"/></event></interface>',
-            '<interface name="a" version="1"><event name="e"><arg name="x" type="int" allow-null="true"/>'
-            "</event></interface>",
-        ):
-            printed, said = self.made(text, status=1)
-            self.assertEqual((printed, len(said)), ([], 1), text)
+        printed, said = self.made('<interface name="a"/>', status=1)
+        self.assertEqual((printed, len(said)), ([], 1))
