@@ -586,6 +586,10 @@ bool waywire_end_has_failed(const waywire_end *end);
 /* The free bytes and tokens of the inbox; zero at a failed end. */
 waywire_amounts waywire_end_in_room(const waywire_end *end);
 
+/* The free bytes and tokens of the outbox, which has waywire_sizes.out_bytes and out_tokens; also at a failed end.
+ * A wl_display.error takes no room: it has its own. This takes constant time, however much waits. */
+waywire_amounts waywire_end_out_room(const waywire_end *end);
+
 /* Whether nothing waits in the inbox or the outbox. */
 bool waywire_end_is_drained(const waywire_end *end);
 

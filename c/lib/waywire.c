@@ -17,6 +17,7 @@ uint32_t waywire_c_end_ids_used(const struct handle *, bool by_server);
 uint32_t waywire_c_end_look(const struct handle *, uint32_t id, uint64_t *birth);
 bool waywire_c_end_has_failed(const struct handle *);
 void waywire_c_end_in_room(const struct handle *, waywire_amounts *room);
+void waywire_c_end_out_room(const struct handle *, waywire_amounts *room);
 bool waywire_c_end_is_drained(const struct handle *);
 bool waywire_c_end_feed(struct handle *, const void *bytes, size_t length,
 	const uint32_t *tokens, size_t token_count, waywire_amounts *fed);
@@ -266,6 +267,14 @@ waywire_amounts waywire_end_in_room(const waywire_end *end)
 	waywire_amounts room = { 0, 0 };
 	if (end)
 		waywire_c_end_in_room(&end->handle, &room);
+	return room;
+}
+
+waywire_amounts waywire_end_out_room(const waywire_end *end)
+{
+	waywire_amounts room = { 0, 0 };
+	if (end)
+		waywire_c_end_out_room(&end->handle, &room);
 	return room;
 }
 

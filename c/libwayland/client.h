@@ -131,10 +131,6 @@ int display_flush(struct wl_display *display);
 /* How many bytes wait to be sent. The lock is taken. */
 size_t display_waiting_bytes(const struct wl_display *display);
 
-/* Sends what waits, as wl_display_flush does, but counts no bytes, which takes time. Returns 0, or
- * -1 with errno. Takes the lock. */
-int display_flush_uncounted(struct wl_display *display);
-
 /* Closes the descriptors of a report. */
 void report_close_descriptors(const waywire_report *report);
 

@@ -161,7 +161,7 @@ int display_flush(struct wl_display *display)
 
 size_t display_waiting_bytes(const struct wl_display *display)
 {
-	return waywire_end_goes(display->client.end, PTRDIFF_MAX, PTRDIFF_MAX).bytes;
+	return display_sizes.out_bytes - waywire_end_out_room(display->client.end).bytes;
 }
 
 /* Sends what waits, unless the connection has ended. The lock is taken. A compositor that has gone
@@ -175,14 +175,6 @@ static int flush_unless_ended(struct wl_display *display)
 	int result = display_flush(display);
 	if (result && errno != EAGAIN && errno != EPIPE)
 		display_fail(display, errno);
-	return result;
-}
-
-int display_flush_uncounted(struct wl_display *display)
-{
-	pthread_mutex_lock(&display->mutex);
-	int result = flush_unless_ended(display);
-	pthread_mutex_unlock(&display->mutex);
 	return result;
 }
 

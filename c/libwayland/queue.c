@@ -161,7 +161,7 @@ static int wait_until(const struct wl_display *display, short events, int64_t en
  * wait for. */
 static int send_until(struct wl_display *display, int64_t end)
 {
-	while (display_flush_uncounted(display)) {
+	while (wl_display_flush(display) < 0) {
 		if (errno == EPIPE)
 			return 1;
 		if (errno != EAGAIN || wl_display_get_error(display))

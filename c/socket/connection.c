@@ -46,8 +46,8 @@ static waywire_connection *new_connection(const waywire_tables *tables, const wa
 	if (!connection)
 		return NULL;
 	connection->socket = socket;
-	connection->half.bytes = sizes->out_bytes / 2;
-	connection->half.tokens = sizes->out_tokens / 2;
+	connection->capacity.bytes = sizes->out_bytes;
+	connection->capacity.tokens = sizes->out_tokens;
 	connection->entries.before = connection->entries.after = &connection->entries;
 	connection->sweep_at = FIRST_SWEEP;
 	connection->patience = connection->stuck_since = -1;

@@ -71,13 +71,11 @@ int waywire_connection_flush(waywire_connection *connection)
 	return is_closed(connection, errno);
 }
 
+/* Unlike waywire_end_peek, `goes` looks at no more than the message that the first byte is of. */
 bool waywire_connection_wants_write(const waywire_connection *connection)
 {
-	waywire_part parts[2] = { { NULL, 0 }, { NULL, 0 } };
-	size_t count;
 	return !connection->failure.error
-		&& !waywire_end_peek(connection->end, parts, NULL, 0, &count)
-		&& (parts[0].length || parts[1].length);
+		&& waywire_end_goes(connection->end, 1, WAYWIRE_MAX_ARGS).bytes;
 }
 
 /* Flushes, and says whether the connection continues. It does even if the socket takes no more, or if a client's
@@ -205,18 +203,27 @@ static void hear(waywire_connection *connection, waywire_report *report)
 	entry_release(target);
 }
 
+/* What waits to be sent. This is asked for each message, so it must not depend on how much that is. */
+static waywire_amounts waiting(const waywire_connection *connection)
+{
+	waywire_amounts room = waywire_end_out_room(connection->end), waits = connection->capacity;
+	waits.bytes -= room.bytes;
+	waits.tokens -= room.tokens;
+	return waits;
+}
+
 /* Whether the outbox has room for what callbacks write; sends what waits when there is enough of it. Returns 1,
  * or 0 if there is too much, or -1. */
 static int has_room(waywire_connection *connection)
 {
-	const waywire_amounts *half = &connection->half;
-	waywire_amounts waits = waywire_end_goes(connection->end, PTRDIFF_MAX, PTRDIFF_MAX);
-	if (!connection->is_blocked && (waits.bytes > BATCH || waits.tokens > half->tokens)) {
+	size_t half = connection->capacity.bytes / 2, half_of_tokens = connection->capacity.tokens / 2;
+	waywire_amounts waits = waiting(connection);
+	if (!connection->is_blocked && (waits.bytes > BATCH || waits.tokens > half_of_tokens)) {
 		if (!flushes(connection))
 			return -1;
-		waits = waywire_end_goes(connection->end, PTRDIFF_MAX, PTRDIFF_MAX);
+		waits = waiting(connection);
 	}
-	return waits.bytes <= half->bytes && waits.tokens <= half->tokens;
+	return waits.bytes <= half && waits.tokens <= half_of_tokens;
 }
 
 /* Prepares for the next message. Returns 1, or 0 if it has to wait: a server reads nothing more from a client

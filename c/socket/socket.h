@@ -53,7 +53,7 @@ struct waywire_connection {
 	waywire_end *end;
 	waywire_client client; /* one of these two has the end, the other null */
 	waywire_server server;
-	waywire_amounts half; /* half of what the outbox holds */
+	waywire_amounts capacity; /* of the outbox */
 
 	struct entry entries; /* the head of the ring */
 	size_t entry_count;

@@ -335,6 +335,8 @@ static waywire_amounts take(int by, unsigned char *bytes, size_t length, uint32_
 {
 	struct way *way = &ways[by];
 	waywire_amounts wanted = takes(way, length, count), taken;
+	waywire_amounts room = { OUT_BYTES - (way->length - way->sent), MOST_TOKENS - (way->token_count - way->tokens_sent) };
+	MUST(same_amounts(waywire_end_out_room(ends[by]), room));
 	MUST(same_amounts(waywire_end_goes(ends[by], length, count), wanted));
 	MUST(!waywire_end_take(ends[by], bytes, length, tokens, count, &taken) && same_amounts(taken, wanted));
 	MUST(!memcmp(bytes, way->bytes + way->sent, taken.bytes));

@@ -74,7 +74,8 @@ static void null_end(void)
 	MUST(!waywire_end_object_count(NULL) && !waywire_end_user(NULL, display));
 	MUST(!waywire_end_tables(NULL));
 	MUST(waywire_end_has_failed(NULL) && waywire_end_is_drained(NULL));
-	MUST(is_none(waywire_end_in_room(NULL)) && is_none(waywire_end_goes(NULL, 9, 9)));
+	MUST(is_none(waywire_end_in_room(NULL)) && is_none(waywire_end_out_room(NULL)));
+	MUST(is_none(waywire_end_goes(NULL, 9, 9)));
 	MUST(is_none(waywire_end_sent(NULL, 9)));
 	waywire_end_space(NULL, parts);
 	MUST(!parts[0].length && !parts[1].length && !parts[0].bytes && !parts[1].bytes);

@@ -317,11 +317,11 @@ def connections_without_memory(_program):
         run([path, folder])
 
 
-def instructions_of(work, beside):
-    """The instructions of one round of a task, with so many registries open."""
+def instructions_of(program, work, beside):
+    """The instructions of one round of a task of a program, beside so many registries or messages."""
     counted = ["valgrind", "--tool=callgrind", "--callgrind-out-file=/dev/null",
                "--toggle-collect=measured"]
-    command = [os.path.join(OUT, "registries"), work, str(beside)]
+    command = [os.path.join(OUT, program), work, str(beside)]
     said = run([*counted, *command], with_error=True)
     return int(re.search(r"Collected *: *(\d+)", said)[1]) / int(said.split()[0])
 
@@ -332,9 +332,20 @@ def works_beside_many_registries(_program):
     need("valgrind")
     compiled("registries")
     for work in ("destroys", "announces", "opens", "replaces", "tells"):
-        few, many = (instructions_of(work, it) for it in (10, 10_000))
+        few, many = (instructions_of("registries", work, it) for it in (10, 10_000))
         if many > 3 * few:
             raise Failed(f"{work}: {many:.0f} instructions each, and beside ten {few:.0f}")
+
+
+def works_beside_waiting_messages(_program):
+    """An event that is answered by a request, a request, and a sync take the same instructions beside 0, 500 and 5,000
+    messages that wait to be sent."""
+    need("valgrind")
+    compiled("waiting")
+    for work in ("answers", "requests", "syncs"):
+        none, *more = (instructions_of("waiting", work, it) for it in (0, 500, 5000))
+        if max(more) > 1.1 * none:
+            raise Failed(f"{work}: {max(more):.0f} instructions each, and beside no message {none:.0f}")
 
 
 def shared_tables(_program):
@@ -587,7 +598,8 @@ INSPECTOR_AT_PROGRAMS = (
 TESTS_IN_ORDER = (header_is_c99_and_cpp, every_message_goes_by_its_stub,
                   stubs_compile_everywhere, ends_and_objects_have_types, session, values,
                   inspector_says_what_the_reference_says, no_error_and_no_leak, *ALONE, memory_has_one_form,
-                  sockets, connections, connections_without_memory, works_beside_many_registries, shared_tables,
+                  sockets, connections, connections_without_memory, works_beside_many_registries,
+                  works_beside_waiting_messages, shared_tables,
                   no_leak_to_the_sanitizer, exports_its_calls_alone, examples, installed, installing_compiles_nothing,
                   package, debian_package, debian_package_at_a_clean_debian,
                   sockets_are_those_of_libwayland, libwayland_at_our_server, compositor,

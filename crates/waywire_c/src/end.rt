@@ -3,7 +3,8 @@ ghost use Rattle.std.specs.Prelude.{◌≡◌, ◌≢◌, ◌+◌, ◌++◌, len
 ghost use Rattle.std.specs.Prelude.{min, slice_get, cond, IfSome, MatchOption, None};
 ghost use Rattle.wl_object_map.specs.declared.object.Maker.TheVariants.{Client, Server};
 ghost use Rattle.wl_object_map.specs.Objects.{ids_used, look, row_count};
-ghost use Rattle.wl_message.specs.Outgoing.{goes, Peeks, waiting_bytes, waiting_tokens};
+ghost use Rattle.wl_message.specs.Outgoing.{goes, Peeks, room_of, token_room_of};
+ghost use Rattle.wl_message.specs.Outgoing.{waiting_bytes, waiting_tokens};
 ghost use Rattle.wl_connection.specs.Core.{in_room, is_drained, live, display_object, feeds};
 ghost use Rattle.wl_connection.specs.Core.{feeds_len, with_arrived};
 ghost use Rattle.wl_connection.specs.Core.{with_gone};
@@ -122,6 +123,20 @@ pub extern "C" fn waywire_c_end_in_room(end: &mut EndHandle, room: &mut CAmounts
     ensures unchanged { end.new.held ≡ end.old.held }
 {
     *room = CAmounts::of(end.get_mut().in_room());
+}
+
+/// Writes the free bytes and tokens of the outbox to `room`.
+#[unsafe(no_mangle)]
+pub extern "C" fn waywire_c_end_out_room(end: &mut EndHandle, room: &mut CAmounts)
+    ensures bytes { room.new.bytes ≡ room_of (core_of end.old.held).outbox }
+    ensures tokens { room.new.tokens ≡ token_room_of (core_of end.old.held).outbox }
+    ensures unchanged { end.new.held ≡ end.old.held }
+{
+    let core = end.get_mut().core();
+    *room = CAmounts {
+        bytes: core.outbox.room(),
+        tokens: core.outbox.token_room(),
+    };
 }
 
 /// Whether nothing waits in either queue.

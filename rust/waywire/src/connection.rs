@@ -138,6 +138,12 @@ impl<R> Connection<R> {
         self.end.in_room()
     }
 
+    /// The free bytes and descriptors of the outbox; also at a failed end. A wl_display.error takes no
+    /// room: it has its own. This takes constant time, however much waits.
+    pub fn out_room(&self) -> Amounts {
+        self.end.out_room()
+    }
+
     /// Whether nothing waits in the inbox or the outbox.
     pub fn is_drained(&self) -> bool {
         self.end.is_drained()

@@ -17,8 +17,8 @@ use waywire::wayland::wl_callback::{self, WlCallback};
 use waywire::wayland::wl_display::{self, WlDisplay};
 use waywire::wayland::wl_registry::{self, WlRegistry};
 use waywire::{
-    AsClient, AsServer, Client, InboxFull, Incoming, NextError, RequestHandler, SendError, Server,
-    Sizes, Tables,
+    Amounts, AsClient, AsServer, Client, InboxFull, Incoming, NextError, RequestHandler, SendError,
+    Server, Sizes, Tables,
 };
 
 const SOON: Option<Duration> = Some(Duration::from_millis(20));
@@ -239,7 +239,8 @@ fn a_socket_that_takes_no_more_is_waited_for() {
             syncs += 1;
         }
     }
-    assert!(client.wants_write());
+    let Sizes { out_bytes, out_tokens, .. } = Sizes::default();
+    assert!(client.wants_write() && client.out_room().bytes < out_bytes);
     assert_eq!(client.wait(SOON).unwrap(), Came::Nothing);
     let reader = thread::spawn(move || {
         let mut came = 0;
@@ -259,6 +260,7 @@ fn a_socket_that_takes_no_more_is_waited_for() {
     // It keeps sending while it waits.
     assert_eq!(client.wait(LONG).unwrap(), Came::Something);
     assert!(!client.wants_write());
+    assert_eq!(client.out_room(), Amounts { bytes: out_bytes, tokens: out_tokens });
     assert_eq!(reader.join().unwrap(), syncs);
 }
 

@@ -56,6 +56,7 @@ extern "C" {
     fn waywire_end_object_after(end: *const RawEnd, id: u32, object: *mut Object) -> u32;
     fn waywire_end_has_failed(end: *const RawEnd) -> bool;
     fn waywire_end_in_room(end: *const RawEnd) -> Amounts;
+    fn waywire_end_out_room(end: *const RawEnd) -> Amounts;
     fn waywire_end_is_drained(end: *const RawEnd) -> bool;
     fn waywire_end_feed(
         end: *mut RawEnd,
@@ -360,6 +361,10 @@ impl End {
 
     pub fn in_room(&self) -> Amounts {
         unsafe { waywire_end_in_room(self.at.as_ptr()) }
+    }
+
+    pub fn out_room(&self) -> Amounts {
+        unsafe { waywire_end_out_room(self.at.as_ptr()) }
     }
 
     pub fn is_drained(&self) -> bool {
