@@ -30,22 +30,28 @@ bool signature_read(struct signature *signature, const char *text);
 
 /* ---- what the types of libwayland-client are here */
 
+/* The fields up to `queue_link` are laid out as in libwayland. A library that is preloaded, such as that of
+ * gtk4-layer-shell, reads them, and passes in proxies of its own that have no others: the calls that such a proxy can
+ * come to, those that listen and those that get or set a value, use only these fields. */
 struct wl_proxy {
-	struct wl_object object; /* first, where Mesa looks for the interface */
+	struct wl_object object; /* Mesa looks for the interface here */
 	struct wl_display *display;
 	struct wl_event_queue *queue;
-	int references;    /* the program's, the client's, and one of each event that has it */
-	bool is_destroyed; /* by the program */
-	bool is_shown;     /* a listener had it as an argument */
-	bool gets_descriptors; /* if messages are printed: whether its events can have any. Known once it is destroyed */
-	bool is_held;      /* the client has it as the user's pointer of its object */
-	bool is_wrapper;   /* this and the next are read without the lock */
-	bool is_registry;
+	uint32_t is_deleted : 1;        /* a flag of libwayland that is not used here */
+	uint32_t is_destroyed : 1;      /* by the program */
+	uint32_t is_wrapper : 1;        /* read without the lock */
+	int references;                 /* the program's, the client's, and one of each event that has it */
 	void *user_data;
 	wl_dispatcher_func_t dispatcher;
 	uint32_t version;
 	const char *const *tag;
+	struct wl_list queue_link;      /* not used here */
+
 	waywire_object handle; /* its object at the client; id 0 if there is none */
+	bool is_shown;         /* a listener had it as an argument */
+	bool gets_descriptors; /* if messages are printed: whether its events can have any. Known once it is destroyed */
+	bool is_held;          /* the client has it as the user's pointer of its object */
+	bool is_registry;      /* read without the lock */
 };
 
 struct wl_event_queue {

@@ -126,6 +126,12 @@ def lines_of_wayland_debug_are_those_of_libwayland(library):
         raise Failed("".join(difflib.unified_diff(theirs.splitlines(True), ours.splitlines(True))))
 
 
+def a_preloaded_library_has_proxies_of_its_own(library):
+    """Its copy of struct wl_proxy has libwayland's fields at libwayland's places, and ends with them."""
+    for it in (SYSTEM, library):
+        it.succeeds([*checked_by_valgrind(), compiled("shim")])
+
+
 def each_allocation_refused_in_turn(library):
     """A program ends only by an error of the display, and no descriptor stays open."""
     library.succeeds([compiled("memory")])
@@ -137,7 +143,8 @@ TESTS = (each_signature_reaches_its_listener, malformed_interfaces_end_in_an_err
          requests_and_events_at_their_limits, a_compositor_that_stops_reading_and_reads_again,
          a_program_that_does_not_dispatch_an_error_hears_of_it,
          a_session_cut_or_changed_has_no_error_of_memory,
-         lines_of_wayland_debug_are_those_of_libwayland, each_allocation_refused_in_turn)
+         lines_of_wayland_debug_are_those_of_libwayland, a_preloaded_library_has_proxies_of_its_own,
+         each_allocation_refused_in_turn)
 LONG_TESTS = (eight_threads_for_long, a_session_cut_or_changed_at_each_byte_has_no_error_of_memory)
 
 
