@@ -36,7 +36,7 @@ bool signature_read(struct signature *signature, const char *text);
 struct wl_proxy {
 	struct wl_object object; /* Mesa looks for the interface here */
 	struct wl_display *display;
-	struct wl_event_queue *queue;
+	struct wl_event_queue *queue;   /* null once that is destroyed */
 	uint32_t is_deleted : 1;        /* a flag of libwayland that is not used here */
 	uint32_t is_destroyed : 1;      /* by the program */
 	uint32_t is_wrapper : 1;        /* read without the lock */
@@ -45,7 +45,7 @@ struct wl_proxy {
 	wl_dispatcher_func_t dispatcher;
 	uint32_t version;
 	const char *const *tag;
-	struct wl_list queue_link;      /* not used here */
+	struct wl_list queue_link;      /* in the queue's `proxies`; null if it is not attached */
 
 	waywire_object handle; /* its object at the client; id 0 if there is none */
 	bool is_shown;         /* a listener had it as an argument */
@@ -56,6 +56,7 @@ struct wl_proxy {
 
 struct wl_event_queue {
 	struct wl_list events;
+	struct wl_list proxies; /* those whose events go into it */
 	struct wl_display *display;
 	char *name; /* null if it has none */
 };
@@ -102,6 +103,9 @@ bool tables_agree(struct wl_display *display, const struct wl_interface *interfa
 bool tables_learn(struct wl_display *display, const struct wl_interface *interface);
 
 /* ---- proxies (proxy.c) */
+
+/* Attaches a proxy to a queue, or to none, and detaches it from the one that it had. */
+void proxy_attach(struct wl_proxy *proxy, struct wl_event_queue *queue);
 
 /* Makes a proxy without an object, for one that `factory` makes. Null with errno. */
 struct wl_proxy *proxy_create(struct wl_proxy *factory, const struct wl_interface *interface,
@@ -165,5 +169,8 @@ void queue_dispatch_first(struct wl_display *display, struct wl_event_queue *que
 void queue_drain(struct wl_event_queue *queue);
 
 void queue_init(struct wl_event_queue *queue, struct wl_display *display);
+
+/* Detaches the proxies of a queue. */
+void queue_detach_all(struct wl_event_queue *queue);
 
 #endif

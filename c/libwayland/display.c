@@ -61,7 +61,7 @@ static void init_display(struct wl_display *display)
 	proxy->object.interface = &wl_display_interface;
 	proxy->object.implementation = display; /* it has a listener already */
 	proxy->display = display;
-	proxy->queue = &display->default_queue;
+	proxy_attach(proxy, &display->default_queue);
 	proxy->user_data = display;
 	proxy->references = 1;
 	proxy_give_object(proxy, waywire_end_display(display->client.end));
@@ -143,6 +143,7 @@ EXPORT void wl_display_disconnect(struct wl_display *display)
 	queue_drain(&display->default_queue);
 	queue_drain(&display->display_queue);
 	let_go_of_all(display);
+	queue_detach_all(&display->default_queue);
 	waywire_socket_close(display->fd, display->client.end);
 	free_display(display);
 }

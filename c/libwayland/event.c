@@ -111,6 +111,12 @@ void queue_drain(struct wl_event_queue *queue)
 
 static void put_in_queue(struct wl_event_queue *queue, struct event *event)
 {
+	if (!queue) {
+		log_line("%s@%u: the queue of its event %s is destroyed\n",
+			event->proxy->object.interface->name, event->proxy->object.id,
+			event->message->name);
+		abort();
+	}
 	wl_list_insert(queue->events.prev, &event->link);
 }
 

@@ -8,6 +8,15 @@
 
 /* ---- references */
 
+void proxy_attach(struct wl_proxy *proxy, struct wl_event_queue *queue)
+{
+	if (proxy->queue_link.next)
+		wl_list_remove(&proxy->queue_link);
+	proxy->queue = queue;
+	if (queue)
+		wl_list_insert(queue->proxies.prev, &proxy->queue_link);
+}
+
 void proxy_release(struct wl_proxy *proxy)
 {
 	if (!--proxy->references)
@@ -66,6 +75,7 @@ void proxy_destroy(struct wl_proxy *proxy)
 		abort();
 	}
 	proxy->is_destroyed = true;
+	proxy_attach(proxy, NULL);
 	if (is_debugging()) /* its interface may be unloaded before the next event comes */
 		proxy->gets_descriptors = has_descriptor_event(proxy->object.interface);
 	if (proxy->is_held && is_of_server(proxy->handle)) {
@@ -95,7 +105,7 @@ struct wl_proxy *proxy_create(struct wl_proxy *factory, const struct wl_interfac
 		return NULL;
 	proxy->object.interface = interface;
 	proxy->display = factory->display;
-	proxy->queue = factory->queue;
+	proxy_attach(proxy, factory->queue);
 	proxy->references = 1;
 	proxy->version = version;
 	return proxy;
@@ -129,7 +139,7 @@ EXPORT void *wl_proxy_create_wrapper(void *proxy)
 	wrapper->object.interface = wrapped->object.interface;
 	wrapper->object.id = wrapped->object.id;
 	wrapper->display = wrapped->display;
-	wrapper->queue = wrapped->queue;
+	proxy_attach(wrapper, wrapped->queue);
 	wrapper->references = 1;
 	wrapper->is_wrapper = true;
 	wrapper->is_registry = wrapped->is_registry;
@@ -146,6 +156,12 @@ EXPORT void wl_proxy_wrapper_destroy(void *wrapper)
 		log_line("wl_proxy_wrapper_destroy was called with %p, which is no wrapper\n",
 			wrapper);
 		abort();
+	}
+	if (proxy->queue) { /* without a queue, the display may be gone, too */
+		struct wl_display *display = proxy->display;
+		pthread_mutex_lock(&display->mutex);
+		proxy_attach(proxy, NULL);
+		pthread_mutex_unlock(&display->mutex);
 	}
 	free(proxy);
 }
@@ -190,7 +206,7 @@ EXPORT void wl_proxy_set_queue(struct wl_proxy *proxy, struct wl_event_queue *qu
 	struct wl_display *display = proxy->display;
 	pthread_mutex_lock(&display->mutex);
 	assert(!queue || queue->display == display);
-	proxy->queue = queue ? queue : &display->default_queue;
+	proxy_attach(proxy, queue ? queue : &display->default_queue);
 	pthread_mutex_unlock(&display->mutex);
 }
 

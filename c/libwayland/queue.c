@@ -15,6 +15,7 @@
 void queue_init(struct wl_event_queue *queue, struct wl_display *display)
 {
 	wl_list_init(&queue->events);
+	wl_list_init(&queue->proxies);
 	queue->display = display;
 	queue->name = NULL;
 }
@@ -46,11 +47,33 @@ EXPORT const char *wl_event_queue_get_name(const struct wl_event_queue *queue)
 	return queue == &display->display_queue ? "Display Queue" : queue->name;
 }
 
+void queue_detach_all(struct wl_event_queue *queue)
+{
+	struct wl_proxy *proxy, *next;
+	wl_list_for_each_safe(proxy, next, &queue->proxies, queue_link)
+		proxy_attach(proxy, NULL);
+}
+
+/* Names the proxies of a queue that is destroyed before them: an event for one of them ends the program. As in
+ * libwayland 1.23, the mark between the interface and the id is `#`. */
+static void warn_of_attached(const struct wl_event_queue *queue)
+{
+	const struct wl_proxy *proxy;
+	if (wl_list_empty(&queue->proxies))
+		return;
+	log_line("warning: the queue \"%s\" (%p) is destroyed before these proxies of it:\n",
+		queue->name ? queue->name : "", (const void *)queue);
+	wl_list_for_each(proxy, &queue->proxies, queue_link)
+		log_line("  %s#%u\n", proxy->object.interface->name, proxy->object.id);
+}
+
 EXPORT void wl_event_queue_destroy(struct wl_event_queue *queue)
 {
 	struct wl_display *display = queue->display;
 	pthread_mutex_lock(&display->mutex);
 	queue_drain(queue);
+	warn_of_attached(queue);
+	queue_detach_all(queue);
 	pthread_mutex_unlock(&display->mutex);
 	free(queue->name);
 	free(queue);

@@ -2,6 +2,7 @@
 
 import difflib
 import re
+import signal
 
 from tests.checks import Failed
 from tests.libwayland.libraries import SYSTEM, checked_by_valgrind, compiled
@@ -132,6 +133,15 @@ def a_preloaded_library_has_proxies_of_its_own(library):
         it.succeeds([*checked_by_valgrind(), compiled("shim")])
 
 
+def a_queue_is_destroyed_before_its_proxies(library):
+    """They are named, and no freed memory is used."""
+    path = compiled("queues")
+    library.succeeds([*checked_by_valgrind(*LEAKS), path])
+    ended = library.run([*checked_by_valgrind(), path, "event"])
+    if ended.returncode != -signal.SIGABRT or "Invalid" in ended.stderr:
+        raise Failed(f"an event for a queue that is destroyed: status {ended.returncode}\n{ended.stderr[-600:]}")
+
+
 def each_allocation_refused_in_turn(library):
     """A program ends only by an error of the display, and no descriptor stays open."""
     library.succeeds([compiled("memory")])
@@ -144,7 +154,7 @@ TESTS = (each_signature_reaches_its_listener, malformed_interfaces_end_in_an_err
          a_program_that_does_not_dispatch_an_error_hears_of_it,
          a_session_cut_or_changed_has_no_error_of_memory,
          lines_of_wayland_debug_are_those_of_libwayland, a_preloaded_library_has_proxies_of_its_own,
-         each_allocation_refused_in_turn)
+         a_queue_is_destroyed_before_its_proxies, each_allocation_refused_in_turn)
 LONG_TESTS = (eight_threads_for_long, a_session_cut_or_changed_at_each_byte_has_no_error_of_memory)
 
 
