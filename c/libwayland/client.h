@@ -61,6 +61,12 @@ struct wl_event_queue {
 	char *name; /* null if it has none */
 };
 
+/* What waits behind a socket that takes no more. It goes before what is in the outbox. */
+struct backlog {
+	struct wl_list parcels;
+	size_t bytes; /* in all parcels, without those that were sent */
+};
+
 /* An interface that agrees with the tables, as it was when that was found out. A plug-in may be
  * unloaded, and another interface lie at its address. */
 struct known_interface {
@@ -74,6 +80,8 @@ struct wl_display {
 	struct wl_proxy proxy; /* first, since a display is a proxy, too */
 	waywire_client client;
 	int fd;
+	struct backlog backlog;
+	size_t most_waiting; /* how many bytes may wait behind the socket; 0 is no limit */
 	int last_error; /* an errno; 0 while the connection goes on */
 	struct {
 		const struct wl_interface *interface;
@@ -138,11 +146,26 @@ void reading_wake(struct wl_display *display);
 /* Sends what waits. Returns 0, or -1 with errno. The lock is taken. */
 int display_flush(struct wl_display *display);
 
-/* How many bytes wait to be sent. The lock is taken. */
+/* Makes room in a full outbox: the socket takes some of it, or it becomes part of the backlog. False with errno:
+ * EAGAIN if the socket takes nothing and no more may wait. The lock is taken. */
+bool display_make_room(struct wl_display *display);
+
+/* How many bytes wait in the outbox. The lock is taken. */
 size_t display_waiting_bytes(const struct wl_display *display);
 
 /* Closes the descriptors of a report. */
 void report_close_descriptors(const waywire_report *report);
+
+/* ---- the backlog (backlog.c) */
+
+/* Moves the outbox into the backlog. False with errno if there is no memory for all of it: the rest stays. */
+bool backlog_take(struct backlog *backlog, waywire_end *end);
+
+/* Sends the backlog. Returns 0 when nothing is left, or -1 with errno, as waywire_socket_send. */
+int backlog_send(struct backlog *backlog, int socket);
+
+/* Closes the descriptors of the backlog, and frees all. */
+void backlog_drop(struct backlog *backlog);
 
 /* ---- events (event.c) */
 

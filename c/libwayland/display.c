@@ -3,13 +3,16 @@
 #include "client.h"
 
 #include <errno.h>
+#include <limits.h>
 #include <stdlib.h>
 #include <sys/un.h>
 #include <unistd.h>
 
+#define OUTBOX 65536
+
 /* A libwayland whose buffers grow can send many descriptors before the bytes of their messages. Of those that wait
  * to be sent the process has duplicates, so these are as few as libwayland's 28 and those of a message. */
-static const waywire_sizes display_sizes = { 65536, 48, 65536, 256, WAYWIRE_USUAL_LIMIT };
+static const waywire_sizes display_sizes = { OUTBOX, 48, 65536, 256, WAYWIRE_USUAL_LIMIT };
 
 /* ---- errors */
 
@@ -56,6 +59,7 @@ static void init_display(struct wl_display *display)
 	struct wl_proxy *proxy = &display->proxy;
 	queue_init(&display->display_queue, display);
 	queue_init(&display->default_queue, display);
+	wl_list_init(&display->backlog.parcels);
 	pthread_mutex_init(&display->mutex, NULL);
 	pthread_cond_init(&display->has_read, NULL);
 	proxy->object.interface = &wl_display_interface;
@@ -144,6 +148,7 @@ EXPORT void wl_display_disconnect(struct wl_display *display)
 	queue_drain(&display->display_queue);
 	let_go_of_all(display);
 	queue_detach_all(&display->default_queue);
+	backlog_drop(&display->backlog);
 	waywire_socket_close(display->fd, display->client.end);
 	free_display(display);
 }
@@ -157,12 +162,28 @@ EXPORT int wl_display_get_fd(struct wl_display *display)
 
 int display_flush(struct wl_display *display)
 {
+	if (backlog_send(&display->backlog, display->fd))
+		return -1;
 	return waywire_socket_flush(display->fd, display->client.end);
 }
 
 size_t display_waiting_bytes(const struct wl_display *display)
 {
 	return display_sizes.out_bytes - waywire_end_out_room(display->client.end).bytes;
+}
+
+bool display_make_room(struct wl_display *display)
+{
+	size_t before = display_waiting_bytes(display);
+	if (!display_flush(display))
+		return true;
+	if (errno != EAGAIN)
+		return false;
+	if (display_waiting_bytes(display) < before)
+		return true;
+	if (display->most_waiting && display->backlog.bytes + before + OUTBOX > display->most_waiting)
+		return false;
+	return backlog_take(&display->backlog, display->client.end);
 }
 
 /* Sends what waits, unless the connection has ended. The lock is taken. A compositor that has gone
@@ -182,16 +203,18 @@ static int flush_unless_ended(struct wl_display *display)
 EXPORT int wl_display_flush(struct wl_display *display)
 {
 	pthread_mutex_lock(&display->mutex);
-	size_t waits = display_waiting_bytes(display);
+	size_t waits = display_waiting_bytes(display) + display->backlog.bytes;
 	int result = flush_unless_ended(display);
 	pthread_mutex_unlock(&display->mutex);
-	return result ? -1 : (int)waits;
+	return result ? -1 : waits < INT_MAX ? (int)waits : INT_MAX;
 }
 
-/* The outbox has its size from the beginning. */
+/* A limit below the size of the outbox is no less than that: see `display_make_room`. */
 EXPORT void wl_display_set_max_buffer_size(struct wl_display *display, size_t most)
 {
-	(void)display, (void)most;
+	pthread_mutex_lock(&display->mutex);
+	display->most_waiting = most;
+	pthread_mutex_unlock(&display->mutex);
 }
 
 void report_close_descriptors(const waywire_report *report)

@@ -229,21 +229,14 @@ static waywire_status write_once(const struct request *request, const waywire_ar
 		given[BIND_INTERFACE].s, given[BIND_VERSION].u, made);
 }
 
-/* Sends what waits. True if that made room: the socket may have taken only some of it. Otherwise false with errno. */
-static bool makes_room(struct wl_display *display)
-{
-	size_t before = display_waiting_bytes(display);
-	return !display_flush(display) || (errno == EAGAIN && display_waiting_bytes(display) < before);
-}
-
-/* Writes a request. If the outbox is full it is flushed, and a socket that takes nothing is an
- * error, as in libwayland 1.21. False if it is refused. */
+/* Writes a request. As in libwayland 1.23, a socket that takes nothing is an error only if no more may wait. False
+ * if it is refused. */
 static bool write_request(const struct request *request, const waywire_arg *args,
 	waywire_object *made)
 {
 	waywire_status status;
 	while ((status = write_once(request, args, made)) == WAYWIRE_FULL)
-		if (!makes_room(request->proxy->display))
+		if (!display_make_room(request->proxy->display))
 			return refuse(request, errno, "the socket takes no more");
 	return status ? refuse_status(request, status) : true;
 }

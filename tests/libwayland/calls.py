@@ -93,8 +93,8 @@ def requests_and_events_at_their_limits(library):
 
 
 def a_compositor_that_stops_reading_and_reads_again(library):
-    """A connection goes on if the socket takes some of what waits. One that has ended returns from each call.
-    libwayland 1.21 does neither."""
+    """Nothing that waits is lost. With a limit, a connection goes on if the socket takes some of what waits, and one
+    that has ended returns from each call. libwayland 1.21 does none of this."""
     library.succeeds([compiled("full")])
 
 

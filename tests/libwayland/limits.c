@@ -305,6 +305,7 @@ static int play(const void *its)
 	wl_proxy_add_dispatcher((struct wl_proxy *)registry, count_event, NULL, NULL);
 	wl_display_flush(display);
 	sent_bytes();
+	limit_waiting(display, 4096);
 	cases[number].does(cases[number].number);
 	int is_stuck = cases[number].does == never_read || cases[number].does == never_read_descriptors;
 	int status = is_stuck ? 0 : wl_display_flush(display) < 0;

@@ -5,6 +5,7 @@
 
 #include "../must.h"
 
+#include <dlfcn.h>
 #include <errno.h>
 #include <stdarg.h>
 #include <stdint.h>
@@ -138,6 +139,14 @@ static inline int new_descriptor(void)
 
 /* A signal ends a process that hangs after this many seconds: many times what it needs. */
 #define HANGS 240
+
+/* Limits what waits behind the socket, if the library is newer than libwayland 1.21, which has a limit of its own. */
+static inline void limit_waiting(void *display, size_t most)
+{
+	void *found = dlsym(RTLD_DEFAULT, "wl_display_set_max_buffer_size");
+	if (found)
+		(*(void (**)(void *, size_t))&found)(display, most);
+}
 
 /* A log handler that prints nothing. */
 static inline void quiet(const char *format, va_list list)
