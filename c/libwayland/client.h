@@ -48,6 +48,7 @@ struct wl_proxy {
 	struct wl_list queue_link;      /* in the queue's `proxies`; null if it is not attached */
 
 	waywire_object handle; /* its object at the client; id 0 if there is none */
+	const struct known_interface *known; /* its interface; null if it never had an object. Read without the lock */
 	bool is_shown;         /* a listener had it as an argument */
 	bool gets_descriptors; /* if messages are printed: whether its events can have any. Known once it is destroyed */
 	bool is_held;          /* the client has it as the user's pointer of its object */
@@ -70,11 +71,13 @@ struct backlog {
 /* An interface that agrees with the tables, as it was when that was found out. A plug-in may be
  * unloaded, and another interface lie at its address. */
 struct known_interface {
+	struct known_interface *next; /* in its bucket */
 	const struct wl_interface *at;
 	struct wl_interface was;
+	struct signature signatures[]; /* those of the requests, and then those of the events */
 };
 
-#define KNOWN_INTERFACES 512
+#define KNOWN_BUCKETS 256
 
 struct wl_display {
 	struct wl_proxy proxy; /* first, since a display is a proxy, too */
@@ -93,7 +96,7 @@ struct wl_display {
 	int reader_count;     /* threads that have prepared to read */
 	uint32_t read_serial; /* goes on whenever those that wait for a reader are woken */
 	int deleted_count;    /* delete_id that were read, and that no dispatch has counted */
-	struct known_interface known[KNOWN_INTERFACES];
+	struct known_interface *known[KNOWN_BUCKETS];
 };
 
 /* ---- tables (tables.c) */
@@ -102,13 +105,24 @@ struct wl_display {
 bool tables_make_client(struct wl_display *display, const waywire_sizes *sizes);
 
 /* Whether the client's tables agree with an interface: they have all its messages, with the same
- * arguments. If not, it says why on stderr. */
+ * arguments. Then it is known. Otherwise sets errno, and says why on stderr unless memory is lacking. */
 bool tables_agree(struct wl_display *display, const struct wl_interface *interface);
 
 /* Adds to the client's tables what they lack of an interface, and of all interfaces that its messages name. False
  * with errno if that cannot be, or if the interface contradicts the tables; then it has said why on stderr.
  * Reports become invalid. */
 bool tables_learn(struct wl_display *display, const struct wl_interface *interface);
+
+/* ---- known interfaces (known.c) */
+
+/* Finds an interface, as it is now. Null if it is not known. */
+const struct known_interface *known_find(struct wl_display *display,
+	const struct wl_interface *interface);
+
+/* Makes an interface known that agrees with the tables. False with errno. */
+bool known_add(struct wl_display *display, const struct wl_interface *interface);
+
+void known_drop(struct wl_display *display);
 
 /* ---- proxies (proxy.c) */
 
@@ -119,7 +133,7 @@ void proxy_attach(struct wl_proxy *proxy, struct wl_event_queue *queue);
 struct wl_proxy *proxy_create(struct wl_proxy *factory, const struct wl_interface *interface,
 	uint32_t version);
 
-/* Gives a proxy an object of the client. The display fails if there is no memory for that. */
+/* Gives a proxy of a known interface an object of the client. The display fails if there is no memory for that. */
 void proxy_give_object(struct wl_proxy *proxy, waywire_object object);
 
 /* Ends the client's reference to a proxy, if it has one: the object is gone. */
@@ -176,7 +190,7 @@ struct event {
 	uint32_t opcode;
 	bool was_delivered; /* its descriptors are the program's */
 	bool is_stray;      /* a delete_id of no object */
-	struct signature signature;
+	const struct signature *signature; /* of a known interface, or static */
 	union wl_argument args[]; /* behind them lie the arrays, and then the bytes */
 };
 

@@ -68,6 +68,8 @@ static void init_display(struct wl_display *display)
 	proxy_attach(proxy, &display->default_queue);
 	proxy->user_data = display;
 	proxy->references = 1;
+	if (!tables_agree(display, proxy->object.interface))
+		display_fail(display, errno);
 	proxy_give_object(proxy, waywire_end_display(display->client.end));
 }
 
@@ -77,6 +79,7 @@ static void free_display(struct wl_display *display)
 	waywire_end_free(display->client.end);
 	pthread_mutex_destroy(&display->mutex);
 	pthread_cond_destroy(&display->has_read);
+	known_drop(display);
 	free(display);
 }
 
@@ -85,6 +88,8 @@ EXPORT struct wl_display *wl_display_connect_to_fd(int fd)
 	log_read_debug();
 	struct wl_display *display = calloc(1, sizeof *display);
 	if (!display || !tables_make_client(display, &display_sizes)) {
+		if (display)
+			known_drop(display);
 		free(display);
 		waywire_socket_close(fd, NULL);
 		return NULL;

@@ -25,7 +25,7 @@
 /* ---- making and dropping them */
 
 /* Makes an event with room for `room` bytes after its arguments. Null with errno. `signature` is that of its
- * message. */
+ * message, and outlives the event. */
 static struct event *new_event(struct wl_proxy *proxy, const struct signature *signature,
 	uint32_t opcode, size_t room)
 {
@@ -38,21 +38,21 @@ static struct event *new_event(struct wl_proxy *proxy, const struct signature *s
 	event->opcode = opcode;
 	event->was_delivered = false;
 	event->is_stray = false;
-	event->signature = *signature;
+	event->signature = signature;
 	return event;
 }
 
 /* Whether an argument is a proxy, or null. */
 static bool is_object(const struct event *event, size_t index)
 {
-	return event->signature.letters[index] == 'o' || event->signature.letters[index] == 'n';
+	return event->signature->letters[index] == 'o' || event->signature->letters[index] == 'n';
 }
 
 static void free_event(struct event *event)
 {
-	for (size_t i = 0; i < event->signature.count; i++) {
+	for (size_t i = 0; i < event->signature->count; i++) {
 		union wl_argument *arg = &event->args[i];
-		if (event->signature.letters[i] == 'h' && !event->was_delivered)
+		if (event->signature->letters[i] == 'h' && !event->was_delivered)
 			close(arg->h);
 		if (is_object(event, i) && arg->o)
 			proxy_release((struct wl_proxy *)arg->o);
@@ -64,7 +64,7 @@ static void free_event(struct event *event)
 /* Makes null the arguments whose proxies the program has destroyed since they were read. */
 static void drop_destroyed(struct event *event)
 {
-	for (size_t i = 0; i < event->signature.count; i++) {
+	for (size_t i = 0; i < event->signature->count; i++) {
 		if (!is_object(event, i))
 			continue;
 		struct wl_proxy *proxy = (struct wl_proxy *)event->args[i].o;
@@ -79,9 +79,9 @@ static void drop_destroyed(struct event *event)
  * event names it. */
 static void destroy_made(const struct event *event)
 {
-	for (size_t i = 0; i < event->signature.count; i++) {
+	for (size_t i = 0; i < event->signature->count; i++) {
 		struct wl_proxy *made = (struct wl_proxy *)event->args[i].o;
-		if (event->signature.letters[i] != 'n' || !made || made->is_shown)
+		if (event->signature->letters[i] != 'n' || !made || made->is_shown)
 			continue;
 		int own = 2 + made->is_held; /* the program's, this event's and the client's */
 		if (made->references == own)
@@ -92,7 +92,7 @@ static void destroy_made(const struct event *event)
 /* Remembers that the program sees the proxies of an event. */
 static void show_proxies(const struct event *event)
 {
-	for (size_t i = 0; i < event->signature.count; i++)
+	for (size_t i = 0; i < event->signature->count; i++)
 		if (is_object(event, i) && event->args[i].o)
 			((struct wl_proxy *)event->args[i].o)->is_shown = true;
 }
@@ -160,17 +160,23 @@ struct sizes {
 	size_t arrays, bytes;
 };
 
-/* Reads the signature of the event that a report is for. False if the interface of its proxy has no such event,
- * or one with other arguments, because the tables were made from another struct. The tables allow null for more
- * arguments. */
-static bool read_event(const struct wl_proxy *proxy, const waywire_report *report,
-	struct signature *signature, struct sizes *sizes)
+/* The signature of the event that a report is for. Null if the interface of its proxy has no such event, because the
+ * tables were made from another struct. */
+static const struct signature *signature_of(const struct wl_proxy *proxy,
+	const waywire_report *report)
 {
-	const struct wl_interface *interface = proxy->object.interface;
+	const struct known_interface *known = proxy->known;
+	if (report->opcode >= (uint32_t)known->was.event_count)
+		return NULL;
+	return &known->signatures[known->was.method_count + (int)report->opcode];
+}
+
+/* Measures an event. False if its arguments are not those of the signature: the tables allow null for more. */
+static bool measure(const struct signature *signature, const waywire_report *report,
+	struct sizes *sizes)
+{
 	sizes->arrays = sizes->bytes = 0;
-	if (report->opcode >= (uint32_t)interface->event_count
-		|| !signature_read(signature, interface->events[report->opcode].signature)
-		|| signature->count != report->arg_count)
+	if (signature->count != report->arg_count)
 		return false;
 	for (size_t i = 0; i < signature->count; i++) {
 		const waywire_arg *arg = &report->args[i];
@@ -255,7 +261,7 @@ static void copy_argument(const struct wl_display *display, const waywire_arg *a
 static void limit_fixes(struct event *event)
 {
 	if (!event->proxy->is_registry || event->opcode != REGISTRY_GLOBAL
-		|| strcmp(event->args[GLOBAL_INTERFACE].s, "wl_fixes"))
+		|| event->signature->count <= GLOBAL_VERSION || strcmp(event->args[GLOBAL_INTERFACE].s, "wl_fixes"))
 		return;
 	if (event->args[GLOBAL_VERSION].u > 1)
 		event->args[GLOBAL_VERSION].u = 1;
@@ -267,10 +273,12 @@ static bool make_new(struct event *event, size_t index, waywire_object object)
 	struct wl_proxy *maker = event->proxy;
 	const struct wl_interface **types = event->message->types;
 	const struct wl_interface *interface = types ? types[index] : NULL;
-	if (!interface || !tables_agree(maker->display, interface)) {
+	if (!interface) {
 		errno = EINVAL;
 		return false;
 	}
+	if (!tables_agree(maker->display, interface))
+		return false;
 	struct wl_proxy *made = proxy_create(maker, interface, maker->version);
 	if (!made)
 		return false;
@@ -283,27 +291,27 @@ static bool make_new(struct event *event, size_t index, waywire_object object)
  * its descriptors are closed then. */
 static struct event *copy_message(struct wl_proxy *proxy, const waywire_report *report)
 {
-	struct signature signature;
+	const struct signature *signature = signature_of(proxy, report);
 	struct sizes sizes;
 	size_t new_index = WAYWIRE_MAX_ARGS;
-	if (!read_event(proxy, report, &signature, &sizes)) {
+	if (!signature || !measure(signature, report, &sizes)) {
 		log_line("%s@%u: event %u is none of its interface, or has a wrong null\n",
 			proxy->object.interface->name, proxy->object.id, report->opcode);
 		report_close_descriptors(report);
 		errno = EINVAL;
 		return NULL;
 	}
-	struct event *event = new_event(proxy, &signature, report->opcode,
+	struct event *event = new_event(proxy, signature, report->opcode,
 		sizes.arrays + sizes.bytes);
 	if (!event) {
 		report_close_descriptors(report);
 		return NULL;
 	}
-	union wl_argument *end = event->args + signature.count;
+	union wl_argument *end = event->args + signature->count;
 	struct behind behind = { (void *)end, (char *)end + sizes.arrays };
-	for (size_t i = 0; i < signature.count; i++) {
+	for (size_t i = 0; i < signature->count; i++) {
 		const waywire_arg *arg = &report->args[i];
-		copy_argument(proxy->display, arg, signature.letters[i], &behind,
+		copy_argument(proxy->display, arg, signature->letters[i], &behind,
 			&event->args[i]);
 		if (arg->kind == WAYWIRE_NEW)
 			new_index = i;
@@ -493,11 +501,11 @@ typedef void call_20(void *data, void *proxy, word, word, word, word, word, word
 static void call_listener(void (*function)(void), void *data, const struct event *event)
 {
 	word v[WAYWIRE_MAX_ARGS] = { 0 };
-	size_t count = event->signature.count;
+	size_t count = event->signature->count;
 	void *proxy = event->proxy;
 	for (size_t i = 0; i < count; i++) {
 		const union wl_argument *arg = &event->args[i];
-		char letter = event->signature.letters[i];
+		char letter = event->signature->letters[i];
 		bool is_pointer = letter == 's' || letter == 'a' || is_object(event, i);
 		v[i] = is_pointer ? (word)arg->s : arg->u;
 	}

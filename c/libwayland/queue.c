@@ -249,7 +249,8 @@ static void on_done(void *data, struct wl_proxy *callback, uint32_t serial)
 static struct wl_proxy *sync_in_queue(struct wl_display *display, struct wl_event_queue *queue)
 {
 	struct wl_proxy wrapper = { .object = display->proxy.object, .display = display,
-		.queue = queue, .is_wrapper = true, .handle = display->proxy.handle };
+		.queue = queue, .is_wrapper = true, .handle = display->proxy.handle,
+		.known = display->proxy.known };
 	return wl_proxy_marshal_flags(&wrapper, DISPLAY_SYNC, &wl_callback_interface, 0, 0, NULL);
 }
 

@@ -17,7 +17,8 @@ struct request {
 	struct wl_proxy *proxy; /* its target */
 	uint32_t opcode;
 	const struct wl_message *message; /* null if the interface has no such request */
-	struct signature signature;
+	const struct signature *signature;
+	struct signature own; /* of a proxy that never had an object */
 	union wl_argument *args;
 	struct wl_proxy *made; /* the proxy of the object that it makes; null if it makes none */
 	size_t new_index;      /* the argument that is the new object */
@@ -30,25 +31,36 @@ static bool is_of_bind(const struct signature *signature)
 		&& !memcmp(signature->letters, BIND_SIGNATURE, BIND_COUNT);
 }
 
-/* Finds the message of a request, and parses its signature. */
+/* The signature of a request. Null if the interface has no such request, or a malformed one. */
+static const struct signature *signature_of(struct request *request)
+{
+	const struct known_interface *known = request->proxy->known;
+	const struct wl_interface *interface = request->proxy->object.interface;
+	if (known)
+		return request->opcode < (uint32_t)known->was.method_count
+			? &known->signatures[request->opcode] : NULL;
+	if (!interface->methods || interface->method_count <= 0
+		|| request->opcode >= (uint32_t)interface->method_count)
+		return NULL;
+	const char *text = interface->methods[request->opcode].signature;
+	return text && signature_read(&request->own, text) ? &request->own : NULL;
+}
+
+/* Finds the message of a request, and its signature. */
 static void begin_request(struct request *request, struct wl_proxy *proxy, uint32_t opcode)
 {
-	const struct wl_interface *interface = proxy->object.interface;
+	static const struct signature none = { .count = 0 };
 	request->proxy = proxy;
 	request->opcode = opcode;
-	request->message = NULL;
-	request->signature.count = 0;
 	request->made = NULL;
 	request->is_bind = proxy->is_registry && opcode == REGISTRY_BIND;
-	if (!interface->methods || interface->method_count <= 0
-		|| opcode >= (uint32_t)interface->method_count)
-		return;
-	const struct wl_message *message = &interface->methods[opcode];
-	if (message->signature && signature_read(&request->signature, message->signature)
-		&& (!request->is_bind || is_of_bind(&request->signature)))
-		request->message = message;
-	else
-		request->signature.count = 0;
+	request->signature = signature_of(request);
+	if (!request->signature || (request->is_bind && !is_of_bind(request->signature))) {
+		request->message = NULL;
+		request->signature = &none;
+	} else {
+		request->message = &proxy->object.interface->methods[opcode];
+	}
 }
 
 /* ---- refusing */
@@ -103,10 +115,10 @@ static bool refuse_status(const struct request *request, waywire_status status)
 /* Finds the argument that is a new object. False if there is none. */
 static bool find_new(struct request *request)
 {
-	if (!request->signature.has_new)
+	if (!request->signature->has_new)
 		return false;
-	for (size_t i = 0; i < request->signature.count; i++)
-		if (request->signature.letters[i] == 'n') {
+	for (size_t i = 0; i < request->signature->count; i++)
+		if (request->signature->letters[i] == 'n') {
 			request->new_index = i;
 			return true;
 		}
@@ -201,7 +213,7 @@ static int convert_argument(char letter, bool nullable, const union wl_argument 
 /* Converts the arguments of a request to the client's form. Returns 0, or an errno. */
 static int convert(const struct request *request, waywire_arg out[WAYWIRE_MAX_ARGS])
 {
-	const struct signature *signature = &request->signature;
+	const struct signature *signature = request->signature;
 	for (size_t i = 0; i < signature->count; i++) {
 		int error = convert_argument(signature->letters[i], signature->nullable[i],
 			&request->args[i], &out[i]);
@@ -224,7 +236,7 @@ static waywire_status write_once(const struct request *request, const waywire_ar
 	const union wl_argument *given = request->args;
 	if (!request->is_bind)
 		return waywire_end_send(client.end, proxy->handle, (uint16_t)request->opcode, args,
-			request->signature.count, made, NULL);
+			request->signature->count, made, NULL);
 	return waywire_client_bind_unannounced(client, proxy->handle, given[BIND_NAME].u,
 		given[BIND_INTERFACE].s, given[BIND_VERSION].u, made);
 }
@@ -247,8 +259,8 @@ static void print_request(const struct request *request, const waywire_arg *args
 	union wl_argument printed_args[WAYWIRE_MAX_ARGS];
 	struct printed_message printed = { &request->proxy->object, request->message, printed_args,
 		made, true, false };
-	for (size_t i = 0; i < request->signature.count; i++)
-		if (request->signature.letters[i] == 'h')
+	for (size_t i = 0; i < request->signature->count; i++)
+		if (request->signature->letters[i] == 'h')
 			printed_args[i].h = (int32_t)args[i].u;
 		else
 			printed_args[i] = request->args[i];
@@ -268,7 +280,7 @@ static void send_request(const struct request *request)
 		return;
 	}
 	if (!write_request(request, args, &made)) {
-		close_duplicates(args, request->signature.count);
+		close_duplicates(args, request->signature->count);
 		return;
 	}
 	if (request->made)
@@ -383,7 +395,7 @@ static struct wl_proxy *make_listed(struct wl_proxy *proxy, uint32_t opcode,
 	struct request request;
 	union wl_argument args[WAYWIRE_MAX_ARGS];
 	begin_request(&request, proxy, opcode);
-	read_arguments(&request.signature, args, given);
+	read_arguments(request.signature, args, given);
 	return make_request(&request, interface, version, flags, args);
 }
 

@@ -234,38 +234,13 @@ static bool agrees(const waywire_tables *tables, const struct wl_interface *inte
 	return true;
 }
 
-static struct known_interface *place_of_known(struct wl_display *display,
-	const struct wl_interface *interface)
-{
-	uint32_t mixed = (uint32_t)((uintptr_t)interface >> 3) * 2654435761u;
-	return &display->known[mixed >> 8 & (KNOWN_INTERFACES - 1)];
-}
-
-static bool is_known(struct wl_display *display, const struct wl_interface *interface)
-{
-	const struct known_interface *known = place_of_known(display, interface);
-	const struct wl_interface *was = &known->was;
-	return known->at == interface && was->name == interface->name
-		&& was->methods == interface->methods && was->events == interface->events
-		&& was->method_count == interface->method_count
-		&& was->event_count == interface->event_count;
-}
-
-static void remember(struct wl_display *display, const struct wl_interface *interface)
-{
-	struct known_interface *known = place_of_known(display, interface);
-	known->at = interface;
-	known->was = *interface;
-}
-
 bool tables_agree(struct wl_display *display, const struct wl_interface *interface)
 {
-	if (is_known(display, interface))
+	if (known_find(display, interface))
 		return true;
-	if (!agrees(waywire_end_tables(display->client.end), interface))
-		return false;
-	remember(display, interface);
-	return true;
+	errno = EINVAL;
+	return agrees(waywire_end_tables(display->client.end), interface)
+		&& known_add(display, interface);
 }
 
 /* ---- a table text */
@@ -355,7 +330,7 @@ static bool reach(struct growth *growth, const struct wl_interface *interface)
 	for (size_t i = 0; i < growth->count; i++)
 		if (growth->reached[i].interface == interface)
 			return true;
-	if (is_known(growth->display, interface))
+	if (known_find(growth->display, interface))
 		return true;
 	if (growth->count == growth->room) {
 		size_t room = 2 * growth->room + 16;
@@ -514,12 +489,14 @@ static void end_growth(struct growth *growth)
 	free(growth->text.bytes);
 }
 
-/* Remembers the interfaces that the tables have completely, once they have the text. */
-static void remember_written(const struct growth *growth)
+/* Makes the interfaces known that the tables have completely, once they have the text. False with errno. */
+static bool add_written(const struct growth *growth)
 {
 	for (size_t i = 0; i < growth->count; i++)
-		if (growth->reached[i].is_written)
-			remember(growth->display, growth->reached[i].interface);
+		if (growth->reached[i].is_written
+			&& !known_add(growth->display, growth->reached[i].interface))
+			return false;
+	return true;
 }
 
 /* Whether a text was read. If not, sets errno, and says on stderr which line breaks which rule. */
@@ -555,19 +532,14 @@ static bool read_growth(const struct growth *growth, const struct wl_interface *
 
 bool tables_learn(struct wl_display *display, const struct wl_interface *interface)
 {
-	if (is_known(display, interface))
+	if (known_find(display, interface))
 		return true;
 	struct growth growth = { .display = display };
 	growth.tables = waywire_end_tables(display->client.end);
-	bool has_grown = write_growth(&growth, interface) && read_growth(&growth, interface);
-	if (has_grown)
-		remember_written(&growth);
+	bool has_grown = write_growth(&growth, interface) && read_growth(&growth, interface)
+		&& add_written(&growth);
 	end_growth(&growth);
-	if (has_grown && !tables_agree(display, interface)) {
-		errno = EINVAL;
-		return false;
-	}
-	return has_grown;
+	return has_grown && tables_agree(display, interface);
 }
 
 /* ---- the tables that every display begins with */
@@ -595,8 +567,11 @@ static waywire_tables *first_tables(struct wl_display *display, const waywire_ta
 	if (write_growth(&growth, &wl_data_device_manager_interface)) {
 		waywire_status status = waywire_tables_read(core, growth.text.bytes,
 			growth.text.length, &more, &line, &rule);
-		if (was_read(&growth.text, &wl_data_device_manager_interface, status, line, rule))
-			remember_written(&growth);
+		if (was_read(&growth.text, &wl_data_device_manager_interface, status, line, rule)
+			&& !add_written(&growth)) {
+			waywire_tables_free(more);
+			more = NULL;
+		}
 	}
 	end_growth(&growth);
 	return more;

@@ -142,6 +142,10 @@ def a_queue_is_destroyed_before_its_proxies(library):
         raise Failed(f"an event for a queue that is destroyed: status {ended.returncode}\n{ended.stderr[-600:]}")
 
 
+def the_signatures_of_an_interface_are_read_once(library):
+    library.succeeds([*checked_by_valgrind(*LEAKS), compiled("known")])
+
+
 def each_allocation_refused_in_turn(library):
     """A program ends only by an error of the display, and no descriptor stays open."""
     library.succeeds([compiled("memory")])
@@ -154,7 +158,8 @@ TESTS = (each_signature_reaches_its_listener, malformed_interfaces_end_in_an_err
          a_program_that_does_not_dispatch_an_error_hears_of_it,
          a_session_cut_or_changed_has_no_error_of_memory,
          lines_of_wayland_debug_are_those_of_libwayland, a_preloaded_library_has_proxies_of_its_own,
-         a_queue_is_destroyed_before_its_proxies, each_allocation_refused_in_turn)
+         a_queue_is_destroyed_before_its_proxies, the_signatures_of_an_interface_are_read_once,
+         each_allocation_refused_in_turn)
 LONG_TESTS = (eight_threads_for_long, a_session_cut_or_changed_at_each_byte_has_no_error_of_memory)
 
 
