@@ -298,7 +298,7 @@ static struct event *copy_message(struct wl_proxy *proxy, const waywire_report *
 		log_line("%s@%u: event %u is none of its interface, or has a wrong null\n",
 			proxy->object.interface->name, proxy->object.id, report->opcode);
 		report_close_descriptors(report);
-		errno = EINVAL;
+		errno = signature ? EINVAL : EFAULT; /* as in libwayland */
 		return NULL;
 	}
 	struct event *event = new_event(proxy, signature, report->opcode,

@@ -26,7 +26,8 @@ static size_t room_of(const waywire_end *end)
 	return is_debugging() ? waywire_end_in_room(end).bytes : 0;
 }
 
-/* Says what is wrong with a message that came. Returns -1 with errno. */
+/* Says what is wrong with a message that came. Returns -1 with errno: as in libwayland, EFAULT for an event that the
+ * interface does not have. */
 static int refuse(const waywire_report *report, waywire_status status)
 {
 	log_line("the compositor sent a wrong message: %s%s%s (byte %llu)\n",
@@ -34,7 +35,7 @@ static int refuse(const waywire_report *report, waywire_status status)
 		report->spelling ? waywire_strspelling(report->spelling) : "",
 		(unsigned long long)report->offset);
 	report_close_descriptors(report);
-	errno = EINVAL;
+	errno = status == WAYWIRE_FAULT_UNKNOWN_MESSAGE ? EFAULT : EINVAL;
 	return -1;
 }
 

@@ -84,9 +84,11 @@ def a_session_cut_at_each_byte_ends_as_libwayland_ends_it(library):
 
 def requests_and_events_at_their_limits(library):
     """The errors of libwayland for requests that are too long or have wrong arguments, and for a
-    compositor that reads nothing; events that libwayland refuses are refused."""
+    compositor that reads nothing; events that libwayland refuses are refused, and an event that the interface does
+    not have gets libwayland's error."""
     def is_wrong(ours, theirs):
-        if ours.split()[0].endswith("_event"):
+        kind = ours.split()[0]
+        if kind.endswith("_event") and kind != "opcode_event":
             return not WITH_FAULT.search(ours)
         return error_of(ours) != error_of(theirs)
     compare("limits", library, is_wrong)
@@ -146,6 +148,10 @@ def the_signatures_of_an_interface_are_read_once(library):
     library.succeeds([*checked_by_valgrind(*LEAKS), compiled("known")])
 
 
+def an_id_of_the_compositor_that_is_used_again(library):
+    library.succeeds([*checked_by_valgrind(), compiled("replaced")])
+
+
 def each_allocation_refused_in_turn(library):
     """A program ends only by an error of the display, and no descriptor stays open."""
     library.succeeds([compiled("memory")])
@@ -159,7 +165,7 @@ TESTS = (each_signature_reaches_its_listener, malformed_interfaces_end_in_an_err
          a_session_cut_or_changed_has_no_error_of_memory,
          lines_of_wayland_debug_are_those_of_libwayland, a_preloaded_library_has_proxies_of_its_own,
          a_queue_is_destroyed_before_its_proxies, the_signatures_of_an_interface_are_read_once,
-         each_allocation_refused_in_turn)
+         an_id_of_the_compositor_that_is_used_again, each_allocation_refused_in_turn)
 LONG_TESTS = (eight_threads_for_long, a_session_cut_or_changed_at_each_byte_has_no_error_of_memory)
 
 

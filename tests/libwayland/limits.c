@@ -314,6 +314,7 @@ static int play(const void *its)
 		send_wire(&wire, peer);
 	if (!is_stuck)
 		shutdown(peer, SHUT_WR);
+	errno = 0; /* if it is 0, the error of an unknown event in libwayland is EFAULT */
 	for (int turn = 0; !is_stuck && turn < 2000 && wl_display_dispatch(display) >= 0; turn++)
 		continue;
 	printf("%s %zu: flush %d, %zu bytes, error %s, %u events", cases[number].name,
