@@ -157,6 +157,7 @@ void waywire_connection_set_limits(waywire_connection *connection, size_t object
 	int milliseconds)
 {
 	connection->most_objects = objects;
+	connection->uncounted = 0;
 	connection->patience = milliseconds;
 }
 

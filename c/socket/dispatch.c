@@ -13,6 +13,9 @@
 /* While messages are read, this many bytes are sent in one go: the size of libwayland's buffer. */
 #define BATCH 4096
 
+/* While messages are read, the objects are counted once in so many. */
+#define COUNTED 32
+
 /* ---- writing */
 
 static int ended_before(const waywire_connection *connection)
@@ -172,6 +175,13 @@ static struct entry *take_entry(waywire_connection *connection, waywire_report *
 	return target;
 }
 
+/* Whether a report is the last of its target. */
+static bool is_last(const waywire_connection *connection, const waywire_report *report)
+{
+	return report->kind == WAYWIRE_DELETED || (connection->server.end
+		&& waywire_end_live(connection->end, report->target, NULL, NULL));
+}
+
 /* Calls the callback for one report, and ends the entry of its target if it is the last. */
 static void hear(waywire_connection *connection, waywire_report *report)
 {
@@ -196,9 +206,7 @@ static void hear(waywire_connection *connection, waywire_report *report)
 		if (connection->client.end)
 			destroy_made(connection, report->kind == WAYWIRE_DISCARDED);
 	}
-	bool is_last = report->kind == WAYWIRE_DELETED || (connection->server.end
-		&& waywire_end_live(end, report->target, NULL, NULL));
-	if (target && is_last && !target->is_ended)
+	if (target && !target->is_ended && is_last(connection, report))
 		entry_end(connection, target);
 	entry_release(target);
 }
@@ -241,8 +249,24 @@ static int is_ready(waywire_connection *connection)
 	return room;
 }
 
+/* Whether there are more objects than there may be. A message makes one at most, so they are counted again before
+ * there can be one too many. Callbacks may make others, which are counted 31 messages later at most. */
+static bool has_too_many(waywire_connection *connection)
+{
+	size_t most = connection->most_objects, count;
+	if (connection->uncounted) {
+		connection->uncounted--;
+		return false;
+	}
+	count = waywire_end_object_count(connection->end);
+	if (count > most)
+		return true;
+	connection->uncounted = most - count < COUNTED ? most - count : COUNTED - 1;
+	return false;
+}
+
 /* Ends a connection with too many objects; a server reports it to its client. */
-static int has_too_many(waywire_connection *connection)
+static int end_with_too_many(waywire_connection *connection)
 {
 	static const char text[] = "too many objects";
 	if (connection->server.end)
@@ -255,9 +279,8 @@ static int has_too_many(waywire_connection *connection)
 static int read_next(waywire_connection *connection)
 {
 	waywire_report report;
-	if (connection->most_objects
-		&& waywire_end_object_count(connection->end) > connection->most_objects)
-		return has_too_many(connection);
+	if (connection->most_objects && has_too_many(connection))
+		return end_with_too_many(connection);
 	int ready = is_ready(connection);
 	if (ready <= 0)
 		return ready;
@@ -291,6 +314,7 @@ static int read_all(waywire_connection *connection, int *count)
 	if (connection->failure.error)
 		return ended_before(connection);
 	connection->is_unread = true;
+	connection->uncounted = 0; /* the program may have made some */
 	while ((read = read_next(connection)) > 0)
 		++*count;
 	return read;
@@ -304,10 +328,10 @@ int waywire_connection_dispatch_pending(waywire_connection *connection)
 
 /* ---- waiting */
 
-/* The end of a period that begins now; below 0 if it has none. */
+/* The end of a period that begins now: 0, which is long ago, if it has no length, and below 0 if it has no end. */
 static int64_t end_of(int milliseconds)
 {
-	return milliseconds < 0 ? -1 : connection_moment() + milliseconds;
+	return milliseconds <= 0 ? milliseconds : connection_moment() + milliseconds;
 }
 
 /* How long poll may wait until a moment, and until the other end has not read for too long. */
@@ -328,6 +352,8 @@ static int left_until(const waywire_connection *connection, int64_t end)
 static int wait_until(waywire_connection *connection, int64_t end)
 {
 	bool reads = waywire_connection_wants_read(connection);
+	if (!end && reads) /* reading itself says whether something is there */
+		return waywire_connection_fill(connection);
 	struct pollfd polled = { connection->socket, 0, 0 };
 	if (reads)
 		polled.events |= POLLIN;

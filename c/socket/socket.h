@@ -65,6 +65,7 @@ struct waywire_connection {
 	bool is_blocked; /* the socket took no more */
 	int gone;        /* the errno of a client's flush after the compositor had closed the connection; else 0 */
 	size_t most_objects; /* 0: no limit */
+	size_t uncounted;    /* so many messages more are read before they are counted */
 	int64_t patience;    /* in milliseconds; below 0: no limit */
 	int64_t stuck_since; /* when the other end last took something; below 0: nothing is stuck */
 	waywire_failure failure; /* its error is 0 while the connection goes on */

@@ -18,9 +18,10 @@ struct parcel {
 	size_t control[CMSG_SPACE(MOST_OF_KERNEL * sizeof(int)) / sizeof(size_t)];
 };
 
+/* The control data, a kilobyte, are not cleared: the kernel reads and writes no more than `msg_controllen` of them. */
 static void begin_parcel(struct parcel *parcel, const waywire_part parts[2])
 {
-	memset(parcel, 0, sizeof *parcel);
+	memset(&parcel->message, 0, sizeof parcel->message);
 	for (int i = 0; i < 2; i++) {
 		parcel->parts[i].iov_base = parts[i].bytes;
 		parcel->parts[i].iov_len = parts[i].length;
@@ -42,6 +43,7 @@ ssize_t waywire_socket_send(int socket, const waywire_part parts[2], const int *
 	if (count) {
 		parcel.message.msg_control = parcel.control;
 		parcel.message.msg_controllen = CMSG_SPACE(count * sizeof *descriptors);
+		memset(parcel.control, 0, parcel.message.msg_controllen);
 		struct cmsghdr *header = CMSG_FIRSTHDR(&parcel.message);
 		header->cmsg_level = SOL_SOCKET;
 		header->cmsg_type = SCM_RIGHTS;

@@ -1,9 +1,10 @@
 /* How connections end: by errors, by faults, at an other end that goes or does not read, and by
- * limits; and calls that callbacks make. It is linked with `--wrap` for clock_gettime. */
+ * limits; and calls that callbacks make. It is linked with `--wrap` for clock_gettime and poll. */
 #define _GNU_SOURCE
 #include "connected.h"
 
 #include <errno.h>
+#include <poll.h>
 #include <pthread.h>
 #include <sys/wait.h>
 #include <time.h>
@@ -26,6 +27,16 @@ int __wrap_clock_gettime(clockid_t clock, struct timespec *time)
 	int failed = __real_clock_gettime(clock, time);
 	time->tv_sec += skipped;
 	return failed;
+}
+
+static int polls;
+
+int __real_poll(struct pollfd *polled, nfds_t count, int milliseconds);
+
+int __wrap_poll(struct pollfd *polled, nfds_t count, int milliseconds)
+{
+	polls++;
+	return __real_poll(polled, count, milliseconds);
 }
 
 /* ---- both ends */
@@ -268,13 +279,13 @@ static void strange_descriptors(void)
 	begin(NULL);
 	for (int i = 0; i < WAYWIRE_SOCKET_DESCRIPTORS; i++)
 		descriptors[i] = new_descriptor(1);
-	/* 256 tokens find room: nine times 28 */
-	for (int i = 0; i < 10; i++) {
+	/* 256 tokens find room. After nine times 28 nothing more could be read. */
+	for (int i = 0; i < 9; i++) {
 		parts[0].bytes = (char *)begun + i;
 		MUST(waywire_socket_send(waywire_connection_fd(client), parts, descriptors,
 			WAYWIRE_SOCKET_DESCRIPTORS) == 1);
 		int read = waywire_connection_dispatch(server, 0);
-		MUST(i < 9 ? !read : read == -1 && errno == EPROTO);
+		MUST(i < 8 ? !read : read == -1 && errno == EPROTO);
 	}
 	for (int i = 0; i < WAYWIRE_SOCKET_DESCRIPTORS; i++)
 		close(descriptors[i]);
@@ -332,6 +343,18 @@ static void hold_back(void)
 	} while (waywire_connection_wants_read(server));
 	MUST(waywire_connection_wants_write(server) && !waywire_connection_dispatch(server, 0));
 	MUST(!waywire_connection_fill(server) && !waywire_connection_dispatch_pending(server));
+}
+
+/* A call that does not wait reads at once, without a poll. */
+static void reads_at_once(void)
+{
+	begin(NULL);
+	get_registry();
+	MUST(!waywire_connection_flush(client));
+	polls = 0;
+	MUST(waywire_connection_dispatch(server, 0) == 1 && !waywire_connection_dispatch(server, 0));
+	MUST(!polls && !waywire_connection_dispatch(server, 1) && polls);
+	end();
 }
 
 /* Takes all that comes at a socket until its end. */
@@ -625,6 +648,7 @@ int main(void)
 	too_many_descriptors();
 	not_sent();
 	does_not_read();
+	reads_at_once();
 	reads_on();
 	reads_slowly();
 	too_many_objects();

@@ -304,7 +304,7 @@ def connections(_program):
     makes is destroyed if nobody listens to the event."""
     checked = VALGRIND if can("connections under valgrind", "valgrind") else []
     for name in ("connections", "connection_ends", "unheard"):
-        more = [*wrapped("clock_gettime"), "-pthread"] if name == "connection_ends" else []
+        more = [*wrapped("clock_gettime", "poll"), "-pthread"] if name == "connection_ends" else []
         path = compiled(name, *more)
         run([path])
         run([*checked, path])
