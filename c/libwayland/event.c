@@ -115,6 +115,7 @@ static void put_in_queue(struct wl_event_queue *queue, struct event *event)
 		log_line("%s@%u: the queue of its event %s is destroyed\n",
 			event->proxy->object.interface->name, event->proxy->object.id,
 			event->message->name);
+		log_line("Tried to add event to destroyed queue\n"); /* the last line with libwayland */
 		abort();
 	}
 	wl_list_insert(queue->events.prev, &event->link);
@@ -261,7 +262,8 @@ static void copy_argument(const struct wl_display *display, const waywire_arg *a
 static void limit_fixes(struct event *event)
 {
 	if (!event->proxy->is_registry || event->opcode != REGISTRY_GLOBAL
-		|| event->signature->count <= GLOBAL_VERSION || strcmp(event->args[GLOBAL_INTERFACE].s, "wl_fixes"))
+		|| event->signature->count <= GLOBAL_VERSION
+		|| strcmp(event->args[GLOBAL_INTERFACE].s, "wl_fixes"))
 		return;
 	if (event->args[GLOBAL_VERSION].u > 1)
 		event->args[GLOBAL_VERSION].u = 1;
