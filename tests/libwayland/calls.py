@@ -97,7 +97,9 @@ def requests_and_events_at_their_limits(library):
 def a_compositor_that_stops_reading_and_reads_again(library):
     """Nothing that waits is lost. With a limit, a connection goes on if the socket takes some of what waits, and one
     that has ended returns from each call. libwayland 1.21 does none of this."""
-    library.succeeds([compiled("full")])
+    path = compiled("full")
+    for words in ([path], [*checked_by_valgrind(*LEAKS), path]):
+        library.succeeds(words)
 
 
 def a_program_that_does_not_dispatch_an_error_hears_of_it(library):
