@@ -148,7 +148,10 @@ waywire_connection *waywire_connection_connect(const waywire_tables *tables,
 
 /* A client's connection, and that of a server with one client, over a socket that is connected. The
  * connection closes the socket. Returns null with errno, ENOMEM or EINVAL as above; then the socket
- * is still the caller's. */
+ * is still the caller's.
+ * A server's connection announces its globals, and answers each wl_display.sync that no callback gets: done with
+ * the number of those that it has answered, and the end of the callback. To answer them itself, a program has a
+ * callback for the request `sync` of wl_display (waywire_connection_listen, _implement). */
 waywire_connection *waywire_connection_of_client(const waywire_tables *tables,
 	const waywire_sizes *sizes, int socket);
 waywire_connection *waywire_connection_of_server(const waywire_tables *tables,

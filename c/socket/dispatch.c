@@ -175,6 +175,15 @@ static struct entry *take_entry(waywire_connection *connection, waywire_report *
 	return target;
 }
 
+/* Answers a wl_display.sync that no callback has got, as libwayland's server does. There is room: half of the outbox
+ * was free before. */
+static void answer_sync(waywire_connection *connection, const waywire_report *report)
+{
+	if (report->interface == DISPLAY_INTERFACE && report->opcode == WAYWIRE_WL_DISPLAY_REQUEST_SYNC)
+		waywire_wl_callback_send_done(connection->server,
+			waywire_wl_callback_of(report->args[0].object), connection->serial++);
+}
+
 /* Whether a report is the last of its target. */
 static bool is_last(const waywire_connection *connection, const waywire_report *report)
 {
@@ -205,6 +214,8 @@ static void hear(waywire_connection *connection, waywire_report *report)
 		report_close_tokens(tokens, token_count);
 		if (connection->client.end)
 			destroy_made(connection, report->kind == WAYWIRE_DISCARDED);
+		else
+			answer_sync(connection, report);
 	}
 	if (target && !target->is_ended && is_last(connection, report))
 		entry_end(connection, target);

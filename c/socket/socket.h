@@ -54,6 +54,7 @@ struct waywire_connection {
 	waywire_client client; /* one of these two has the end, the other null */
 	waywire_server server;
 	waywire_amounts capacity; /* of the outbox */
+	uint32_t serial; /* how many syncs it has answered */
 
 	struct entry entries; /* the head of the ring */
 	size_t entry_count;

@@ -97,14 +97,6 @@ uint32_t milliseconds(void)
 
 /* ---- globals */
 
-static void on_sync(void *data, waywire_wl_display display, waywire_wl_callback callback)
-{
-	struct client *client = data;
-	must(waywire_wl_callback_send_done(client->server, callback, next_serial()));
-}
-
-static const struct waywire_wl_display_requests display_requests = { .sync = on_sync };
-
 static void send_output(struct client *client, waywire_wl_output output)
 {
 	waywire_server server = client->server;
@@ -137,7 +129,6 @@ static void on_bind(void *data, waywire_wl_registry registry, uint32_t name, con
 static const struct waywire_wl_registry_requests registry_requests = { .bind = on_bind };
 
 static const waywire_listener listeners[] = {
-	{ WAYWIRE_WL_DISPLAY_NAME, waywire_wl_display_request_dispatcher, &display_requests },
 	{ WAYWIRE_WL_REGISTRY_NAME, waywire_wl_registry_request_dispatcher, &registry_requests },
 };
 

@@ -28,7 +28,7 @@ static void on_sync(void *data, waywire_wl_display at, waywire_wl_callback callb
 	MUST(!waywire_wl_callback_send_done(events, callback, 0));
 }
 
-static const struct waywire_wl_display_requests display_requests = { .sync = on_sync };
+static const struct waywire_wl_display_requests display_requests = { .sync = on_sync }, no_requests;
 
 static void on_create_pool(void *data, waywire_wl_shm at, waywire_wl_shm_pool pool, int fd,
 	int32_t size)
@@ -173,6 +173,46 @@ static void round_trips(void)
 	MUST(!waywire_connection_roundtrip(client, 1));
 	turn(1, 2);
 	MUST(!answers && deleted == 1);
+	end_both();
+}
+
+static void must_answer(uint32_t *last)
+{
+	waywire_wl_callback callback;
+	MUST(!waywire_wl_display_sync(requests, display, &callback) && !waywire_connection_flush(client));
+	MUST(waywire_connection_dispatch(server, WAIT) == 1 && !waywire_connection_flush(server));
+	*last = UINT32_MAX;
+	MUST(waywire_connection_dispatch(client, 0) == 2 && *last != UINT32_MAX);
+	MUST(waywire_end_live(requests.end, callback.object, NULL, NULL));
+}
+
+static void on_done(void *data, waywire_wl_callback callback, uint32_t serial)
+{
+	(void)callback;
+	*(uint32_t *)data = serial;
+}
+
+/* A server answers a sync by itself, unless a callback gets it. */
+static void answers_syncs(void)
+{
+	static const struct waywire_wl_callback_events callback_events = { .done = on_done };
+	static const waywire_listener done = {
+		WAYWIRE_WL_CALLBACK_NAME, waywire_wl_callback_event_dispatcher, &callback_events };
+	waywire_listener own = { WAYWIRE_WL_DISPLAY_NAME, waywire_wl_display_request_dispatcher, &no_requests };
+	uint32_t last;
+	begin_both(NULL, NULL);
+	MUST(!waywire_connection_implement(client, &done, 1, &last));
+	must_answer(&last);
+	MUST(last == 0);
+	must_answer(&last);
+	MUST(last == 1);
+	MUST(!waywire_connection_implement(server, &own, 1, NULL)); /* its sync is null */
+	must_answer(&last);
+	MUST(last == 2);
+	own.calls = &display_requests;
+	MUST(!waywire_connection_implement(server, &own, 1, NULL));
+	must_answer(&last);
+	MUST(last == 0); /* that of on_sync */
 	end_both();
 }
 
@@ -488,6 +528,7 @@ int main(void)
 	int before = count_open();
 	waits();
 	round_trips();
+	answers_syncs();
 	own_loop();
 	data_of_client();
 	data_of_server();

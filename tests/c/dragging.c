@@ -18,14 +18,6 @@ static waywire_wl_data_device device;
 static waywire_wl_buffer attached;
 static waywire_wl_data_offer copied;
 
-static void on_sync(void *data, waywire_wl_display display, waywire_wl_callback callback)
-{
-	(void)data, (void)display;
-	MUST(!waywire_wl_callback_send_done(server, callback, 0));
-}
-
-static const struct waywire_wl_display_requests display_requests = { .sync = on_sync };
-
 static void on_get_toplevel(void *data, waywire_xdg_surface xdg_surface, waywire_xdg_toplevel toplevel)
 {
 	(void)data;
@@ -84,7 +76,6 @@ static void on_receive(void *data, waywire_wl_data_offer offer, const char *type
 static const struct ww_wl_data_offer_requests offer_requests = { .receive = on_receive };
 
 static const waywire_listener listeners[] = {
-	{ WAYWIRE_WL_DISPLAY_NAME, waywire_wl_display_request_dispatcher, &display_requests },
 	{ WAYWIRE_WL_SURFACE_NAME, waywire_wl_surface_request_dispatcher, &surface_requests },
 	{ WW_XDG_SURFACE_NAME, ww_xdg_surface_request_dispatcher, &xdg_surface_requests },
 	{ WW_WL_DATA_DEVICE_MANAGER_NAME, ww_wl_data_device_manager_request_dispatcher, &manager_requests },

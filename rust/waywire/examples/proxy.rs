@@ -173,7 +173,8 @@ impl Proxy {
     }
 
     fn read_client(&mut self) -> Result<(), Failure> {
-        while let Some(request) = self.client_side.next()? {
+        // The link itself would answer a sync, which is the compositor's to answer.
+        while let Some(request) = Server::next(&mut self.client_side)? {
             let passed = printed(request, &self.tables, Sender::Client);
             self.pass_request(&passed)?;
             self.client_side.announce()?;

@@ -8,13 +8,15 @@
 //! as long as its limit says. [`Listener::accept_next`] waits for a client. [`connect`] waits if the
 //! compositor has too many clients that it has not accepted. No other call waits.
 
-use crate::connection::{AsClient, Connection};
+use crate::args::Value;
+use crate::connection::{AsClient, AsServer, Connection};
 use crate::error::{NextError, SendError, TooSmall};
-use crate::report::{Incoming, ProtocolError};
+use crate::report::{Incoming, Message, ProtocolError, Request};
 use crate::sys::{self, Pollfd};
 use crate::tables::{Object, Tables};
 use crate::typed::EventHandler;
-use crate::wayland::wl_display::WlDisplay;
+use crate::wayland::wl_callback::WlCallback;
+use crate::wayland::wl_display::{self, WlDisplay};
 use std::env;
 use std::ffi::{OsStr, OsString};
 use std::fmt;
@@ -302,6 +304,10 @@ impl AsFd for Listener {
 pub struct Link<R> {
     pub(crate) end: Connection<R>,
     pub(crate) socket: UnixStream,
+    /// At a server: the callback of a sync that has no answer yet.
+    unanswered: Option<WlCallback>,
+    /// How many syncs were answered.
+    serial: u32,
 }
 
 impl<R> Deref for Link<R> {
@@ -380,7 +386,7 @@ impl<R> Link<R> {
         if !end.sizes.can_carry() {
             return Err(TooSmall);
         }
-        Ok(Link { end, socket })
+        Ok(Link { end, socket, unanswered: None, serial: 0 })
     }
 
     /// The end and the socket. This sends nothing, and closes nothing.
@@ -597,5 +603,66 @@ impl Link<AsClient> {
             }
         }
         Ok((count, has_ended))
+    }
+}
+
+impl Link<AsServer> {
+    /// Reads the next request, as [`Server::next`](crate::Server::next) does, and answers each
+    /// wl_display.sync itself, as libwayland's server does: `None` if no other request is whole. Before
+    /// the answer it [announces](crate::Server::announce) the globals. The callback gets the number of the
+    /// syncs that were answered.
+    ///
+    /// To answer them yourself, or to pass them on, read with `Server::next(&mut link)`.
+    ///
+    /// # Errors
+    ///
+    /// Those of `Server::next`. If there is no room for an answer, the link flushes; if there is none
+    /// then, it is [`OutFull`](NextError::OutFull), and the next call answers first.
+    // Not an iterator's: what it returns is lent from the server.
+    #[allow(clippy::should_implement_trait)]
+    pub fn next(&mut self) -> Result<Option<Request<'_>>, NextError> {
+        let display = self.end.display();
+        loop {
+            self.answer()?;
+            let Some(request) = self.end.next()? else { return Ok(None) };
+            self.unanswered = callback_of(&request, display);
+            if self.unanswered.is_none() {
+                return Ok(Some(Message::of(self.end.end.last_read())));
+            }
+        }
+    }
+
+    /// Answers the sync that was read last, if it has no answer yet.
+    fn answer(&mut self) -> Result<(), NextError> {
+        let Some(callback) = self.unanswered else { return Ok(()) };
+        if self.answered(callback) == Err(SendError::Full) {
+            // What is wrong with the socket, the caller's own flush says.
+            let _is_sent = self.flush();
+            if self.answered(callback) == Err(SendError::Full) {
+                return Err(NextError::OutFull);
+            }
+        }
+        // Any other error is one that `next` has too: the end has failed.
+        self.unanswered = None;
+        Ok(())
+    }
+
+    /// The registry of a request before the sync is told of the globals first.
+    fn answered(&mut self, callback: WlCallback) -> Result<(), SendError> {
+        self.end.announce()?;
+        callback.send_done(&mut self.end, self.serial)?;
+        self.serial = self.serial.wrapping_add(1);
+        Ok(())
+    }
+}
+
+/// The callback that a request makes, if it is the sync of wl_display.
+fn callback_of(request: &Request<'_>, display: Object) -> Option<WlCallback> {
+    if request.target() != display || request.opcode() != wl_display::request::SYNC {
+        return None;
+    }
+    match request.args().next() {
+        Some(Value::NewId(callback)) => Some(WlCallback(callback)),
+        _ => None,
     }
 }

@@ -17,8 +17,8 @@ use waywire::wayland::wl_callback::{self, WlCallback};
 use waywire::wayland::wl_display::{self, WlDisplay};
 use waywire::wayland::wl_registry::{self, WlRegistry};
 use waywire::{
-    Amounts, AsClient, AsServer, Client, InboxFull, Incoming, NextError, RequestHandler, SendError,
-    Server, Sizes, Tables,
+    Amounts, AsClient, AsServer, Client, InboxFull, Incoming, NextError, SendError, Server, Sizes,
+    Tables,
 };
 
 const SOON: Option<Duration> = Some(Duration::from_millis(20));
@@ -32,26 +32,11 @@ fn pair() -> (Link<AsClient>, Link<AsServer>) {
     (Link::new(client, its).unwrap(), Link::new(server, other).unwrap())
 }
 
-/// A server that answers each sync.
-struct Answering(Link<AsServer>);
-
-impl wl_display::Requests for Answering {
-    fn sync(&mut self, _: WlDisplay, callback: WlCallback) {
-        callback.send_done(&mut self.0, 7).unwrap();
-    }
-}
-
-waywire::request_handler!(Answering: wl_display);
-
-impl Answering {
-    /// Serves until the client goes.
-    fn run(&mut self) {
-        let tables = self.0.tables().clone();
-        while self.0.wait(LONG).unwrap() == Came::Something {
-            while let Some(mut request) = self.0.next().unwrap().map(|it| it.into_owned()) {
-                assert!(self.dispatch_request(&tables, &mut request));
-                self.0.announce().unwrap();
-            }
+/// Serves until the client goes. The link answers each sync.
+fn serve(server: &mut Link<AsServer>) {
+    while server.wait(LONG).unwrap() == Came::Something {
+        while server.next().unwrap().is_some() {
+            server.announce().unwrap();
         }
     }
 }
@@ -73,7 +58,7 @@ fn a_round_trip_dispatches() {
     let (mut client, mut server) = pair();
     let seat = server.tables().interface("wl_seat").unwrap();
     assert_eq!(server.add_global(seat, 1), Ok(1));
-    let server = thread::spawn(move || Answering(server).run());
+    let server = thread::spawn(move || serve(&mut server));
     let mut told = Told::default();
     WlDisplay(client.display()).get_registry(&mut client).unwrap();
     client.round_trip(&mut told, LONG).unwrap();
@@ -106,16 +91,62 @@ fn a_round_trip_makes_room() {
     let sizes = Sizes { out_bytes: 4096, ..Sizes::default() };
     let mut client = Link::new(Client::new(&tables, &sizes).unwrap(), its).unwrap();
     let server = Server::new(&tables, &Sizes::default()).unwrap();
-    let server = Link::new(server, other).unwrap();
+    let mut server = Link::new(server, other).unwrap();
     let display = WlDisplay(client.display());
     let callbacks: Vec<_> = (0..4096 / 12).map(|_| display.sync(&mut client).unwrap()).collect();
     assert_eq!(display.sync(&mut client), Err(SendError::Full));
-    let server = thread::spawn(move || Answering(server).run());
+    let server = thread::spawn(move || serve(&mut server));
     let mut done = Done::default();
     client.round_trip(&mut done, LONG).unwrap();
     assert!(done.0 == callbacks);
     drop(client);
     server.join().unwrap();
+}
+
+/// A server's link answers a sync once the registry of the request before has its globals. An answer without
+/// room is not forgotten.
+#[test]
+fn a_link_answers_syncs() {
+    let tables = Tables::core().unwrap();
+    let (its, other) = UnixStream::pair().unwrap();
+    let sizes = Sizes { out_bytes: 4096, ..Sizes::default() };
+    let mut client = Link::new(Client::new(&tables, &Sizes::default()).unwrap(), its).unwrap();
+    let mut server = Link::new(Server::new(&tables, &sizes).unwrap(), other).unwrap();
+    server.add_global(tables.interface("wl_seat").unwrap(), 1).unwrap();
+    let display = WlDisplay(client.display());
+    display.get_registry(&mut client).unwrap();
+    display.sync(&mut client).unwrap();
+    client.flush().unwrap();
+    assert_eq!(server.wait(LONG).unwrap(), Came::Something);
+    assert_eq!(server.next().unwrap().unwrap().opcode(), wl_display::request::GET_REGISTRY);
+    assert!(server.next().unwrap().is_none());
+    server.flush().unwrap();
+    let mut told = Told::default();
+    assert_eq!((client.dispatch(&mut told, LONG).unwrap(), &told.0[..]), (3, &[1][..]));
+    // The client reads nothing, until the socket takes no more.
+    let mut asked = 0;
+    let refused = loop {
+        asked += (0..200).filter(|_| display.sync(&mut client).is_ok()).count();
+        client.flush().unwrap();
+        server.fill().unwrap();
+        match server.next() {
+            Ok(read) => assert!(read.is_none()),
+            Err(why) => break why,
+        }
+    };
+    assert_eq!(refused, NextError::OutFull);
+    let mut done = Done::default();
+    while done.0.len() < asked {
+        client.flush().unwrap();
+        client.dispatch(&mut done, SOON).unwrap();
+        match server.next() {
+            Ok(None) => drop(server.fill().unwrap()),
+            Ok(Some(_)) => panic!("a sync has no other answer"),
+            Err(why) => assert_eq!(why, NextError::OutFull),
+        }
+        server.flush().unwrap();
+    }
+    assert_eq!(done.0.len(), asked);
 }
 
 /// Takes its time with each event.
@@ -167,7 +198,7 @@ fn waiting_ends_in_time() {
     let callback = WlDisplay(client.display()).sync(&mut client).unwrap();
     client.flush().unwrap();
     assert_eq!(server.wait(LONG).unwrap(), Came::Something);
-    assert!(server.next().unwrap().is_some());
+    assert!(Server::next(&mut server).unwrap().is_some());
     callback.send_done(&mut server, 0).unwrap();
     server.flush().unwrap();
     // The callback that has ended is not that of the round trip.
@@ -245,7 +276,7 @@ fn a_socket_that_takes_no_more_is_waited_for() {
     let reader = thread::spawn(move || {
         let mut came = 0;
         while came < syncs && server.wait(LONG).unwrap() == Came::Something {
-            while server.next().unwrap().is_some() {
+            while Server::next(&mut server).unwrap().is_some() {
                 came += 1;
                 // Nobody reads the answers.
                 let waits = server.goes(usize::MAX, 0).bytes;
@@ -296,7 +327,7 @@ fn a_link_is_taken_apart() {
     let mut client = Link::new(end, its).unwrap();
     assert!(client.flush().unwrap());
     assert_eq!(server.fill().unwrap(), Came::Something);
-    assert!(server.next().unwrap().is_some());
+    assert!(Server::next(&mut server).unwrap().is_some());
 }
 
 /// Descriptors that belong to no message fill the inbox, and the next call that fills says so.

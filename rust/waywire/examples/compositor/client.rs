@@ -13,8 +13,6 @@ use std::os::fd::OwnedFd;
 use std::os::unix::net::UnixStream;
 use std::time::Instant;
 use waywire::socket::Link;
-use waywire::wayland::wl_callback::WlCallback;
-use waywire::wayland::wl_display::{self, WlDisplay};
 use waywire::wayland::wl_output::{self, Mode, Subpixel, Transform, WlOutput};
 use waywire::wayland::wl_registry::{self, WlRegistry};
 use waywire::wayland::wl_seat::{self, Capability, WlSeat};
@@ -129,8 +127,7 @@ impl Client {
 }
 
 waywire::request_handler!(
-    Client: wl_display,
-    wl_registry,
+    Client: wl_registry,
     wl_shm,
     wl_shm_pool,
     wl_buffer,
@@ -146,13 +143,6 @@ waywire::request_handler!(
     wl_data_device,
     wl_data_offer,
 );
-
-impl wl_display::Requests for Client {
-    fn sync(&mut self, _: WlDisplay, callback: WlCallback) {
-        let sent = callback.send_done(&mut self.link, 0);
-        self.must(sent);
-    }
-}
 
 impl wl_registry::Requests for Client {
     fn bind(&mut self, _: WlRegistry, _: u32, interface: &[u8], _: u32, object: Object) {

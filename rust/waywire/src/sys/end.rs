@@ -593,6 +593,11 @@ impl End {
         Ok(&mut self.reading)
     }
 
+    /// The message that was read last, lent again.
+    pub fn last_read(&mut self) -> &mut Reading {
+        &mut self.reading
+    }
+
     /// The object that the message read last has replaced.
     pub fn replaced(&self) -> Option<Replaced> {
         self.reading.report.replaced()

@@ -192,8 +192,9 @@ impl End {
 /// The parts of a link, whose drop does not run.
 pub fn parts<R>(link: Link<R>) -> (Connection<R>, UnixStream) {
     let link = ManuallyDrop::new(link);
-    let Link { end, socket } = &*link;
-    // Safety: each part is moved out once, and the link is neither used nor dropped any more.
+    let Link { end, socket, .. } = &*link;
+    // Safety: each part is moved out once, and the link, whose other fields own nothing, is neither used nor
+    // dropped any more.
     unsafe { (ptr::read(end), ptr::read(socket)) }
 }
 
