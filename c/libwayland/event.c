@@ -115,7 +115,8 @@ static void put_in_queue(struct wl_event_queue *queue, struct event *event)
 		log_line("%s@%u: the queue of its event %s is destroyed\n",
 			event->proxy->object.interface->name, event->proxy->object.id,
 			event->message->name);
-		log_line("Tried to add event to destroyed queue\n"); /* a test of libwayland reads this line */
+		/* A test of libwayland reads this line. */
+		log_line("Tried to add event to destroyed queue\n");
 		abort();
 	}
 	wl_list_insert(queue->events.prev, &event->link);

@@ -1,5 +1,5 @@
 /* Runs a session in which one allocation fails, for each allocation in turn: that one alone, or with all
- * later ones. Prints a line for each after which a signal ended the process or a descriptor stayed open, and how
+ * later ones; and one that has no memory for what the socket does not take. Prints a line for each after which a signal ended the process or a descriptor stayed open, and how
  * many there are. */
 #define _GNU_SOURCE
 #define COUNT_CLOSES
@@ -10,6 +10,8 @@ extern void *__libc_malloc(size_t), *__libc_calloc(size_t, size_t), *__libc_real
 /* How many allocations succeed yet; below 0, all. */
 static long left = -1;
 static int for_ever, failed;
+/* Whether no allocation succeeds that is as large as an outbox. */
+static int no_large;
 
 static int fails(void)
 {
@@ -29,6 +31,10 @@ static int fails(void)
 /* The library's allocations come here, too. */
 void *malloc(size_t size)
 {
+	if (no_large && size > 60000) {
+		errno = ENOMEM;
+		return NULL;
+	}
 	return fails() ? NULL : __libc_malloc(size);
 }
 
@@ -106,9 +112,30 @@ static int play_all(void)
 	return wrong;
 }
 
+/* The compositor reads nothing, and there is no memory for what waits. */
+static void play_full(void)
+{
+	int before = count_open(), sockets[2];
+	make_pair(sockets);
+	struct wl_display *display = wl_display_connect_to_fd(sockets[0]);
+	MUST(display);
+	no_large = 1;
+	for (int count = 0; count < 1000000 && !wl_display_get_error(display); count++) {
+		struct wl_callback *callback = wl_display_sync(display);
+		if (callback)
+			wl_callback_destroy(callback);
+	}
+	no_large = 0;
+	MUST(wl_display_get_error(display) == ENOMEM);
+	wl_display_disconnect(display);
+	close(sockets[1]);
+	MUST(count_open() == before && !closed_twice);
+}
+
 int main(void)
 {
 	wl_log_set_handler_client(quiet);
+	play_full();
 	int wrong = play_all();
 	for_ever = 1;
 	wrong += play_all();
