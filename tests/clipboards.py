@@ -5,6 +5,7 @@ import contextlib
 import itertools
 import os
 import socket
+import struct
 import subprocess
 import tempfile
 import time
@@ -24,6 +25,9 @@ GIVEN = (0, 1, 3, 10, 30)
 DESCRIPTORS = 32
 WATCHED = 3
 USED = 0.1
+# The most clients of a compositor at a time. The layout of a wl_display.sync.
+CLIENTS = 64
+SYNC = "=IHHI"
 SMALL = "grüße\n".encode()
 # More than a pipe holds.
 LARGE = base64.b64encode(bytes(it * it % 251 for it in range(400_000)))
@@ -92,10 +96,11 @@ def end_of(said):
 
 @contextlib.contextmanager
 def kept_client(board):
-    """A client that asks for nothing: it keeps a compositor from ending with its last one. Notes whether the
-    compositor has stayed."""
+    """A client that asks once: it keeps a compositor from ending with its last one. Notes whether the compositor has
+    stayed."""
     with socket.socket(socket.AF_UNIX) as client:
         client.connect(board.path)
+        client.sendall(struct.pack(SYNC, 1, 0, 12, 2))
         has_come(lambda: has_client(board.path) or board.process.poll() is not None)
         try:
             yield
@@ -242,6 +247,29 @@ def bears_greedy_clients(program, *words):
         board.has(lambda: board.descriptors() == before, "that these clients are gone")
         run([program, board.path])
         board.has(lambda: board.descriptors() == before, "that all descriptors are closed")
+
+
+def idle_clients_give_way(*words):
+    """However many clients connect and ask for nothing, another is served, and goes on being served."""
+    with compositor(words, status=1) as board, contextlib.ExitStack() as opened:
+        def connect():
+            client = opened.enter_context(socket.socket(socket.AF_UNIX))
+            client.settimeout(PASSES)
+            client.connect(board.path)
+            return client
+
+        def is_answered(client, callback):
+            client.sendall(struct.pack(SYNC, 1, 0, 12, callback))
+            answer = client.recv(1000)
+            return answer[:4] == struct.pack("=I", callback)
+
+        asking = None
+        for callback in (2, 3):
+            for _ in range(CLIENTS):
+                connect()
+            asking = asking or connect()
+            if not is_answered(asking, callback):
+                raise Failed("a client is not served beside others that ask for nothing")
 
 
 class Entry:

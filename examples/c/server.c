@@ -36,7 +36,8 @@
 /* How long the loop waits at most, so that a client that reads nothing is given up in time. */
 #define IDLE 10000
 
-/* The most clients at a time; others wait. */
+/* The most clients at a time. Another takes the place of the oldest that has never sent a request; if all have, it
+ * waits. */
 #define MOST_CLIENTS 64
 
 /* If a client cannot be accepted, the next try comes within this many milliseconds. */
@@ -180,16 +181,6 @@ static void add_client(int socket)
 	client_count++;
 }
 
-/* Accepts a client that waits. Returns false if that fails, for example because the process has no
- * descriptor left; then the client still waits. */
-static bool accept_client(const waywire_listening_socket *listening)
-{
-	int socket = waywire_listening_socket_accept(listening);
-	if (socket >= 0)
-		add_client(socket);
-	return socket >= 0 || errno == EAGAIN;
-}
-
 /* Says why a client's connection has ended, unless the client has closed it. */
 static void report_end(const struct client *client)
 {
@@ -222,6 +213,40 @@ static void end_those_that_failed(void)
 		report_end(*link);
 		end_client(link);
 	}
+}
+
+/* The place in the list of the oldest client that has never sent a request; null if all have. */
+static struct client **find_idle(void)
+{
+	struct client **found = NULL;
+	for (struct client **link = &clients; *link; link = &(*link)->next)
+		if (!(*link)->has_asked)
+			found = link;
+	return found;
+}
+
+/* Whether another client can be served. */
+static bool has_place(void)
+{
+	return client_count < MOST_CLIENTS || find_idle();
+}
+
+/* Accepts a client that waits, if there is a place. Returns false if that fails, for example because the process has
+ * no descriptor left; then the client still waits. */
+static bool accept_client(const waywire_listening_socket *listening)
+{
+	if (!has_place())
+		return true;
+	int socket = waywire_listening_socket_accept(listening);
+	if (socket < 0)
+		return errno == EAGAIN;
+	if (client_count == MOST_CLIENTS) {
+		warnx("a client that has asked for nothing gives way to another");
+		has_ended_a_client = true;
+		end_client(find_idle());
+	}
+	add_client(socket);
+	return true;
 }
 
 /* ---- the loop */
@@ -257,7 +282,7 @@ static bool serve(const waywire_listening_socket *listening, int signals, int ti
 	}
 	if (pauses && timeout > PAUSE)
 		timeout = PAUSE;
-	if (pauses || client_count == MOST_CLIENTS)
+	if (pauses || !has_place())
 		polled[1].fd = -1; /* poll ignores it */
 	if (poll(polled, count, timeout) < 0 && errno != EINTR)
 		err(1, "poll");
@@ -265,7 +290,8 @@ static bool serve(const waywire_listening_socket *listening, int signals, int ti
 	for (struct client *client = clients; client; client = client->next) {
 		if (polled[count++].revents & ~POLLOUT)
 			waywire_connection_fill(client->connection);
-		waywire_connection_dispatch_pending(client->connection);
+		if (waywire_connection_dispatch_pending(client->connection) > 0)
+			client->has_asked = true;
 	}
 	end_those_that_failed();
 	pauses = polled[1].revents && !accept_client(listening);

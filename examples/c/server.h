@@ -25,6 +25,7 @@ struct client {
 	waywire_object keyboards[MOST_DEVICES], pointers[MOST_DEVICES];
 	struct window window; /* the last one that has shown a picture */
 	bool is_stuck;        /* it has no room for an event, since it does not read */
+	bool has_asked;       /* it has sent a request */
 };
 
 /* ---- server.c */

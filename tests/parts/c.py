@@ -462,6 +462,10 @@ def greedy_clients_at_our_compositor(_program):
     clipboards.bears_greedy_clients(compiled("greedy", "-I", OUT), server, "--stay")
 
 
+def idle_clients_at_our_compositor(_program):
+    clipboards.idle_clients_give_way(example("server"), "--stay")
+
+
 def gtk_copies_and_pastes_at_our_compositor(_program):
     clipboards.serves_gtk([example("client"), "--paste"], *example_server())
 
@@ -605,7 +609,7 @@ TESTS_IN_ORDER = (header_is_c99_and_cpp, every_message_goes_by_its_stub,
                   sockets_are_those_of_libwayland, libwayland_at_our_server, compositor,
                   client_of_weston_at_our_compositor, client_of_gtk_at_our_compositor,
                   texts_at_our_compositor, clients_go_at_our_compositor, much_at_our_clipboard,
-                  greedy_clients_at_our_compositor,
+                  greedy_clients_at_our_compositor, idle_clients_at_our_compositor,
                   gtk_copies_and_pastes_at_our_compositor, foot_copies_at_our_compositor,
                   windows_copy_and_paste_at_our_compositor, client_pastes_at_our_compositor,
                   client_pastes_during_a_drag, client_pastes_at_sway,

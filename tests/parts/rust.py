@@ -206,6 +206,10 @@ def greedy_clients_at_our_compositor():
     clipboards.bears_greedy_clients(program, compositor)
 
 
+def idle_clients_at_our_compositor():
+    clipboards.idle_clients_give_way(example("compositor"))
+
+
 def gtk_copies_and_pastes_at_our_compositor():
     clipboards.serves_gtk([example("paste")], example_with_data_control())
 
@@ -416,7 +420,7 @@ TESTS_IN_ORDER = (lints, tests, every_message_goes_by_its_typed_call, documentat
                   documentation_without_the_library, examples_outside_the_repository, no_error_under_valgrind,
                   window_at_our_compositor, client_of_weston_at_our_compositor, client_of_gtk_at_our_compositor,
                   texts_at_our_compositor, clients_go_at_our_compositor, much_at_our_clipboard,
-                  greedy_clients_at_our_compositor,
+                  greedy_clients_at_our_compositor, idle_clients_at_our_compositor,
                   gtk_copies_and_pastes_at_our_compositor, foot_copies_at_our_compositor,
                   client_pastes_at_our_compositor, client_pastes_during_a_drag, client_pastes_at_sway,
                   compositor_without_data_control,

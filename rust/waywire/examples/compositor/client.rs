@@ -13,6 +13,7 @@ use std::os::fd::OwnedFd;
 use std::os::unix::net::UnixStream;
 use std::time::Instant;
 use waywire::socket::Link;
+use waywire::wayland::wl_display;
 use waywire::wayland::wl_output::{self, Mode, Subpixel, Transform, WlOutput};
 use waywire::wayland::wl_registry::{self, WlRegistry};
 use waywire::wayland::wl_seat::{self, Capability, WlSeat};
@@ -34,6 +35,9 @@ const GLOBALS: &[(&str, u32)] = &[
     (data_control::MANAGER, 1),
 ];
 
+/// The most objects of a client: as many as a server's connection in C allows.
+const MOST_OBJECTS: usize = 50_000;
+
 /// Counts all clients that came.
 pub type ClientId = u64;
 
@@ -54,6 +58,8 @@ pub struct Client {
     pub board: Board,
     /// What the last request leaves to be done.
     pub action: Option<Action>,
+    /// Whether it has sent anything.
+    pub has_asked: bool,
     /// Why the client is to be ended.
     pub failure: Option<Failure>,
     began: Instant,
@@ -74,6 +80,7 @@ impl Client {
             seat: Seat::default(),
             board: Board::default(),
             action: None,
+            has_asked: false,
             failure: None,
             began,
             serial: 0,
@@ -103,6 +110,11 @@ impl Client {
 
     /// Reads one request, if one has come.
     pub fn serve_next(&mut self) -> Result<bool, Failure> {
+        if self.link.object_count() > MOST_OBJECTS {
+            let display = self.link.display();
+            self.link.post_error(display, wl_display::Error::NO_MEMORY.0, "too many objects")?;
+            return Err("it has too many objects".into());
+        }
         let Some(mut request) = self.link.next()?.map(|it| it.into_owned()) else {
             return Ok(false);
         };

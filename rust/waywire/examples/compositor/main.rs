@@ -2,11 +2,12 @@
 //! copy and paste, and prints the first pixel of each picture that they commit. Once a window has
 //! shown a picture, the compositor plays a script at it.
 //!
-//!     compositor NAME [SCRIPT]
+//!     compositor [--stay] NAME [SCRIPT]
 //!
 //! The name is that of its socket in XDG_RUNTIME_DIR, or a path that begins with a slash. The
 //! compositor ends with its last client. Its exit status is 1 if it has ended a client, for example
-//! for a request that breaks a rule.
+//! for a request that breaks a rule. With --stay it runs until a signal ends it; its socket is then
+//! left behind, and the next server with this name replaces it.
 //!
 //! The script is a file with one event per line, which may grow while it is played: `key CODE` and
 //! `button CODE` press and release what has that number in linux/input-event-codes.h, `modifiers
@@ -33,6 +34,7 @@ use client::{Action, Client, ClientId};
 use clipboard::Selection;
 use seat::Script;
 use std::collections::BTreeMap;
+use std::ffi::OsString;
 use std::io;
 use std::os::fd::AsFd;
 use std::path::Path;
@@ -48,7 +50,8 @@ include!(concat!(env!("OUT_DIR"), "/wlr_data_control_unstable_v1.rs"));
 
 /// The time between two lines of the script.
 const STEP: Duration = Duration::from_millis(100);
-/// The most clients at a time. Others wait.
+/// The most clients at a time. Another takes the place of the oldest that has never asked for
+/// anything; if all have, it waits.
 const MOST_CLIENTS: usize = 64;
 /// If a client cannot be accepted, the next try comes within this time.
 const PAUSE: Duration = Duration::from_secs(1);
@@ -94,10 +97,15 @@ impl Compositor {
         self.clients.get_mut(&id).expect("a client that is still there")
     }
 
-    /// Serves clients until none is left of those that came.
-    fn run(&mut self, listener: &Listener, mut script: Option<Script>) -> Result<(), Failure> {
+    /// Serves clients until none is left of those that came, or without an end.
+    fn run(
+        &mut self,
+        listener: &Listener,
+        mut script: Option<Script>,
+        stays: bool,
+    ) -> Result<(), Failure> {
         let limit = script.as_ref().map(|_| STEP);
-        while self.next_id == 0 || !self.clients.is_empty() {
+        while stays || self.next_id == 0 || !self.clients.is_empty() {
             self.serve(listener, limit)?;
             self.settle();
             if let (Some(script), Some(id)) = (&mut script, self.focus) {
@@ -119,7 +127,7 @@ impl Compositor {
             client.flush();
         }
         let links = self.clients.values().map(|it| it.link.awaited());
-        let accepts = ids.len() < MOST_CLIENTS && !self.pauses;
+        let accepts = self.has_place() && !self.pauses;
         let awaited = links.chain(accepts.then(|| (listener.as_fd(), false)));
         let limit = if self.pauses { Some(limit.unwrap_or(PAUSE).min(PAUSE)) } else { limit };
         let ready = socket::wait_many(awaited, limit)?;
@@ -134,8 +142,10 @@ impl Compositor {
 
     /// Reads all requests that a client has sent.
     fn serve_client(&mut self, id: ClientId) -> Result<(), Failure> {
-        if self.client(id).link.fill()? == Came::End {
-            return Err(io::Error::from(io::ErrorKind::UnexpectedEof).into());
+        match self.client(id).link.fill()? {
+            Came::End => return Err(io::Error::from(io::ErrorKind::UnexpectedEof).into()),
+            Came::Something => self.client(id).has_asked = true,
+            Came::Nothing => {}
         }
         while self.client(id).serve_next()? {
             match self.client(id).action.take() {
@@ -148,11 +158,27 @@ impl Compositor {
         Ok(())
     }
 
-    /// Takes in a client that waits. Returns false if that fails, for example because the process has
-    /// no descriptor left; then the client still waits.
+    /// The oldest client that has never asked for anything.
+    fn find_idle(&self) -> Option<ClientId> {
+        self.clients.iter().find(|(_, it)| !it.has_asked).map(|(id, _)| *id)
+    }
+
+    /// Whether another client can be served.
+    fn has_place(&self) -> bool {
+        self.clients.len() < MOST_CLIENTS || self.find_idle().is_some()
+    }
+
+    /// Takes in a client that waits, if there is a place. Returns false if that fails, for example
+    /// because the process has no descriptor left; then the client still waits.
     fn accept(&mut self, listener: &Listener) -> Result<bool, Failure> {
+        if !self.has_place() {
+            return Ok(true);
+        }
         match listener.accept() {
             Ok(socket) => {
+                if let (true, Some(id)) = (self.clients.len() >= MOST_CLIENTS, self.find_idle()) {
+                    self.client(id).fail("it has asked for nothing, and gives way to another");
+                }
                 self.clients.insert(self.next_id, Client::new(&self.tables, socket, self.began)?);
                 self.next_id += 1;
                 Ok(true)
@@ -188,12 +214,26 @@ impl Compositor {
     }
 }
 
-fn main() -> Result<ExitCode, Failure> {
-    let mut words = std::env::args_os().skip(1);
-    let name = words.next().ok_or("the socket's name is wanted")?;
-    let script = words.next().map(|it| Script::open(Path::new(&it))).transpose()?;
-    let listener = Listener::bind(Some(Path::new(&name)))?;
+/// Serves until the end. Returns whether it has ended a client.
+fn serve(words: &[OsString], stays: bool) -> Result<bool, Failure> {
+    let name = words.first().ok_or("the socket's name is wanted")?;
+    let script = words.get(1).map(|it| Script::open(Path::new(it))).transpose()?;
+    let listener = Listener::bind(Some(Path::new(name)))?;
     let mut compositor = Compositor::new()?;
-    compositor.run(&listener, script)?;
-    Ok(if compositor.has_ended_a_client { ExitCode::FAILURE } else { ExitCode::SUCCESS })
+    compositor.run(&listener, script, stays)?;
+    Ok(compositor.has_ended_a_client)
+}
+
+fn main() -> ExitCode {
+    let mut words: Vec<OsString> = std::env::args_os().skip(1).collect();
+    let stays = words.first().is_some_and(|it| it == "--stay");
+    words.drain(..usize::from(stays));
+    match serve(&words, stays) {
+        Ok(false) => ExitCode::SUCCESS,
+        Ok(true) => ExitCode::FAILURE,
+        Err(why) => {
+            eprintln!("compositor: {why}");
+            ExitCode::FAILURE
+        }
+    }
 }

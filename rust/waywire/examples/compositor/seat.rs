@@ -3,7 +3,7 @@
 use crate::client::{Client, ClientId};
 use crate::{Compositor, Failure, STEP};
 use std::fs::File;
-use std::io::{self, BufRead, BufReader};
+use std::io::{BufRead, BufReader};
 use std::mem;
 use std::path::Path;
 use std::str::FromStr;
@@ -193,9 +193,9 @@ pub struct Script {
 }
 
 impl Script {
-    pub fn open(path: &Path) -> io::Result<Script> {
-        let file = BufReader::new(File::open(path)?);
-        Ok(Script { file, line: String::new(), last: Instant::now() })
+    pub fn open(path: &Path) -> Result<Script, Failure> {
+        let file = File::open(path).map_err(|why| format!("{}: {why}", path.display()))?;
+        Ok(Script { file: BufReader::new(file), line: String::new(), last: Instant::now() })
     }
 
     /// The next line, if there is a whole one and a step has passed since the last.
