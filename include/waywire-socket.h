@@ -138,8 +138,9 @@ void waywire_socket_close(int socket, waywire_end *end);
 typedef struct waywire_connection waywire_connection;
 
 /* Connects a client to a compositor, as waywire_socket_connect. The tables may be freed afterwards.
- * `sizes` may be null: then the outbox and the inbox hold 65,536 bytes each, and 64 and 256 tokens. The
- * caller closes the connection.
+ * `sizes` may be null: then the outbox holds 65,536 bytes and 64 tokens, and the inbox 16,384 bytes and 256
+ * tokens, for which a connection allocates about 150 KB. With queues of 4,096 bytes it is 30 KB; then a callback
+ * has room for 2,048 bytes, and 16 KB that came at once take four reads more. The caller closes the connection.
  * Returns null with errno: as waywire_socket_connect; ENOMEM; EINVAL if no end has these sizes, if
  * the outbox cannot hold every message, or if the inbox has fewer tokens than
  * WAYWIRE_SOCKET_DESCRIPTORS and those of a message (48). */

@@ -12,9 +12,11 @@
 #define SERVER_OBJECTS 50000
 #define SERVER_PATIENCE 120000
 
-/* A libwayland whose buffers grow can send many descriptors before the bytes of their messages. Each one that
- * waits counts against the process's limit, often 1,024. */
-static const waywire_sizes usual_sizes = { 65536, 64, 65536, 256, WAYWIRE_USUAL_LIMIT };
+/* A callback may write half of the outbox, for example all formats of zwp_linux_dmabuf_v1. One read fills the inbox at
+ * most: libwayland's reads take 4,096 bytes, and a desktop's clients and compositors write less at once. A libwayland
+ * whose buffers grow can send many descriptors before the bytes of their messages. Each one that waits counts
+ * against the process's limit, often 1,024. */
+static const waywire_sizes usual_sizes = { 65536, 64, 16384, 256, WAYWIRE_USUAL_LIMIT };
 
 int64_t connection_moment(void)
 {

@@ -49,10 +49,11 @@ impl Sizes {
 }
 
 impl Default for Sizes {
-    /// 65,536 bytes for each queue, 64 tokens for the outbox and 256 for the inbox. That is enough for one
-    /// read of a socket, and for the descriptors that wait for the bytes of their messages: libwayland passes
-    /// 28 at once, and a newer one may do so several times before it sends those bytes.
+    /// 65,536 bytes and 64 tokens for the outbox, 16,384 bytes and 256 tokens for the inbox, as a
+    /// connection in C has. That is enough for one read of a socket, and for the descriptors that wait for
+    /// the bytes of their messages: libwayland passes 28 at once, and a newer one may do so several times
+    /// before it sends those bytes.
     fn default() -> Self {
-        Sizes { out_bytes: 65536, out_tokens: 64, in_bytes: 65536, in_tokens: 256, limit: 0 }
+        Sizes { out_bytes: 65536, out_tokens: 64, in_bytes: 16384, in_tokens: 256, limit: 0 }
     }
 }
