@@ -249,27 +249,34 @@ def bears_greedy_clients(program, *words):
         board.has(lambda: board.descriptors() == before, "that all descriptors are closed")
 
 
+def must_be_answered(client, callback):
+    """A client's sync, by the id of its callback."""
+    client.settimeout(PASSES)
+    client.sendall(struct.pack(SYNC, 1, 0, 12, callback))
+    if client.recv(1000)[:4] != struct.pack("=I", callback):
+        raise Failed("a client is not served")
+
+
+def asks_once(path):
+    with socket.socket(socket.AF_UNIX) as client:
+        client.connect(path)
+        must_be_answered(client, 2)
+
+
 def idle_clients_give_way(*words):
     """However many clients connect and ask for nothing, another is served, and goes on being served."""
     with compositor(words, status=1) as board, contextlib.ExitStack() as opened:
         def connect():
             client = opened.enter_context(socket.socket(socket.AF_UNIX))
-            client.settimeout(PASSES)
             client.connect(board.path)
             return client
-
-        def is_answered(client, callback):
-            client.sendall(struct.pack(SYNC, 1, 0, 12, callback))
-            answer = client.recv(1000)
-            return answer[:4] == struct.pack("=I", callback)
 
         asking = None
         for callback in (2, 3):
             for _ in range(CLIENTS):
                 connect()
             asking = asking or connect()
-            if not is_answered(asking, callback):
-                raise Failed("a client is not served beside others that ask for nothing")
+            must_be_answered(asking, callback)
 
 
 class Entry:

@@ -1,5 +1,5 @@
-/* Clients that ask the example compositor for more than it has: for events without room in an outbox, and for a
- * descriptor when none is left. It ends these clients, and goes on serving another one.
+/* Clients that ask the example compositor for more than it has: for events without room in an outbox, for too many
+ * surfaces, and for a descriptor when none is left. It ends these clients, and goes on serving another one.
  *
  *     greedy SOCKET */
 #define _GNU_SOURCE
@@ -15,6 +15,9 @@
 
 /* More descriptors than the compositor may open. */
 #define MOST_POOLS 64
+
+/* With these a client has more objects than it may. */
+#define SURFACES 50000
 
 struct side {
 	waywire_connection *connection;
@@ -121,6 +124,27 @@ static void test_devices(const char *path, struct side *other)
 	must_be_served(other);
 }
 
+/* ---- too many objects */
+
+static void test_surfaces(const char *path, struct side *other)
+{
+	struct side side;
+	waywire_wl_surface surface;
+	connect_side(&side, path);
+	for (int i = 0; i < SURFACES; i++) {
+		if (i % 1000 == 0)
+			waywire_connection_drain(side.connection, WAIT);
+		MUST(!waywire_wl_compositor_create_surface(side.client, side.compositor, &surface));
+	}
+	while (waywire_connection_dispatch(side.connection, WAIT) > 0)
+		;
+	const waywire_failure *failure = waywire_connection_failure(side.connection);
+	MUST(failure && failure->kind == WAYWIRE_ERROR);
+	MUST(failure->code == WAYWIRE_WL_DISPLAY_ERROR_NO_MEMORY);
+	waywire_connection_close(side.connection);
+	must_be_served(other);
+}
+
 /* ---- no descriptor */
 
 /* Whether a client that has given the compositor so many descriptors gets a keyboard, for which the compositor opens
@@ -160,6 +184,7 @@ int main(int argc, char **argv)
 	tables = core_and(text);
 	connect_side(&other, argv[1]);
 	test_devices(argv[1], &other);
+	test_surfaces(argv[1], &other);
 	test_descriptors(argv[1], &other);
 	waywire_connection_close(other.connection);
 	waywire_tables_free(tables);

@@ -210,6 +210,23 @@ def idle_clients_at_our_compositor():
     clipboards.idle_clients_give_way(example("compositor"))
 
 
+def compositor_that_stays():
+    """With --stay it serves a client after the last one has gone. It names a script that it cannot open."""
+    with tempfile.TemporaryDirectory() as folder:
+        path = os.path.join(folder, "wayland-test")
+        ours = Running([example("compositor"), "--stay", path], path)
+        try:
+            for _ in range(2):
+                clipboards.asks_once(path)
+                if has_come(lambda: ours.process.poll() is not None, 1):
+                    raise Failed(f"it has ended with its last client: {ours.output()!r}")
+        finally:
+            end(ours.process)
+        ran = subprocess.run([example("compositor"), path, f"{folder}/script"], env=environment(), capture_output=True)
+        if ran.returncode != 1 or f"{folder}/script: ".encode() not in ran.stderr:
+            raise Failed(f"it does not name the script: {ran.stderr!r}")
+
+
 def gtk_copies_and_pastes_at_our_compositor():
     clipboards.serves_gtk([example("paste")], example_with_data_control())
 
@@ -420,7 +437,7 @@ TESTS_IN_ORDER = (lints, tests, every_message_goes_by_its_typed_call, documentat
                   documentation_without_the_library, examples_outside_the_repository, no_error_under_valgrind,
                   window_at_our_compositor, client_of_weston_at_our_compositor, client_of_gtk_at_our_compositor,
                   texts_at_our_compositor, clients_go_at_our_compositor, much_at_our_clipboard,
-                  greedy_clients_at_our_compositor, idle_clients_at_our_compositor,
+                  greedy_clients_at_our_compositor, idle_clients_at_our_compositor, compositor_that_stays,
                   gtk_copies_and_pastes_at_our_compositor, foot_copies_at_our_compositor,
                   client_pastes_at_our_compositor, client_pastes_during_a_drag, client_pastes_at_sway,
                   compositor_without_data_control,
