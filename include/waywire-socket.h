@@ -181,9 +181,10 @@ waywire_status waywire_connection_add_global(waywire_connection *connection, con
 
 /* Limits what the other end can cost. A connection ends with EPROTO when it has more objects than this (a server
  * sends wl_display.error, no_memory), and with ETIMEDOUT when the other end has read nothing for this many
- * milliseconds while bytes wait for it. 0 objects and -1 milliseconds mean no limit. A server begins with 50,000
- * and 120,000, a client with no limits. The time is checked in flush and dispatch: while a connection
- * wants_write, a loop of one's own must not poll for longer. */
+ * milliseconds while bytes wait for it. Objects that callbacks make may be counted 31 messages later. 0 objects
+ * and -1 milliseconds mean no limit. A server begins with 50,000 and 120,000, a client with no limits. The time
+ * is checked in flush and dispatch: while a connection wants_write, a loop of one's own must not poll for
+ * longer. */
 void waywire_connection_set_limits(waywire_connection *connection, size_t objects,
 	int milliseconds);
 

@@ -389,7 +389,8 @@ impl<R> Link<R> {
         Ok(Link { end, socket, unanswered: None, serial: 0 })
     }
 
-    /// The end and the socket. This sends nothing, and closes nothing.
+    /// The end and the socket. This sends nothing, and closes nothing. At a server, a sync whose answer had
+    /// no room ([`OutFull`](NextError::OutFull)) stays without one.
     pub fn into_parts(self) -> (Connection<R>, UnixStream) {
         sys::parts(self)
     }
