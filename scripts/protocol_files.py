@@ -112,7 +112,7 @@ BY_HAND = {"cursor-shape": ("tablet",), "gtk-shell": (), "virtual-keyboard": ()}
 # The texts whose interfaces have a newer version in today's wayland-protocols than in the file. The newer
 # versions add values of enums and rules, and no message.
 RAISED = {"linux-dmabuf": 5, "xdg-shell": 7}
-# The files of which no text is made: protocols/README.md says why.
+# Files that get no text. protocols/README.md gives the reasons.
 WITHOUT_TEXT = {
     "wayland-protocols": ["unstable/xdg-shell/xdg-shell-unstable-v5.xml"],
     "plasma-wayland-protocols": ["keystate.xml", "screencast.xml"],

@@ -479,8 +479,7 @@ def end_is_not_said():
           "remarks")
     found, remarks = told(page_of_a_hang("cut", "# cut 3.940000\n"))
     holds(found[0].startswith("No frame came for 3.00 s."), found)
-    equal(remarks, ["The recording was cut after 3.94 s, where it would have been longer than 16 MiB. The session went "
-                    "on."], "remarks")
+    equal(remarks, ["The recording reached its limit of 16 MiB after 3.94 s and was cut. The session went on."], "remarks")
 
 
 def answer_after_seconds():

@@ -51,7 +51,7 @@ SYNC = "> 0100000000000c0002000000\n< 0200000000000c0007000000\n< 0100000001000c
 
 
 def read_case(path):
-    """The fields of a case: the words of its runs, status, where the output goes, and its texts."""
+    """The fields of a case: words, status, destination of the output, and texts."""
     case = {"words": [], "status": None, "output to": "us"}
     field, empty = None, 0
     with open(path, encoding="utf-8") as file:

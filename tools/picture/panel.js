@@ -134,8 +134,8 @@ class Panel {
         if (session.isTimed && verdict && verdict.ended === null && !leftOut) {
             said.push(verdict.cut === null
                 ? "This recording does not say when its session ended: the page ends with the last message."
-                : `The recording was cut after ${duration(verdict.cut * 1e6)}, where it would have been longer than `
-                    + "16 MiB. The session went on.");
+                : `The recording reached its limit of 16 MiB after ${duration(verdict.cut * 1e6)} and was cut. `
+                    + "The session went on.");
         }
         if (leftOut) {
             said.push(`The page ends before the recording does: ${several(leftOut, "message")} behind `

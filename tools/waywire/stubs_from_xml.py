@@ -81,8 +81,7 @@ RESERVED = set(
 )
 # Names that the functions have for themselves.
 OWN = {"client", "server", "args", "data", "report", "calls", "made"}
-# What stands behind `waywire_` in names of waywire.h and waywire-socket.h: each of one word, or with one of these
-# before the next.
+# The words that follow `waywire_` in the names of waywire.h and waywire-socket.h.
 LIBRARY = set(
     """arg client connection dispatch end fixed inspector is listening new no object recording report server socket
     tables""".split()
