@@ -37,9 +37,8 @@ use Rattle.theory_connection.specs.Meant.{born_of, birth_of, wire, tokens, made_
 use Rattle.theory_connection.specs.World.{World, Each, event_written}
 use Rattle.theory_connection.specs.Pair.{PairState, Announce, with_server, with_server_core}
 use Rattle.theory_connection.specs.Pair.{Announces, announced, refused}
-use Rattle.theory_connection.specs.Answers.{birth_at, mark_one, NotEnded, Owed, owed_by, mark_in, marks_of}
+use Rattle.theory_connection.specs.Answers.{birth_at, mark_one, Owed, owed_by, mark_in, marks_of}
 use Rattle.theory_connection.specs.Answers.{told_args, WritesThat, AnnouncesThose, none, more}
-use Rattle.theory_connection.specs.Answers.{before}
 use Rattle.theory_connection.specs.Flight.{IsBelow, Rows, server_rows, tells, all_tells}
 use Rattle.theory_connection.specs.Stands.{StandsBy, TellsFitly, IsGlobal}
 use Rattle.wl_connection.specs.Core.{max_globals}
@@ -61,6 +60,8 @@ use Rattle.theory_connection.proofs.EventWritten.{CanTell, told_core, tell_stand
 use Rattle.theory_connection.proofs.ServerSendMoves.{tells_world}
 use Rattle.theory_connection.proofs.Places.{place_there, name_text}
 use Rattle.theory_connection.proofs.Moves.{LeadsTo, Moves, goes_on, telling, event_below}
+use Rattle.theory_connection.specs.World.{Running}
+use Rattle.theory_connection.proofs.Errors.{before, server_lives}
 
 -- ---- which events can be owed
 
@@ -122,7 +123,7 @@ dues_of tables given v o (x ∷ os) a i h = (
   dues_of tables given v o os a i h.1,
 )
 
-all_due : (tables : List Interface) (given : List Global) (v : Objects) (rs : List Registry) → length given ≤ max_globals
+pub all_due : (tables : List Interface) (given : List Global) (v : Objects) (rs : List Registry) → length given ≤ max_globals
     → Each (IsGlobal tables) given → Aged v → ((o : Object) → IsAmong o rs → IsRegistry v o)
     → Each (IsDue tables given (server_rows v)) (owed_in given rs)
 all_due tables given v [] l g a i = tt
@@ -131,7 +132,7 @@ all_due tables given v (r ∷ rs) l g a i =
     (dues_of tables given v r.object (owed_to given r) a (i r.object (inl refl)) (owing_all tables given r l g))
     (all_due tables given v rs l g a (λ o h. i o (inr h)))
 
-each_take : {X : Type 0} (P : X → Type 0) (n : ℕ) (xs : List X) → Each P xs → Each P (take n xs)
+pub each_take : {X : Type 0} (P : X → Type 0) (n : ℕ) (xs : List X) → Each P xs → Each P (take n xs)
 each_take P zero xs h = tt
 each_take P (suc n) [] h = tt
 each_take P (suc n) (x ∷ xs) h = (h.0, each_take P n xs h.1)
@@ -214,7 +215,7 @@ due_births : (tables : List Interface) (o : Owing)
 due_births tables (Removal name) = refl
 due_births tables (Telling name g) = refl
 
-due_none : (tables : List Interface) (o : Owing) → made_in (due_args tables o) ≡ None
+pub due_none : (tables : List Interface) (o : Owing) → made_in (due_args tables o) ≡ None
 due_none tables (Removal name) = refl
 due_none tables (Telling name g) = refl
 
@@ -358,7 +359,7 @@ one_told st d = record st {
   registries = marked_in d st.registries;
 }
 
-core_is : (c : Core) (d : Due) (version : ℕ) → told_core c (due_message c.tables d version)
+pub core_is : (c : Core) (d : Due) (version : ℕ) → told_core c (due_message c.tables d version)
     ≡ with_sent c d.object.id (owed_opcode d.owing) (values_of c.tables d.owing) []
 core_is c d version = λ i. record c {
   view = opens_view c.view (option_map made_of (due_none c.tables d.owing i));
@@ -398,7 +399,9 @@ marked_stands p w asked told s d range = record {
   plain = s.plain;
   none_made = s.none_made;
   requests = s.requests;
+  behind = s.behind;
   events = s.events;
+  error = s.error;
   asks_counted = s.asks_counted;
   deletes_follow = s.deletes_follow;
   meet = s.meet;
@@ -417,21 +420,20 @@ pub record Told (p : PairState) (w : World) (asked : List (Message Known)) (earl
   pub news : List (Coming Known)
   pub added : told ≡ earlier ++ news
   pub below : Each (IsBelow (births_in (server_rows p.server.core.view))) (all_tells news)
-  pub not_ended : NotEnded after_all world
   pub announces : AnnouncesThose p.server.core.tables w (map owed_of ds) world
   pub stands_by : StandsBy after_all world asked told
 
 one_stands : (p : PairState) (w : World) (asked : List (Message Known)) (told : List (Coming Known))
     (s : StandsBy p w asked told) (d : Due) (i : IsDue p.server.core.tables p.server.globals
-    (server_rows p.server.core.view) d)
+    (server_rows p.server.core.view) d) → w.stage ≡ Running
     → let m = due_message p.server.core.tables d i.version in
     StandsBy (with_server p (one_told p.server d))
     (record (event_written w (renamed born_of m)) { registries = mark_in (owed_of d) w.registries }) asked
     (told ++ (Event m ∷ []))
-one_stands p w asked told s d i =
+one_stands p w asked told s d i z =
     let can = due_can p w asked told s d i in
     let m = due_message p.server.core.tables d i.version in
-    let t = tell_stands p w asked told s m can in
+    let t = tell_stands p w asked told s m can z in
     let c = core_is p.server.core d i.version in
     marked_stands (with_server_core p (with_sent p.server.core d.object.id (owed_opcode d.owing)
     (values_of p.server.core.tables d.owing) [])) (event_written w (renamed born_of m)) asked
@@ -441,11 +443,11 @@ one_stands p w asked told s d i =
 
 writes_due : (p : PairState) (w : World) (asked : List (Message Known)) (told : List (Coming Known))
     (s : StandsBy p w asked told) (d : Due) (i : IsDue p.server.core.tables p.server.globals
-    (server_rows p.server.core.view) d)
+    (server_rows p.server.core.view) d) → w.stage ≡ Running
     → WritesThat p.server.core.tables event_side w (birth_at d.object) (owed_opcode d.owing)
     (told_args p.server.core.tables d.owing) None
     (event_written w (renamed born_of (due_message p.server.core.tables d i.version)))
-writes_due p w asked told s d i =
+writes_due p w asked told s d i z =
     let can = due_can p w asked told s d i in
     let m = due_message p.server.core.tables d i.version in
     record {
@@ -460,11 +462,11 @@ writes_due p w asked told s d i =
       args_are = due_births p.server.core.tables d.owing;
       new_is = ap (option_map birth_of) (made_map born_of m.args
           ∙ ap (option_map born_of) (due_none p.server.core.tables d.owing));
-      steps = tells_world p w asked told s m can;
+      steps = tells_world p w asked told s m can z;
     }
 
 pub tell_all : (p : PairState) (w : World) (asked : List (Message Known)) (told : List (Coming Known))
-    → StandsBy p w asked told → NotEnded p w → (ds : List Due)
+    → StandsBy p w asked told → w.stage ≡ Running → (ds : List Due)
     → Each (IsDue p.server.core.tables p.server.globals (server_rows p.server.core.view)) ds
     → Told p w asked told ds (with_server p (record
     p.server { core = with_dues p.server.core ds; registries = all_marked ds p.server.registries }))
@@ -474,12 +476,11 @@ tell_all p w asked told s z [] i = record {
   news = [];
   added = sym (append-nil told);
   below = tt;
-  not_ended = z;
   announces = none;
   stands_by = s;
 }
 tell_all p w asked told s z (d ∷ ds) i =
-    let one = one_stands p w asked told s d i.0 in
+    let one = one_stands p w asked told s d i.0 z in
     let r = tell_all (with_server p (one_told p.server d)) _ asked _ one z ds i.1 in
     let can = due_can p w asked told s d i.0 in
     let m = due_message p.server.core.tables d i.0.version in
@@ -493,8 +494,7 @@ tell_all p w asked told s z (d ∷ ds) i =
           s.server.sets.below m can.target can.args
           (subst (IfThere (λ x. IsAmongFirst (births_in (server_rows p.server.core.view)) x.born.birth))
           (sym (due_none p.server.core.tables d.owing)) tt) tt) r.below;
-      not_ended = r.not_ended;
-      announces = more (writes_due p w asked told s d i.0) r.announces;
+      announces = more (writes_due p w asked told s d i.0 z) r.announces;
       stands_by = r.stands_by;
     }
 
@@ -505,7 +505,7 @@ only_sent c (d ∷ ds) = only_sent (with_sent c d.object.id (owed_opcode d.owing
 
 -- after an announcement the pair represents the next world
 pub announce_keeps : (p : PairState) (w : World) (asked : List (Message Known)) (told : List (Coming Known))
-    → StandsBy p w asked told → NotEnded p w → (reply : Result ℕ SendError) (p' : PairState) → Announces p reply p'
+    → StandsBy p w asked told → w.stage ≡ Running → (reply : Result ℕ SendError) (p' : PairState) → Announces p reply p'
     → Moves p w asked told Announce (Announce reply) p'
 announce_keeps p w asked told s z reply p' (announced {count = count} l f) =
     let ds = take count (owed p.server) in
@@ -521,7 +521,7 @@ announce_keeps p w asked told s z reply p' (announced {count = count} l f) =
       world = r.world;
       answers = before z (announced l f) (subst (λ (os : List Owed). AnnouncesThose p.server.core.tables w os r.world)
           (sym owes) r.announces);
-      outcome = goes_on asked r.told r.not_ended r.stands_by
+      outcome = goes_on asked r.told r.stands_by
           (subst (λ (l : List (Coming Known)). LeadsTo p asked told
           (with_server p (after_announce p.server count)) asked l) (sym r.added)
           (subst (λ (c : Core). LeadsTo p asked told
@@ -530,4 +530,4 @@ announce_keeps p w asked told s z reply p' (announced {count = count} l f) =
           (telling p.server.core.view (with_dues p.server.core ds).outbox
           (all_marked ds p.server.registries) r.news (λ k. omega arith) r.below)));
     }
-announce_keeps p w asked told s z reply p' (refused l) = absurd (cc (l, s.server.lives))
+announce_keeps p w asked told s z reply p' (refused l) = absurd (cc (l, server_lives s z))

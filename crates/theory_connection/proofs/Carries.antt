@@ -1,5 +1,5 @@
 -- Carrying from one end to the other.
-use Rattle.std.proofs.Common.{◌≡◌, ℕ, false, List, map, take, min, refl, sym, subst}
+use Rattle.std.proofs.Common.{◌≡◌, ℕ, false, List, [], map, take, min, refl, sym, subst}
 use Rattle.std.proofs.Common.{drop, length, length-append, arith, ◌-◌, ◌≤◌, ◌++◌, ◌∙◌, ap, Bool, true}
 use Rattle.std.specs.Prelude.{nat_le}
 use Rattle.std.proofs.lemmas.Bool.Decides.{nat_tests}
@@ -15,12 +15,13 @@ use Rattle.theory_connection.specs.World.{World}
 use Rattle.theory_connection.specs.Pair.{PairState, CarryToServer, CarryToClient, CarryOutcome, Carries}
 use Rattle.theory_connection.specs.Pair.{moved, no_memory, carries, carried_bytes, carried_tokens}
 use Rattle.theory_connection.specs.Pair.{after_carry_to_server, after_carry_to_client}
-use Rattle.theory_connection.specs.Answers.{NotEnded, before}
 use Rattle.theory_connection.specs.Stands.{StandsBy, InFlight}
 use Rattle.theory_connection.proofs.Channels.{carried, goes_there, goes_tokens, all_tokens_more}
 use Rattle.theory_connection.proofs.Moves.{Moves, goes_on, stays, carrying_to_server, carrying_to_client}
+use Rattle.theory_connection.specs.World.{Running, is_over}
+use Rattle.theory_connection.proofs.Errors.{before, client_does}
 
-flies : (o : Outgoing) (i : Arrived) (ms : List Sent) (b t : ℕ) → InFlight o i ms
+pub flies : (o : Outgoing) (i : Arrived) (ms : List Sent) (b t : ℕ) → InFlight o i ms
     → InFlight (after_taking o (goes o b t).bytes)
     (with_more i (take (goes o b t).bytes (waiting_bytes o)) (take (goes o b t).tokens (waiting_tokens o))) ms
 flies o i ms b t f =
@@ -41,12 +42,14 @@ to_server_stands p w asked told most s = record {
   none_made = s.none_made;
   requests = record {
     in_world = s.requests.in_world;
-    in_boxes = flies p.client.core.outbox p.server.core.inbox (map spelled_meant asked)
+    in_boxes = flies p.client.core.outbox p.server.core.inbox (map spelled_meant asked ++ [])
         (min most (in_room p.server.core).bytes) (in_room p.server.core).tokens s.requests.in_boxes;
     fit =
         s.requests.fit;
   };
+  behind = s.behind;
   events = s.events;
+  error = s.error;
   asks_counted = s.asks_counted;
   deletes_follow = s.deletes_follow;
   meet = s.meet;
@@ -65,9 +68,11 @@ to_client_stands p w asked told most s = record {
   plain = s.plain;
   none_made = s.none_made;
   requests = s.requests;
+  behind = s.behind;
+  error = s.error;
   events = record {
     in_world = s.events.in_world;
-    in_boxes = flies p.server.core.outbox p.client.core.inbox (map spelled_coming told)
+    in_boxes = flies p.server.core.outbox p.client.core.inbox (map spelled_coming told ++ s.behind)
         (min most (in_room p.client.core).bytes) (in_room p.client.core).tokens s.events.in_boxes;
     fit = s.events.fit;
   };
@@ -78,9 +83,9 @@ to_client_stands p w asked told most s = record {
   registries = s.registries;
 }
 
--- a carry to the server keeps a pair representing its world
+-- a carry to the server keeps a pair representing its world, while no error was posted
 pub carry_to_server_keeps : (p : PairState) (w : World) (asked : List (Message Known)) (told : List (Coming Known))
-    → StandsBy p w asked told → NotEnded p w → (most : ℕ) (reply : CarryOutcome) (p' : PairState)
+    → StandsBy p w asked told → w.stage ≡ Running → (most : ℕ) (reply : CarryOutcome) (p' : PairState)
     → Carries (carries p.client.core p.server.core most) p
     (after_carry_to_server p (carries p.client.core p.server.core most)) reply p'
     → Moves p w asked told (CarryToServer most) (CarryToServer reply) p'
@@ -88,25 +93,25 @@ carry_to_server_keeps p w asked told s z most reply p' moved =
     record {
       world = w;
       answers = before z moved refl;
-      outcome = goes_on asked told z (to_server_stands p w asked told most s) (carrying_to_server most);
+      outcome = goes_on asked told (to_server_stands p w asked told most s) (carrying_to_server most);
     }
 carry_to_server_keeps p w asked told s z most reply p' (no_memory h) =
-    record { world = w; answers = before z (no_memory h) refl; outcome = goes_on asked told z s stays }
+    record { world = w; answers = before z (no_memory h) refl; outcome = goes_on asked told s stays }
 
 -- a carry to the client keeps a pair representing its world
 pub carry_to_client_keeps : (p : PairState) (w : World) (asked : List (Message Known)) (told : List (Coming Known))
-    → StandsBy p w asked told → NotEnded p w → (most : ℕ) (reply : CarryOutcome) (p' : PairState)
+    → StandsBy p w asked told → is_over w.stage ≡ false → (most : ℕ) (reply : CarryOutcome) (p' : PairState)
     → Carries (carries p.server.core p.client.core most) p
     (after_carry_to_client p (carries p.server.core p.client.core most)) reply p'
     → Moves p w asked told (CarryToClient most) (CarryToClient reply) p'
 carry_to_client_keeps p w asked told s z most reply p' moved =
     record {
       world = w;
-      answers = before z moved refl;
-      outcome = goes_on asked told z (to_client_stands p w asked told most s) (carrying_to_client most);
+      answers = client_does z tt moved refl;
+      outcome = goes_on asked told (to_client_stands p w asked told most s) (carrying_to_client most);
     }
 carry_to_client_keeps p w asked told s z most reply p' (no_memory h) =
-    record { world = w; answers = before z (no_memory h) refl; outcome = goes_on asked told z s stays }
+    record { world = w; answers = client_does z tt (no_memory h) refl; outcome = goes_on asked told s stays }
 
 -- ---- everything that is carried is taken in
 

@@ -39,7 +39,7 @@ use Rattle.wl_server.specs.Requests.{was_advertised as bind_fits, name_fits}
 use Rattle.theory_connection.specs.Meant.{client_birth, Known, Message, Coming, renamed, born_of, born_of_entry}
 use Rattle.theory_connection.specs.World.{World, Open, Each, request_written}
 use Rattle.theory_connection.specs.Pair.{PairState, ClientBind, with_client, Writes, accepted, refused, no_memory}
-use Rattle.theory_connection.specs.Answers.{NotEnded, birth_at, before}
+use Rattle.theory_connection.specs.Answers.{birth_at}
 use Rattle.theory_connection.specs.Answers as answers
 use Rattle.theory_connection.specs.Flight.{client_rows, row_of_entry, as_row}
 use Rattle.theory_connection.specs.Stands.{StandsBy, WasGiven, IsGlobal}
@@ -58,6 +58,8 @@ use Rattle.theory_connection.proofs.Announces.{each_get}
 use Rattle.theory_connection.proofs.RequestWritten.{CanAsk, asked_core, ask_stands}
 use Rattle.theory_connection.proofs.ClientSendMove.{asks_world}
 use Rattle.theory_connection.proofs.Moves.{Moves, Outcome, goes_on, stays, asking}
+use Rattle.theory_connection.specs.World.{is_over}
+use Rattle.theory_connection.proofs.Errors.{client_does}
 
 -- ---- what follows from an accepted bind
 
@@ -299,7 +301,7 @@ left_by st entry target name iface version g e =
 
 -- after a bind by the client the pair represents the next world
 pub client_bind_keeps : (p : PairState) (w : World) (asked : List (Message Known)) (told : List (Coming Known))
-    → StandsBy p w asked told → NotEnded p w → (target : Object) (name : ℕ) (iface : List ℕ) (version : ℕ)
+    → StandsBy p w asked told → is_over w.stage ≡ false → (target : Object) (name : ℕ) (iface : List ℕ) (version : ℕ)
     → (reply : Result (Option Object) SendError) (p' : PairState)
     → Writes (bind_answer p.client target name iface version) true p
     (with_client p (after_bind p.client target name iface version)) reply p'
@@ -318,7 +320,7 @@ client_bind_keeps p w asked told s z target name iface version reply p' (accepte
     ≡ Some can.fitly.fits.signature) (sym s.terms.same_tables) can.fitly.fits.there in
     record {
       world = request_written w (renamed born_of m);
-      answers = before z (accepted h) (record {
+      answers = client_does z tt (accepted h) (record {
         message = renamed born_of m;
         is = record {
           signature = can.fitly.fits.signature;
@@ -336,7 +338,7 @@ client_bind_keeps p w asked told s z target name iface version reply p' (accepte
       outcome = subst (λ (x : client.State). Outcome p asked told (with_client p x)
           (request_written w (renamed born_of m)))
           (sym (left_by p.client b.entry target name iface version n.global n.there))
-          (goes_on (asked ++ m ∷ []) told z (ask_stands p w asked told s m can)
+          (goes_on (asked ++ m ∷ []) told (ask_stands p w asked told s m can)
           (asking m can (λ h. record {
             name = name;
             iface = iface;
@@ -351,6 +353,6 @@ client_bind_keeps p w asked told s z target name iface version reply p' (accepte
           })));
     }
 client_bind_keeps p w asked told s z target name iface version reply p' (refused h) =
-    record { world = w; answers = before z (refused h) refl; outcome = goes_on asked told z s stays }
+    record { world = w; answers = client_does z tt (refused h) refl; outcome = goes_on asked told s stays }
 client_bind_keeps p w asked told s z target name iface version reply p' (no_memory h o) =
-    record { world = w; answers = before z (no_memory h o) refl; outcome = goes_on asked told z s stays }
+    record { world = w; answers = client_does z tt (no_memory h o) refl; outcome = goes_on asked told s stays }

@@ -28,10 +28,10 @@ use Rattle.theory_connection.specs.World.{World, event_read, delete_read, reads_
 use Rattle.theory_connection.specs.World as world
 use Rattle.theory_connection.specs.Pair.{PairState, ClientNext, with_client, Nexts, answered, no_memory}
 use Rattle.theory_connection.specs.Pair.{no_memory_to_open}
-use Rattle.theory_connection.specs.Answers.{NotEnded, before, ReportsArgs, ReportsComing, NeedsMemory}
+use Rattle.theory_connection.specs.Answers.{ReportsArgs, ReportsComing, NeedsMemory}
 use Rattle.theory_connection.specs.Flight.{as_row}
 use Rattle.theory_connection.specs.Stands.{StandsBy}
-use Rattle.theory_connection.proofs.Channels.{pops, never_bad}
+use Rattle.theory_connection.proofs.Channels.{never_bad}
 use Rattle.theory_connection.proofs.EndedObject.{some_map}
 use Rattle.theory_connection.proofs.RowsAfterMessage.{tokens_map, made_map}
 use Rattle.theory_connection.proofs.ReadAsMeant.{AllMet, made_of, reports_right, tokens_taken}
@@ -41,6 +41,9 @@ use Rattle.theory_connection.proofs.EventRead.{InEvent, in_event, after_event, t
 use Rattle.theory_connection.proofs.EventRead.{event_answer, event_stands, event_mortal, InDelete}
 use Rattle.theory_connection.proofs.EventRead.{in_delete, after_delete, delete_answer}
 use Rattle.theory_connection.proofs.EventRead.{delete_stands, deleting}
+use Rattle.theory_connection.specs.World.{is_over}
+use Rattle.theory_connection.proofs.Errors.{client_does}
+use Rattle.theory_connection.proofs.ErrorRead.{error_keeps}
 
 -- ---- the report and the state left, if a message is found
 
@@ -133,7 +136,7 @@ reports_it p w m cs asked s n i =
     (rw i.tokens_are (reports_right p.client.core.tables event_side p.client.core.view w.client m.args i.more met)))
 
 keeps_event : (p : PairState) (w : World) (m : Message Known) (cs : List (Coming Known)) (asked : List (Message Known))
-    (s : StandsBy p w asked (Event m ∷ cs)) (n : ℕ) → NotEnded p w
+    (s : StandsBy p w asked (Event m ∷ cs)) (n : ℕ) → is_over w.stage ≡ false
     → in_front p.client.core.inbox ≡ Whole n → (i : InEvent p w m cs asked s n)
     → (reply : Result (Option Report) NextError) (p' : PairState)
     → (Nexts needs_memory (opens_in p) (next_answer p.client) p (with_client p (after_next p.client)) reply p')
@@ -145,47 +148,47 @@ keeps_event : (p : PairState) (w : World) (m : Message Known) (cs : List (Coming
     → Moves p w asked (Event m ∷ cs) ClientNext (ClientNext reply) p'
 keeps_event p w m cs asked s n z e i reply p' d answered opened = record {
   world = event_read p.client.core.tables w (renamed born_of m) (map (recoming born_of) cs);
-  answers = before z d (record {
+  answers = client_does z tt d (inl (record {
     waits = subst HasMessage (sym e) tt;
     coming = Event (renamed born_of m);
-    steps = reads_event (renamed born_of m) (map (recoming born_of) cs) s.events.in_world;
+    steps = reads_event (renamed born_of m) (map (recoming born_of) cs) z s.events.in_world;
     reports =
         reports_it p w m cs asked s n i;
-  });
-  outcome = goes_on asked cs z (event_stands p w m cs asked s n i (event_mortal p w m cs asked s n i))
+  }));
+  outcome = goes_on asked cs (event_stands p w m cs asked s n i (event_mortal p w m cs asked s n i))
       (reading_event m cs n i.target.entry refl e);
 }
 keeps_event p w m cs asked s n z e i reply p' d (no_memory_to_open q h) opened =
     record {
       world = w;
-      answers = before z d (record {
+      answers = client_does z tt d (inl (record {
         waits = subst HasMessage (sym e) tt;
         coming = Event (renamed born_of m);
         rest = map (recoming born_of) cs;
         first = s.events.in_world;
         because = inr (ap is_some (made_map born_of m.args) ∙ some_map born_of (made_in m.args) ∙ opened h);
         same = refl;
-      });
-      outcome = goes_on asked (Event m ∷ cs) z s stays;
+      }));
+      outcome = goes_on asked (Event m ∷ cs) s stays;
     }
 keeps_event p w m cs asked s n z e i reply p' d (no_memory {report = r} q h) opened =
     let same : report p.client.core (the_found n m i.target.entry s.events.fit.0.fits.signature) ≡ r = cc q in
     let needs = is_some_event w (renamed born_of m) _ (reports_it p w m cs asked s n i) (ap needs_memory same ∙ h) in
     record {
       world = w;
-      answers = before z d (record {
+      answers = client_does z tt d (inl (record {
         waits = subst HasMessage (sym e) tt;
         coming = Event (renamed born_of m);
         rest = map (recoming born_of) cs;
         first = s.events.in_world;
         because = needs;
         same = refl;
-      });
-      outcome = goes_on asked (Event m ∷ cs) z s stays;
+      }));
+      outcome = goes_on asked (Event m ∷ cs) s stays;
     }
 
 at_event : (p : PairState) (w : World) (m : Message Known) (cs : List (Coming Known)) (asked : List (Message Known))
-    (s : StandsBy p w asked (Event m ∷ cs)) (n : ℕ) → NotEnded p w
+    (s : StandsBy p w asked (Event m ∷ cs)) (n : ℕ) → is_over w.stage ≡ false
     → in_front p.client.core.inbox ≡ Whole n → (reply : Result (Option Report) NextError) (p' : PairState)
     → (Nexts needs_memory (opens_in p) (next_answer p.client) p (with_client p (after_next p.client)) reply p')
     → Moves p w asked (Event m ∷ cs) ClientNext (ClientNext reply) p'
@@ -206,8 +209,8 @@ at_event p w m cs asked s n z e reply p' d =
 -- ---- a delete
 
 keeps_delete : (p : PairState) (w : World) (x : Known) (cs : List (Coming Known)) (asked : List (Message Known))
-    (s : StandsBy p w asked (Delete x ∷ cs)) (n : ℕ) → NotEnded p w
-    → in_front p.client.core.inbox ≡ Whole n → (i : InDelete p x cs s.meet.middle n)
+    (s : StandsBy p w asked (Delete x ∷ cs)) (n : ℕ) → is_over w.stage ≡ false
+    → in_front p.client.core.inbox ≡ Whole n → (i : InDelete p x cs s.meet.middle s.behind n)
     → (reply : Result (Option Report) NextError) (p' : PairState)
     → (Nexts needs_memory (opens_in p) (next_answer p.client) p (with_client p (after_next p.client)) reply p')
     → Nexts needs_memory false (Ok (Some (reports.Deleted (record { id = x.id; birth = i.entry.birth })))) p
@@ -215,13 +218,13 @@ keeps_delete : (p : PairState) (w : World) (x : Known) (cs : List (Coming Known)
     → Moves p w asked (Delete x ∷ cs) ClientNext (ClientNext reply) p'
 keeps_delete p w x cs asked s n z e i reply p' d answered = record {
   world = delete_read w x.born (map (recoming born_of) cs);
-  answers = before z d (record {
+  answers = client_does z tt d (inl (record {
     waits = subst HasMessage (sym e) tt;
     coming = Delete x.born;
-    steps = reads_delete x.born (map (recoming born_of) cs) s.events.in_world;
+    steps = reads_delete x.born (map (recoming born_of) cs) z s.events.in_world;
     reports = ap birth_of i.same;
-  });
-  outcome = goes_on asked cs z (delete_stands p w x cs asked s n i) (reading_delete x cs n refl e);
+  }));
+  outcome = goes_on asked cs (delete_stands p w x cs asked s n i) (reading_delete x cs n refl e);
 }
 keeps_delete p w x cs asked s n z e i reply p' d (no_memory_to_open q h) = absurd (cc h)
 keeps_delete p w x cs asked s n z e i reply p' d (no_memory {report = r} q h) =
@@ -229,7 +232,7 @@ keeps_delete p w x cs asked s n z e i reply p' d (no_memory {report = r} q h) =
     absurd (cc (ap needs_memory same, h))
 
 at_delete : (p : PairState) (w : World) (x : Known) (cs : List (Coming Known)) (asked : List (Message Known))
-    (s : StandsBy p w asked (Delete x ∷ cs)) (n : ℕ) → NotEnded p w
+    (s : StandsBy p w asked (Delete x ∷ cs)) (n : ℕ) → is_over w.stage ≡ false
     → in_front p.client.core.inbox ≡ Whole n → (reply : Result (Option Report) NextError) (p' : PairState)
     → (Nexts needs_memory (opens_in p) (next_answer p.client) p (with_client p (after_next p.client)) reply p')
     → Moves p w asked (Delete x ∷ cs) ClientNext (ClientNext reply) p'
@@ -248,27 +251,26 @@ at_delete p w x cs asked s n z e reply p' d =
 -- ---- whatever is at the front
 
 at_whole : (p : PairState) (w : World) (asked : List (Message Known)) (told : List (Coming Known))
-    (s : StandsBy p w asked told) (n : ℕ) → NotEnded p w
+    (s : StandsBy p w asked told) (n : ℕ) → is_over w.stage ≡ false
     → in_front p.client.core.inbox ≡ Whole n → (reply : Result (Option Report) NextError) (p' : PairState)
     → (Nexts needs_memory (opens_in p) (next_answer p.client) p (with_client p (after_next p.client)) reply p')
     → Moves p w asked told ClientNext (ClientNext reply) p'
-at_whole p w asked [] s n z e reply p' d = absurd
-    (let q = pops p.server.core.outbox p.client.core.inbox [] n s.events.in_boxes e in cc q.is)
+at_whole p w asked [] s n z e reply p' d = error_keeps p w asked s n e reply p' d
 at_whole p w asked (Event m ∷ cs) s n z e reply p' d = at_event p w m cs asked s n z e reply p' d
 at_whole p w asked (Delete x ∷ cs) s n z e reply p' d = at_delete p w x cs asked s n z e reply p' d
 
 keeps_idle : (p : PairState) (w : World) (asked : List (Message Known)) (told : List (Coming Known))
-    (s : StandsBy p w asked told) → NotEnded p w → in_front p.client.core.inbox ≡ More
+    (s : StandsBy p w asked told) → is_over w.stage ≡ false → in_front p.client.core.inbox ≡ More
     → (reply : Result (Option Report) NextError) (p' : PairState)
     → (Nexts needs_memory (opens_in p) (next_answer p.client) p (with_client p (after_next p.client)) reply p')
     → Nexts needs_memory false (Ok None) p p reply p' → Moves p w asked told ClientNext (ClientNext reply) p'
 keeps_idle p w asked told s z e reply p' d answered =
-    record { world = w; answers = before z d (λ h. subst HasMessage e h, refl); outcome = goes_on asked told z s stays }
+    record { world = w; answers = client_does z tt d (λ h. subst HasMessage e h, refl); outcome = goes_on asked told s stays }
 keeps_idle p w asked told s z e reply p' d (no_memory q h) = absurd (cc q)
 keeps_idle p w asked told s z e reply p' d (no_memory_to_open q h) = absurd (cc h)
 
 at_front : (p : PairState) (w : World) (asked : List (Message Known)) (told : List (Coming Known))
-    (s : StandsBy p w asked told) → NotEnded p w
+    (s : StandsBy p w asked told) → is_over w.stage ≡ false
     → (reply : Result (Option Report) NextError) (p' : PairState)
     → (Nexts needs_memory (opens_in p) (next_answer p.client) p (with_client p (after_next p.client)) reply p')
     → (f : Front) → in_front p.client.core.inbox ≡ f → Moves p w asked told ClientNext (ClientNext reply) p'
@@ -284,7 +286,7 @@ at_front p w asked told s z reply p' d (Whole n) e = at_whole p w asked told s n
 
 -- after a read by the client the pair represents the next world
 pub client_next_keeps : (p : PairState) (w : World) (asked : List (Message Known)) (told : List (Coming Known))
-    → StandsBy p w asked told → NotEnded p w
+    → StandsBy p w asked told → is_over w.stage ≡ false
     → (reply : Result (Option Report) NextError) (p' : PairState)
     → (Nexts needs_memory (opens_in p) (next_answer p.client) p (with_client p (after_next p.client)) reply p')
     → Moves p w asked told ClientNext (ClientNext reply) p'

@@ -30,7 +30,7 @@ use Rattle.theory_connection.specs.Meant.{born_of_entry, live_entry}
 use Rattle.theory_connection.specs.World.{World, display_born, Open, Each, IfThere, IsOpen}
 use Rattle.theory_connection.specs.World.{request_written, Steps, writes_request, WriteRequest}
 use Rattle.theory_connection.specs.Pair.{PairState, ClientSend, with_client_core, Writes, accepted, refused, no_memory}
-use Rattle.theory_connection.specs.Answers.{NotEnded, WritesThat, handed, birth_at, before}
+use Rattle.theory_connection.specs.Answers.{WritesThat, handed, birth_at}
 use Rattle.theory_connection.specs.Flight.{Fresh, client_rows, row_of_entry, as_row}
 use Rattle.theory_connection.specs.Stands.{StandsBy, FitsSignature, SuitKinds}
 use Rattle.theory_connection.specs.Runs.{FitsWords}
@@ -47,6 +47,8 @@ use Rattle.theory_connection.proofs.Written.{call_is, call_ends, accepted_call, 
 use Rattle.theory_connection.proofs.RequestWritten.{CanAsk, asked_core, ask_stands}
 use Rattle.theory_connection.proofs.EndedObject.{Mortal, after_is, argument_is, born_ends}
 use Rattle.theory_connection.proofs.Moves.{Moves, Outcome, goes_on, stays, asking}
+use Rattle.theory_connection.specs.World.{is_over}
+use Rattle.theory_connection.proofs.Errors.{not_over, client_does}
 
 -- the same with equal tables
 abbrev pub moved : (t u : List Interface) (side : Side) (m : Message Known) → t ≡ u → FitsSignature t side m
@@ -257,7 +259,7 @@ pub asks_world : (p : PairState) (w : World) (asked : List (Message Known)) (tol
 asks_world p w asked told s m c =
     let v = p.client.core.view in
     let births = fresh_births v (made_in m.args) c.new in
-    writes_request (renamed born_of m) (s.client.sets.shown m.target.id (Open m.target.born) c.target)
+    writes_request (renamed born_of m) (not_over s) (s.client.sets.shown m.target.id (Open m.target.born) c.target)
     (rw (objects_map born_of m.args) (each_map born_of (IsOpen w.client) (objects m.args)
     (each_by (OpenRow (client_rows v)) (λ (x : Known). IsOpen w.client x.born)
     (λ x h. s.client.sets.shown x.id (Open x.born) h) (objects m.args) c.args)))
@@ -295,7 +297,7 @@ sends_that p w asked told s target opcode given signature new c k o can =
 
 -- after a call of the client the pair represents the next world
 pub client_send_keeps : (p : PairState) (w : World) (asked : List (Message Known)) (told : List (Coming Known))
-    → StandsBy p w asked told → NotEnded p w → (target : Object) (opcode : ℕ) (given : List Given)
+    → StandsBy p w asked told → is_over w.stage ≡ false → (target : Object) (opcode : ℕ) (given : List Given)
     → Each FitsWords given
     → (reply : Result (Option Object) SendError) (p' : PairState)
     → Writes (send_answer p.client.core Request target opcode given)
@@ -314,14 +316,14 @@ client_send_keeps p w asked told s z target opcode given g reply p' (accepted {n
     let m = the_call core Request c.entry target opcode given a.signature in
     record {
       world = request_written w (renamed born_of m);
-      answers = before z (accepted h) (sends_that p w asked told s target opcode given a.signature new c k o can);
+      answers = client_does z tt (accepted h) (sends_that p w asked told s target opcode given a.signature new c k o can);
       outcome = subst (λ (x : Core). Outcome p asked told (with_client_core p x)
           (request_written w (renamed born_of m)))
           (sym (left_by core target opcode given a.signature (valid_client p w asked told s) a.checks c k))
-          (goes_on (asked ++ m ∷ []) told z (ask_stands p w asked told s m can)
+          (goes_on (asked ++ m ∷ []) told (ask_stands p w asked told s m can)
           (asking m can (λ h. absurd (cc (h, c.hidden)))));
     }
 client_send_keeps p w asked told s z target opcode given g reply p' (refused h) =
-    record { world = w; answers = before z (refused h) refl; outcome = goes_on asked told z s stays }
+    record { world = w; answers = client_does z tt (refused h) refl; outcome = goes_on asked told s stays }
 client_send_keeps p w asked told s z target opcode given g reply p' (no_memory h o) =
-    record { world = w; answers = before z (no_memory h o) refl; outcome = goes_on asked told z s stays }
+    record { world = w; answers = client_does z tt (no_memory h o) refl; outcome = goes_on asked told s stays }

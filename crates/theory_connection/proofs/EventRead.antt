@@ -16,6 +16,7 @@ use Rattle.wl_sigs.specs.Valid.{Valid}
 use Rattle.wl_sigs.specs.Tables as sigs
 use Rattle.wl_sigs.specs.Fixed.{display, registry}
 use Rattle.wl_sigs.specs.Fixed as fixed
+use Rattle.wl_message.specs.Outgoing as boxes
 use Rattle.wl_message.specs.Arrived.{without_first, in_front}
 use Rattle.wl_message.specs.Cut.{Whole}
 use Rattle.wl_object_map.specs.declared.object.Entry.{Entry}
@@ -100,7 +101,7 @@ pub record InEvent (p : PairState) (w : World) (m : Message Known) (cs : List (C
   pub tells_it : TellsAt (test_of p) (all_tells cs) (client_rows p.client.core.view) s.meet.middle m.target
       (objects m.args) (made_in m.args) m.ends
   pub down : InFlight p.server.core.outbox (without_first p.client.core.inbox n (length (tokens m.args)))
-      (map spelled_coming cs)
+      (map spelled_coming cs ++ s.behind)
   pub more : List ℕ
   pub tokens_are : p.client.core.inbox.tokens ≡ tokens m.args ++ more
 
@@ -110,7 +111,7 @@ pub in_event : (p : PairState) (w : World) (m : Message Known) (cs : List (Comin
     → in_front p.client.core.inbox ≡ Whole n → InEvent p w m cs asked s n
 in_event p w m cs asked s n e =
     let q = first_read p.server.core.outbox p.client.core.inbox (spelled_meant m)
-    (map spelled_coming cs) n s.events.in_boxes e in
+    (map spelled_coming cs ++ s.behind) n s.events.in_boxes e in
     let t = tells_at m.target (objects m.args) (made_in m.args) m.ends s.meet.reads in
     let r = seen_at p.client.core.view w.client s.client.sets m.target t.target in
     let f = s.events.fit.0.fits in
@@ -263,7 +264,9 @@ event_stands p w m cs asked s n i y =
       plain = s.plain;
       none_made = s.none_made;
       requests = s.requests;
+      behind = s.behind;
       events = record { in_world = refl; in_boxes = i.down; fit = s.events.fit.1 };
+      error = s.error;
       asks_counted = subst (λ (x : Rows Row). Each (IsAskedBelow (births_in x)) (all_asks asked)) (sym rows)
           (below_told (client_rows v) new m.ends (all_asks asked) s.asks_counted);
       deletes_follow = s.deletes_follow.1;
@@ -336,7 +339,8 @@ delete_signature tables e x h = record {
 }
 
 -- a delete at the front: its object is held, it is found, and the rest is in flight
-pub record InDelete (p : PairState) (x : Known) (cs : List (Coming Known)) (middle : Rows Row) (n : ℕ) : Type 0 where
+pub record InDelete (p : PairState) (x : Known) (cs : List (Coming Known)) (middle : Rows Row)
+    (behind : List boxes.QueuedMessage) (n : ℕ) : Type 0 where
   pub entry : Entry
   pub there : look p.client.core.view x.id ≡ Some entry
   pub same : born_of_entry x.id entry ≡ x.born
@@ -347,16 +351,16 @@ pub record InDelete (p : PairState) (x : Known) (cs : List (Coming Known)) (midd
   pub keeps_target : signature.destroys ≡ Nothing
   pub count : descriptors signature.kinds ≡ 0
   pub deletes_it : DeletesAt (test_of p) (all_tells cs) (client_rows p.client.core.view) middle x
-  pub down : InFlight p.server.core.outbox (without_first p.client.core.inbox n 0) (map spelled_coming cs)
+  pub down : InFlight p.server.core.outbox (without_first p.client.core.inbox n 0) (map spelled_coming cs ++ behind)
 
 -- the first of what comes, if it is a delete and whole
 pub in_delete : (p : PairState) (w : World) (x : Known) (cs : List (Coming Known)) (asked : List (Message Known))
     (s : StandsBy p w asked (Delete x ∷ cs)) (n : ℕ)
-    → in_front p.client.core.inbox ≡ Whole n → InDelete p x cs s.meet.middle n
+    → in_front p.client.core.inbox ≡ Whole n → InDelete p x cs s.meet.middle s.behind n
 unfolding delete_signature
 in_delete p w x cs asked s n e =
     let q = first_read p.server.core.outbox p.client.core.inbox (spelled_meant (deleting x))
-    (map spelled_coming cs) n s.events.in_boxes e in
+    (map spelled_coming cs ++ s.behind) n s.events.in_boxes e in
     let t = deletes_at x s.meet.reads in
     let r = held_row p.client.core.view x t.held in
     let display_there : signature_at p.server.core.tables 0 event_side 1
@@ -444,7 +448,7 @@ delete_answer p x n entry signature range y row c =
 
 -- after the client has read a delete the pair represents the next world
 pub delete_stands : (p : PairState) (w : World) (x : Known) (cs : List (Coming Known)) (asked : List (Message Known))
-    (s : StandsBy p w asked (Delete x ∷ cs)) (n : ℕ) (i : InDelete p x cs s.meet.middle n)
+    (s : StandsBy p w asked (Delete x ∷ cs)) (n : ℕ) (i : InDelete p x cs s.meet.middle s.behind n)
     → StandsBy (with_client p (after_delete p.client x n)) (delete_read w x.born (map (recoming born_of) cs)) asked cs
 delete_stands p w x cs asked s n i =
     let t = i.deletes_it in
@@ -455,7 +459,9 @@ delete_stands p w x cs asked s n i =
       plain = s.plain;
       none_made = s.none_made;
       requests = s.requests;
+      behind = s.behind;
       events = record { in_world = refl; in_boxes = i.down; fit = s.events.fit.1 };
+      error = s.error;
       asks_counted = subst (λ (y : Rows Row). Each (IsAskedBelow (births_in y)) (all_asks asked))
           (sym (client_closed p.client.core.view x.id))
           (subst (λ (n : Maker → ℕ). Each (IsAskedBelow n) (all_asks asked))

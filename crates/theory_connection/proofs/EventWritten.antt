@@ -36,6 +36,9 @@ use Rattle.theory_connection.proofs.Rules.{display_plain}
 use Rattle.theory_connection.proofs.RequestRead.{follow_more, follow_delete, begins_delete, test_of}
 use Rattle.theory_connection.proofs.RequestRead.{delete_whole, map_delete, delete_fits, low_there}
 use Rattle.theory_connection.proofs.EndedObject.{Mortal, ended_view, ends_have, both_if}
+use Rattle.theory_connection.specs.World.{Running}
+use Rattle.theory_connection.specs.Stands.{quiet}
+use Rattle.theory_connection.proofs.Errors.{nothing_behind, no_mark}
 
 -- An event that the server can write: it fits, its objects are open there, its new object is fresh,
 -- and it is not too long.
@@ -84,10 +87,10 @@ told_core c m = record c {
 
 -- after the server has written an event the pair represents the next world
 pub tell_stands : (p : PairState) (w : World) (asked : List (Message Known)) (told : List (Coming Known))
-    (s : StandsBy p w asked told) (m : Message Known) (c : CanTell p m)
+    (s : StandsBy p w asked told) (m : Message Known) (c : CanTell p m) → w.stage ≡ Running
     → StandsBy (with_server_core p (told_core p.server.core m)) (event_written w (renamed born_of m)) asked
     (told ++ (Event m ∷ delete m.ends))
-tell_stands p w asked told s m c =
+tell_stands p w asked told s m c z =
     let f = c.fitly.fits in
     let v = p.server.core.view in
     let there : IfThere (ThereRow (server_rows v)) m.ends =
@@ -108,8 +111,9 @@ tell_stands p w asked told s m c =
           (plain_event (test_of p) (server_rows v) new m.ends c.new_plain c.new_other s.plain);
       none_made = λ none. rw (world_new, tells_none p.server.core.tables s.terms.valid none m f) (s.none_made none);
       requests = s.requests;
+      behind = s.behind;
       events = travel_more p.server.core.outbox (told_core p.server.core m).outbox p.client.core.inbox w.events _ told
-          news s.events
+          news s.events (nothing_behind s z)
           (ap (λ (l : List (Coming Born)). w.events ++ (Event (renamed born_of m) ∷ l)) (sym (map_delete m.ends))) refl
           (append_assoc p.server.core.outbox.messages (spelled_meant m ∷ []) (map spelled_coming (delete m.ends))) (
             whole_within p.client.core.inbox.limit m.target.id m.opcode (map wire m.args) f.opcode
@@ -118,6 +122,7 @@ tell_stands p w asked told s m c =
                 p.client.core.inbox.limit m.ends,
           )
           (c.fitly, delete_fits p m.ends (both_if (low_there v s.server.sound) m.ends there range));
+      error = quiet z (no_mark s z) (nothing_behind s z);
       asks_counted = s.asks_counted;
       deletes_follow = follow_more told news s.deletes_follow (begins_delete m.ends, follow_delete m.ends);
       meet = rw (all_tells_more told news) (subst
@@ -146,9 +151,9 @@ dropped_core c x = record c {
 -- after the server has dropped an object the pair represents the next world
 pub drop_stands : (p : PairState) (w : World) (asked : List (Message Known)) (told : List (Coming Known))
     (s : StandsBy p w asked told) (x : Known) → ThereRow (server_rows p.server.core.view) x → test_of p x.born ≡ true
-    → x.id ≤ 1048576
+    → x.id ≤ 1048576 → w.stage ≡ Running
     → StandsBy (with_server_core p (dropped_core p.server.core x)) (dropped w x.born) asked (told ++ Delete x ∷ [])
-drop_stands p w asked told s x h e low =
+drop_stands p w asked told s x h e low z =
     let v = p.server.core.view in
     let mortal = there_mortal p w asked told s x h e in
     let rows = server_closed v x.id in
@@ -160,8 +165,10 @@ drop_stands p w asked told s x h e low =
       plain = subst (MadePlain (test_of p)) (sym rows) (plain_after (test_of p) (server_rows v) None (Some x) tt s.plain);
       none_made = s.none_made;
       requests = s.requests;
+      behind = s.behind;
       events = travel_more p.server.core.outbox (dropped_core p.server.core x).outbox p.client.core.inbox w.events _
-          told news s.events refl refl refl (delete_whole p.client.core.inbox.limit (Some x)) (low, tt);
+          told news s.events (nothing_behind s z) refl refl refl (delete_whole p.client.core.inbox.limit (Some x)) (low, tt);
+      error = quiet z (no_mark s z) (nothing_behind s z);
       asks_counted = s.asks_counted;
       deletes_follow = follow_more told news s.deletes_follow tt;
       meet = rw (all_tells_more told news) (subst

@@ -21,12 +21,13 @@ use Rattle.theory_connection.specs.Pair.{PairState, AddGlobal, Withdraw, with_se
 use Rattle.theory_connection.specs.Pair.{refused, no_memory, Calls, done}
 use Rattle.wl_server.specs.declared.globals.GlobalError.{GlobalError}
 use Rattle.wl_server.specs.declared.globals.GlobalError.TheVariants.{Failed, BadGlobal, TooMany}
-use Rattle.theory_connection.specs.Answers.{NotEnded, before}
 use Rattle.theory_connection.specs.Stands.{StandsBy, WasGiven, AsksFitly, ComesFitly, IsGlobal}
 use Rattle.wl_connection.specs.Core.{max_globals}
 use Rattle.theory_connection.proofs.WholeInFlight.{each_by, each_more}
 use Rattle.theory_connection.proofs.Stands.{travel_by}
 use Rattle.theory_connection.proofs.Moves.{Moves, goes_on, stays, giving}
+use Rattle.theory_connection.specs.World.{Running}
+use Rattle.theory_connection.proofs.Errors.{before, server_lives}
 
 -- each name has the interface and version that it had
 pub record Same (g h : Global) : Type 0 where
@@ -53,7 +54,7 @@ module _ (given more : List Global) (grows : Grows given more) where
         version_is = s.same.version ∙ h.version_is;
       }
 
-  binds_at : (tables : List Interface) (iface : List ℕ) (version name : ℕ) (o : Option Global)
+  pub binds_at : (tables : List Interface) (iface : List ℕ) (version name : ℕ) (o : Option Global)
       → global_of given name ≡ o → bind_fits tables iface version o ≡ true
       → bind_fits tables iface version (global_of more name) ≡ true
   binds_at tables iface version name None e h = absurd (cc h)
@@ -105,6 +106,8 @@ given_stands p w asked told s more g e l = record {
   plain = s.plain;
   none_made = s.none_made;
   requests = travel_by (asks_still p.server.globals more g p.server.core.tables) s.requests;
+  behind = s.behind;
+  error = s.error;
   events = travel_by (comes_still p.server.globals more g p.server.core.tables) s.events;
   asks_counted = s.asks_counted;
   deletes_follow = s.deletes_follow;
@@ -128,7 +131,7 @@ get_more [] ys k g h = absurd (cc h)
 get_more (x ∷ xs) ys zero g h = h
 get_more (x ∷ xs) ys (suc k) g h = get_more xs ys k g h
 
-grows_more : (xs ys : List Global) → Grows xs (xs ++ ys)
+pub grows_more : (xs ys : List Global) → Grows xs (xs ++ ys)
 grows_more xs ys zero g h = absurd (cc h)
 grows_more xs ys (suc k) g h = record {
   global = g;
@@ -136,11 +139,11 @@ grows_more xs ys (suc k) g h = record {
   same = record { iface = refl; version = refl };
 }
 
-record CanAdd (s : server.State) (iface : Iface) (version : ℕ) : Type 0 where
-  can : can_be_global s.core.tables iface version ≡ true
-  few : length s.globals < max_globals
+pub record CanAdd (s : server.State) (iface : Iface) (version : ℕ) : Type 0 where
+  pub can : can_be_global s.core.tables iface version ≡ true
+  pub few : length s.globals < max_globals
 
-can_add : (s : server.State) (iface : Iface) (version : ℕ) (a b c : Bool) → a ≡ false
+pub can_add : (s : server.State) (iface : Iface) (version : ℕ) (a b c : Bool) → a ≡ false
     → can_be_global s.core.tables iface version ≡ b → nat_lt (length s.globals) max_globals ≡ c
     → cond a (Some Failed) (cond (not b) (Some BadGlobal) (cond c None (Some TooMany))) ≡ None → CanAdd s iface version
 can_add s iface version true b c l e f h = absurd (cc l)
@@ -150,13 +153,13 @@ can_add s iface version false true true l e f h = record { can = e; few = ltb-tr
 
 -- after a new global the pair represents the next world
 pub add_global_keeps : (p : PairState) (w : World) (asked : List (Message Known)) (told : List (Coming Known))
-    → StandsBy p w asked told → NotEnded p w → (iface : Iface) (version : ℕ) → version < 2 ^ 32
+    → StandsBy p w asked told → w.stage ≡ Running → (iface : Iface) (version : ℕ) → version < 2 ^ 32
     → (reply : Result ℕ GlobalError) (p' : PairState)
     → Adds (add_refusal p.server iface version) (next_name p.server) p
     (with_server p (with_global p.server iface version)) reply p'
     → Moves p w asked told (AddGlobal iface version) (AddGlobal reply) p'
 add_global_keeps p w asked told s z iface version v reply p' (added h) =
-    let c = can_add p.server iface version p.server.core.failed _ _ s.server.lives refl refl h in
+    let c = can_add p.server iface version p.server.core.failed _ _ (server_lives s z) refl refl h in
     let g : Global = record { iface = iface; version = version; present = true } in
     let t = given_stands p w asked told s (p.server.globals ++ g ∷ []) (grows_more p.server.globals (g ∷ []))
     (each_more (IsGlobal p.server.core.tables) p.server.globals (g ∷ []) s.globals.globals
@@ -169,12 +172,12 @@ add_global_keeps p w asked told s z iface version v reply p' (added h) =
         ap
             (λ (l : List Global). record w { given = l ++ g ∷ [] }) (sym s.globals.given),
       );
-      outcome = goes_on asked told z t (giving (p.server.globals ++ g ∷ []));
+      outcome = goes_on asked told t (giving (p.server.globals ++ g ∷ []));
     }
 add_global_keeps p w asked told s z iface version v reply p' (refused h) =
-    record { world = w; answers = before z (refused h) refl; outcome = goes_on asked told z s stays }
+    record { world = w; answers = before z (refused h) refl; outcome = goes_on asked told s stays }
 add_global_keeps p w asked told s z iface version v reply p' (no_memory h) =
-    record { world = w; answers = before z (no_memory h) refl; outcome = goes_on asked told z s stays }
+    record { world = w; answers = before z (no_memory h) refl; outcome = goes_on asked told s stays }
 
 -- ---- one global withdrawn
 
@@ -204,7 +207,7 @@ length_set [] i x = refl
 length_set (a ∷ xs) zero x = refl
 length_set (a ∷ xs) (suc i) x = ap suc (length_set xs i x)
 
-grows_without : (xs : List Global) (name : ℕ) (x : Global) → global_of xs name ≡ Some x
+pub grows_without : (xs : List Global) (name : ℕ) (x : Global) → global_of xs name ≡ Some x
     → Grows xs (slice_set xs (name - 1) (withdrawn x))
 grows_without xs zero x h name g e = absurd (cc h)
 grows_without xs (suc i) x h zero g e = absurd (cc e)
@@ -213,7 +216,7 @@ grows_without xs (suc i) x h (suc k) g e =
     let r = set_get xs i k x g h e in
     record { global = r.0; there = ap (λ (n : ℕ). slice_get (slice_set xs n (withdrawn x)) k) place ∙ r.1; same = r.2 }
 
-each_without : (P : Global → Type 0) → ((g : Global) → P g → P (withdrawn g))
+pub each_without : (P : Global → Type 0) → ((g : Global) → P g → P (withdrawn g))
     → (xs : List Global) (name : ℕ) (x : Global) → global_of xs name ≡ Some x → Each P xs
     → Each P (slice_set xs (name - 1) (withdrawn x))
 each_without P f xs zero x h e = absurd (cc h)
@@ -237,15 +240,15 @@ withdraw_stands p w asked told s name (Some x) e =
 
 -- after the withdrawal of a global the pair represents the next world
 pub withdraw_keeps : (p : PairState) (w : World) (asked : List (Message Known)) (told : List (Coming Known))
-    → StandsBy p w asked told → NotEnded p w → (name : ℕ) (reply : Result (Unit {0}) GlobalError) (p' : PairState)
+    → StandsBy p w asked told → w.stage ≡ Running → (name : ℕ) (reply : Result (Unit {0}) GlobalError) (p' : PairState)
     → Calls (withdraw_refusal p.server name) p (with_server p (after_withdraw p.server name)) reply p'
     → Moves p w asked told (Withdraw name) (Withdraw reply) p'
 withdraw_keeps p w asked told s z name reply p' (done h) = record {
   world = record w { given = without_at p.server.globals name (global_of p.server.globals name) };
   answers = before z (done h) (ap (λ (l : List Global). record w { given = without_at l name (global_of l name) })
       (sym s.globals.given));
-  outcome = goes_on asked told z (withdraw_stands p w asked told s name (global_of p.server.globals name) refl)
+  outcome = goes_on asked told (withdraw_stands p w asked told s name (global_of p.server.globals name) refl)
       (giving (without_at p.server.globals name (global_of p.server.globals name)));
 }
 withdraw_keeps p w asked told s z name reply p' (refused h) =
-    record { world = w; answers = before z (refused h) refl; outcome = goes_on asked told z s stays }
+    record { world = w; answers = before z (refused h) refl; outcome = goes_on asked told s stays }

@@ -9,6 +9,7 @@ pub mod MadeFor
 pub mod ReadAsMeant
 pub mod RowsAfterMessage
 pub mod Stands
+pub mod Errors
 pub mod AskedCounted
 pub mod NoneMade
 pub mod Registries
@@ -17,6 +18,7 @@ pub mod RequestRead
 pub mod ServerNextMove
 pub mod ClientGlobals
 pub mod EventRead
+pub mod ErrorRead
 pub mod ClientNextMove
 pub mod MadeMeant
 pub mod Carries
@@ -33,7 +35,7 @@ pub mod PairAtOpening
 pub mod Places
 pub mod Announces
 pub mod ClientBindMove
-pub mod Records
+pub mod Refused
 pub mod Steps
 pub mod Plain
 pub mod OfServer

@@ -1,5 +1,5 @@
 -- The object that a message made, as the client returns it.
-use Rattle.std.proofs.Common.{◌≡◌, ℕ, List, [], ◌∷◌, map, refl, sym, ap, ◌∙◌}
+use Rattle.std.proofs.Common.{◌≡◌, ◌⊎◌, inl, inr, ℕ, List, [], ◌∷◌, map, refl, sym, ap, ◌∙◌}
 use Rattle.std.specs.Prelude.{option_map}
 use Rattle.std.specs.declared.option.Option.{Option}
 use Rattle.std.specs.declared.option.Option.TheVariants.{None, Some}
@@ -20,7 +20,8 @@ use Rattle.theory_connection.specs.Answers.{birth_at}
 use Rattle.theory_connection.specs.Flight.{NextTold, client_rows, row_of_entry}
 use Rattle.theory_connection.specs.Stands.{StandsBy}
 use Rattle.theory_connection.specs.Plain.{made_by_coming}
-use Rattle.theory_connection.proofs.Channels.{pops, never_bad}
+use Rattle.theory_connection.proofs.Channels.{never_bad}
+use Rattle.theory_connection.proofs.ErrorRead.{last_on_way, error_answer}
 use Rattle.theory_connection.proofs.RowsAfterMessage.{made_map}
 use Rattle.theory_connection.proofs.ReadAsMeant.{made_of}
 use Rattle.theory_connection.proofs.FoundInFront.{the_found}
@@ -57,10 +58,17 @@ record SaysMade (p : PairState) (told : List (Coming Known)) : Type 0 where
   made : option_map birth_at (after_next p.client).made ≡ option_map birth_of (made_by_coming (recoming born_of coming))
   replaced : (after_next p.client).replaced ≡ None
 
+-- the same, or the first message is the error, which makes and replaces nothing
+abbrev Says : PairState → List (Coming Known) → Type 0
+Says p told = SaysMade p told ⊎ ((told ≡ []) × ((after_next p.client).replaced ≡ None))
+
 module _ (p : PairState) (w : World) (asked : List (Message Known)) where
   at_whole : (told : List (Coming Known)) → StandsBy p w asked told → (n : ℕ) → in_front p.client.core.inbox ≡ Whole n
-      → SaysMade p told
-  at_whole [] s n e = absurd (let q = pops p.server.core.outbox p.client.core.inbox [] n s.events.in_boxes e in cc q.is)
+      → Says p told
+  at_whole [] s n e =
+      let i = last_on_way p w asked s n e in
+      let a = error_answer p n i.id i.error s.client.lives i.finds_it in
+      inr (refl, ap (λ st. st.replaced) a.leaves)
   at_whole (Event m ∷ cs) s n e =
       let i = in_event p w m cs asked s n e in
       let f = s.events.fit.0.fits in
@@ -68,7 +76,7 @@ module _ (p : PairState) (w : World) (asked : List (Message Known)) where
       let b = event_answer p m n i.target.entry p.server.core.tables f s.terms.valid s.terms.same_tables
       s.events.fit.0.no_delete_id i.target.same in
       let leaves = a.leaves ∙ b.leaves in
-      record {
+      inl (record {
         coming = Event m;
         rest = cs;
         first = refl;
@@ -76,39 +84,50 @@ module _ (p : PairState) (w : World) (asked : List (Message Known)) where
             ∙ made_birth p.client.core.view (made_in m.args) i.tells_it.new
             ∙ ap (option_map birth_of) (sym (made_map born_of m.args));
         replaced = ap (λ st. st.replaced) leaves ∙ replaces p.client.core.view (made_in m.args) i.tells_it.new;
-      }
+      })
   at_whole (Delete x ∷ cs) s n e =
       let i = in_delete p w x cs asked s n e in
       let a = answer_is p (the_found n (deleting x) (live_entry world.display_born) i.signature) s.client.lives i.finds_it in
       let b = delete_answer p x n i.entry i.signature i.deletes_it.range i.deletes_it.mortal i.there i.count in
       let leaves = a.leaves ∙ b.leaves in
-      record {
+      inl (record {
         coming = Delete x;
         rest = cs;
         first = refl;
         made = ap (λ st. option_map birth_at st.made) leaves;
         replaced = ap (λ st. st.replaced) leaves;
-      }
+      })
 
   at_front : (told : List (Coming Known)) → StandsBy p w asked told → (report : Report)
-      → next_answer p.client ≡ Ok (Some report) → (f : Front) → in_front p.client.core.inbox ≡ f → SaysMade p told
+      → next_answer p.client ≡ Ok (Some report) → (f : Front) → in_front p.client.core.inbox ≡ f → Says p told
   at_front told s report a More e = absurd (let i = (idle p s.client.lives e).0 in cc (i, a))
   at_front told s report a (Bad n) e = absurd (never_bad p.server.core.outbox p.client.core.inbox _ n s.events.in_boxes e)
   at_front told s report a (Whole n) e = at_whole told s n e
+
+  made_as_meant : (told : List (Coming Known)) (s : StandsBy p w asked told) (coming : Coming Born)
+      (rest : List (Coming Born)) → w.events ≡ coming ∷ rest → Says p told
+      → option_map birth_at (after_next p.client).made ≡ option_map birth_of (made_by_coming coming)
+  made_as_meant told s coming rest e (inl k) =
+      let q : map (recoming born_of) (k.coming ∷ k.rest) ≡ coming ∷ rest =
+      ap (map (recoming born_of)) (sym k.first) ∙ sym s.events.in_world ∙ e in
+      let same : recoming born_of k.coming ≡ coming = cc q in
+      k.made ∙ ap (λ (c : Coming Born). option_map birth_of (made_by_coming c)) same
+  made_as_meant told s coming rest e (inr k) =
+      let none : [] ≡ coming ∷ rest = ap (map (recoming born_of)) (sym k.0) ∙ sym s.events.in_world ∙ e in
+      absurd (cc none)
 
   -- the object that the client returns as made is the one that was meant
   pub as_meant : (told : List (Coming Known)) (s : StandsBy p w asked told) (coming : Coming Born)
       (rest : List (Coming Born)) (report : Report) → w.events ≡ coming ∷ rest
       → next_answer p.client ≡ Ok (Some report)
       → option_map birth_at (after_next p.client).made ≡ option_map birth_of (made_by_coming coming)
-  as_meant told s coming rest report e a =
-      let k = at_front told s report a _ refl in
-      let q : map (recoming born_of) (k.coming ∷ k.rest) ≡ coming ∷ rest =
-      ap (map (recoming born_of)) (sym k.first) ∙ sym s.events.in_world ∙ e in
-      let same : recoming born_of k.coming ≡ coming = cc q in
-      k.made ∙ ap (λ (c : Coming Born). option_map birth_of (made_by_coming c)) same
+  as_meant told s coming rest report e a = made_as_meant told s coming rest e (at_front told s report a _ refl)
+
+  replaces_nothing : (told : List (Coming Known)) → Says p told → (after_next p.client).replaced ≡ None
+  replaces_nothing told (inl k) = k.replaced
+  replaces_nothing told (inr k) = k.1
 
   -- that object replaces no live object
   pub replaces_none : (told : List (Coming Known)) (s : StandsBy p w asked told) (report : Report)
       → next_answer p.client ≡ Ok (Some report) → (after_next p.client).replaced ≡ None
-  replaces_none told s report a = (at_front told s report a _ refl).replaced
+  replaces_none told s report a = replaces_nothing told (at_front told s report a _ refl)

@@ -1,5 +1,5 @@
 -- What one move does to a pair and to what is in flight, in full.
-use Rattle.std.proofs.Common.{◌≡◌, ℕ, ◌≤◌, true, List, [], ◌∷◌, ◌++◌, map, length}
+use Rattle.std.proofs.Common.{◌≡◌, ℕ, ◌≤◌, true, List, [], ◌∷◌, ◌++◌, map}
 use Rattle.std.specs.declared.option.Option.{Option}
 use Rattle.std.specs.declared.option.Option.TheVariants.{None, Some}
 use Rattle.wl_wire.specs.Argument.{Uint, NewNamed}
@@ -17,11 +17,12 @@ use Rattle.theory_connection.specs.Meant.{IsAmongFirst, Known, Message, Coming, 
 use Rattle.wl_object_map.specs.declared.object.Maker.{Maker}
 use Rattle.theory_connection.specs.World.{World, Each, IfThere, delete, answer}
 use Rattle.theory_connection.specs.Pair.{PairState, Move, Reply, with_client, with_server, carries}
-use Rattle.theory_connection.specs.Pair.{after_carry_to_server, after_carry_to_client}
+use Rattle.theory_connection.specs.Pair.{after_carry_to_server, after_carry_to_client, after_post}
+use Rattle.wl_object_map.specs.declared.object.Object.{Object}
 use Rattle.theory_connection.specs.Meant.{made_in}
 use Rattle.theory_connection.specs.Flight.{Rows, Name, make_tell, ends, tells, all_tells, IsBelow, births_in, server_rows}
-use Rattle.theory_connection.specs.Answers.{NotEnded, Answers}
-use Rattle.theory_connection.specs.Stands.{Stands, stands, ended, StandsBy}
+use Rattle.theory_connection.specs.Answers.{Answers}
+use Rattle.theory_connection.specs.Stands.{Stands, stands, over, StandsBy, StandsOver}
 use Rattle.theory_connection.specs.Runs.{Keeps}
 use Rattle.theory_connection.proofs.WholeInFlight.{ThereRow, id_maker, each_more}
 use Rattle.theory_connection.proofs.RequestRead.{left_state}
@@ -120,20 +121,17 @@ pub data LeadsTo (p : PairState) (asked : List (Message Known)) (told : List (Co
   carrying_to_client : (most : ℕ) → LeadsTo p asked told
       (after_carry_to_client p (carries p.server.core p.client.core most)) asked told
 
--- the pair after the first error: its recording is marked at its end
-pub record IsMarked (p p' : PairState) : Type 0 where
-  pub tables : p'.server.core.tables ≡ p.server.core.tables
-  pub limit : p'.server.core.inbox.limit.bytes ≡ p.server.core.inbox.limit.bytes
-  pub pieces : p'.recording ≡ p.recording
-  pub mark : p'.ended_at ≡ Some (length p.recording)
-
--- the pair represents the world, with what is now in flight, or an error has ended the world
+-- the pair represents the world, with what is now in flight; or an error was posted; or the client
+-- has read it
 pub data Outcome (p : PairState) (asked : List (Message Known)) (told : List (Coming Known)) (p' : PairState)
     (w' : World) : Type 0 where
-  goes_on : (asked' : List (Message Known)) (told' : List (Coming Known)) → NotEnded p' w' → StandsBy p' w' asked' told'
+  goes_on : (asked' : List (Message Known)) (told' : List (Coming Known)) → StandsBy p' w' asked' told'
       → LeadsTo p asked told p' asked' told'
       → Outcome p asked told p' w'
-  ends_it : w'.ended ≡ true → IsMarked p p' → Outcome p asked told p' w'
+  posts_it : (object : Object) (code : ℕ) (text : List ℕ) → p' ≡ after_post p object code text
+      → StandsBy p' w' asked told → Outcome p asked told p' w'
+  ends_it : (left : List (Message Known)) → p.server.core.failed ≡ true → StandsOver p' w' left
+      → Outcome p asked told p' w'
 
 -- a step of the pair in its world, with its effect
 pub record Moves (p : PairState) (w : World) (asked : List (Message Known)) (told : List (Coming Known)) (move : Move)
@@ -144,8 +142,9 @@ pub record Moves (p : PairState) (w : World) (asked : List (Message Known)) (tol
 
 outcome_stands : {p p' : PairState} {w' : World} {asked : List (Message Known)} {told : List (Coming Known)}
     → Outcome p asked told p' w' → Stands p' w'
-outcome_stands (goes_on a t z s h) = stands a t z s
-outcome_stands (ends_it e m) = ended e
+outcome_stands (goes_on a t s h) = stands a t s
+outcome_stands {asked = asked} {told = told} (posts_it object code text e s) = stands asked told s
+outcome_stands (ends_it left f o) = over left o
 
 -- the same step without its effect
 pub forget : {p p' : PairState} {w : World} {asked : List (Message Known)} {told : List

@@ -26,16 +26,17 @@ use Rattle.wl_object_map.specs.declared.object.Maker.TheVariants.{Client}
 use Rattle.wl_object_map.specs.ObjectsLaws.{look-opening, is_from, in_range-server, ObjectsAreSound-opening}
 use Rattle.wl_connection.specs.Core.{Core, is_drained}
 use Rattle.wl_server.proofs.Registries.{has_none}
-use Rattle.theory_connection.specs.Meant.{Birth, server_birth, Known, Message, Coming, birth_of, spelled_meant}
-use Rattle.theory_connection.specs.Meant.{spelled_coming}
+use Rattle.theory_connection.specs.Meant.{Born, Birth, server_birth, Known, Message, Coming, birth_of, spelled_meant}
+use Rattle.theory_connection.specs.Meant.{spelled_coming, renamed, born_of}
 use Rattle.theory_connection.specs.Meant.{IsAmongFirst, born_of_entry, live_entry}
 use Rattle.theory_connection.specs.World.{World, Row, Open, put, nothing, display_born, opening_world}
 use Rattle.theory_connection.specs.Pair.{PairState, Move, Reply, new_pair, drained}
 use Rattle.theory_connection.specs.Answers.{Answers}
 use Rattle.theory_connection.specs.Flight.{put_row, client_rows, server_rows, row_of_entry, as_row, at_client}
 use Rattle.theory_connection.specs.Flight.{Counts, births_in, only_open, ReadsInFlight, done, Tied, drained as nothing_left, all_asks}
-use Rattle.theory_connection.specs.Flight.{all_tells}
-use Rattle.theory_connection.specs.Stands.{Stands, stands, ended, StandsBy, InFlight, ShowsBirths, birth_in, by_event}
+use Rattle.theory_connection.specs.Flight.{all_tells, Rows}
+use Rattle.theory_connection.specs.Stands.{Stands, stands, over, quiet, StandsBy, InFlight, ShowsBirths, birth_in, by_event}
+use Rattle.theory_connection.specs.Stands.{ClientStands, ServerStands, Travel}
 use Rattle.theory_connection.specs.Stands.{IsEndingOfServer, NoneIsGone}
 use Rattle.theory_connection.specs.Runs.{Runs, Agree, Keeps, is_freed, is_zombie}
 use Rattle.wl_sigs.specs.Rules.{is_empty, has_server_objects}
@@ -45,6 +46,7 @@ use Rattle.theory_connection.proofs.Bridges.{map_put}
 use Rattle.theory_connection.proofs.RowsAfterMessage.{map_some}
 use Rattle.theory_connection.proofs.Sets.{shows_make, no_object}
 use Rattle.theory_connection.proofs.Channels.{none_in_flight}
+use Rattle.theory_connection.proofs.Stands.{none_behind}
 
 is_nothing : {X : Type 0} (i : ℕ) → nothing {K = ℕ} {X = X} i ≡ None
 unfolding nothing
@@ -131,7 +133,9 @@ new_stands_by tables client_sizes server_sizes one v = let has_range = has_serve
       let none = ap (option_map (born_of_entry id)) gone in cc (none, h));
   none_made = λ none. refl;
   requests = record { in_world = refl; in_boxes = nothing_flies _ _ refl refl refl refl; fit = tt };
+  behind = [];
   events = record { in_world = refl; in_boxes = nothing_flies _ _ refl refl refl refl; fit = tt };
+  error = quiet refl refl refl;
   asks_counted = tt;
   deletes_follow = tt;
   meet = record {
@@ -166,7 +170,7 @@ pub new_stands : (tables : List Interface) (client_sizes server_sizes : Sizes)
     → client_sizes.limit.bytes ≡ server_sizes.limit.bytes → Valid tables
     → Stands (new_pair tables client_sizes server_sizes) opening_world
 new_stands tables client_sizes server_sizes one v =
-    stands [] [] (refl, refl) (new_stands_by tables client_sizes server_sizes one v)
+    stands [] [] (new_stands_by tables client_sizes server_sizes one v)
 
 -- ---- drained ends
 
@@ -291,51 +295,74 @@ freed_so client there id s t none used range live h =
     no_zombie : (view : Objects) (id : ℕ) → look view id ≡ None → is_zombie view id ≡ false
     no_zombie view id h = ap (λ (o : Option Entry). is_some o && not (lives_in o)) h
 
-agree_by : (p : PairState) (w : World) (asked : List (Message Known)) (told : List (Coming Known))
-    → StandsBy p w asked told → drained p → Agree p.client.core.view p.server.core.view
-agree_by p w asked told s d =
-    let c = empty_boxes p.client.core d.0 in
-    let v = empty_boxes p.server.core d.1 in
-    let a = none_of spelled_meant asked (none_in_flight p.client.core.outbox p.server.core.inbox
-    (map spelled_meant asked) s.requests.in_boxes v.inbox c.outbox) in
-    let t = none_of spelled_coming told (none_in_flight p.server.core.outbox p.client.core.inbox
-    (map spelled_coming told) s.events.in_boxes c.inbox v.outbox) in
-    let rows = drained_rows (subst (λ (l : List (Coming Known)). ReadsInFlight (by_event p.server.core.tables)
-    (all_tells l)
-    (client_rows p.client.core.view) s.meet.middle) t s.meet.reads)
-    (subst (λ (l : List (Message Known)). Tied (by_event p.server.core.tables) (all_asks l)
-    (server_rows p.server.core.view) s.meet.middle) a s.meet.tied) in
-    let client = p.client.core.view in
-    let there = p.server.core.view in
+front_none_of : {X : Type 0} (xs ys : List X) → xs ++ ys ≡ [] → xs ≡ []
+front_none_of [] ys h = refl
+front_none_of (x ∷ xs) ys h = cc
+
+-- once all is read, both ends have the same objects
+agree_from : {test : Born → Bool} {client there : Objects} {gone failed posted : Bool} {births made : ℕ}
+    {held : Birth → Option Row} {set : Birth → Option Born} {middle : Rows Row}
+    → ClientStands client gone births held → ServerStands there failed posted made set
+    → ReadsInFlight test [] (client_rows client) middle → Tied test [] (server_rows there) middle → Agree client there
+agree_from {client = client} {there = there} c v reads tied =
+    let rows = drained_rows reads tied in
     let same : (id : ℕ) → is_of_server id ≡ false → look client id ≡ look there id =
-    λ id range. rows_same id (look client id) (look there id) (s.server.live id) (rows.of_client id range) in
+    λ id range. rows_same id (look client id) (look there id) (v.live id) (rows.of_client id range) in
     let next = ap (λ (c : Counts). c.next) rows.counts in
     let used : client.server.used ≡ there.server.used = omega (arith, next) in
     record {
       by_client = record {
         same = same;
-        live = λ id e range h. s.server.live id e (sym (same id range) ∙ h);
+        live = λ id e range h. v.live id e (sym (same id range) ∙ h);
       };
       by_server = record {
         same = λ id e range. (
           λ h. (
-            open_there id (look client id) (look there id) (rows.same id) e (s.server.live id e h) h,
-            s.server.live id e h,
+            open_there id (look client id) (look there id) (rows.same id) e (v.live id e h) h,
+            v.live id e h,
           ),
-          λ h. open_here id (look client id) (look there id) (rows.same id) (s.server.live id) e h.1 h.0,
+          λ h. open_here id (look client id) (look there id) (rows.same id) (v.live id) e h.1 h.0,
         );
-        freed = λ id range. freed_so client there id s.client.sound s.server.sound s.client.never_freed used range
-            (s.server.live id) (rows.same id);
+        freed = λ id range. freed_so client there id c.sound v.sound c.never_freed used range
+            (v.live id) (rows.same id);
         used = ap (λ (n : ℕ). n - 1) used;
         births = ap (λ (c : Counts). c.births) rows.counts;
       };
     }
 
+-- nothing of the requests is on the way between drained ends
+none_asked : {P : Message Known → Type 0} (p : PairState) (requests : List (Message Born)) (asked : List (Message Known))
+    → Travel (renamed born_of) spelled_meant P p.client.core.outbox p.server.core.inbox requests asked []
+    → drained p → asked ≡ []
+none_asked p requests asked t d =
+    let c = empty_boxes p.client.core d.0 in
+    let v = empty_boxes p.server.core d.1 in
+    none_of spelled_meant asked (none_in_flight p.client.core.outbox p.server.core.inbox
+    (map spelled_meant asked) (none_behind p.client.core.outbox p.server.core.inbox (map spelled_meant asked) []
+    t.in_boxes refl) v.inbox c.outbox)
+
+agree_by : (p : PairState) (w : World) (asked : List (Message Known)) (told : List (Coming Known))
+    → StandsBy p w asked told → drained p → Agree p.client.core.view p.server.core.view
+agree_by p w asked told s d =
+    let c = empty_boxes p.client.core d.0 in
+    let v = empty_boxes p.server.core d.1 in
+    let t = none_of spelled_coming told (front_none_of (map spelled_coming told) s.behind
+    (none_in_flight p.server.core.outbox p.client.core.inbox
+    (map spelled_coming told ++ s.behind) s.events.in_boxes c.inbox v.outbox)) in
+    agree_from s.client s.server
+    (subst (λ (l : List (Coming Known)). ReadsInFlight (by_event p.server.core.tables)
+    (all_tells l)
+    (client_rows p.client.core.view) s.meet.middle) t s.meet.reads)
+    (subst (λ (l : List (Message Known)). Tied (by_event p.server.core.tables) (all_asks l)
+    (server_rows p.server.core.view) s.meet.middle) (none_asked p w.requests asked s.requests d) s.meet.tied)
+
 -- drained ends of a pair that represents a world have the same objects
-pub agree_drained : (p : PairState) (w : World) → Stands p w → w.ended ≡ false → drained p
+pub agree_drained : (p : PairState) (w : World) → Stands p w → drained p
     → Agree p.client.core.view p.server.core.view
-agree_drained p w (ended e) z d = absurd (cc (e, z))
-agree_drained p w (stands asked told e s) z d = agree_by p w asked told s d
+agree_drained p w (over asked o) d = agree_from o.client o.server o.meet.reads
+    (subst (λ (l : List (Message Known)). Tied (by_event p.server.core.tables) (all_asks l)
+    (server_rows p.server.core.view) o.meet.middle) (none_asked p w.requests asked o.requests d) o.meet.tied)
+agree_drained p w (stands asked told s) d = agree_by p w asked told s d
 
 -- ---- runs
 

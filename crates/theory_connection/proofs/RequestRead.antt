@@ -61,6 +61,9 @@ use Rattle.theory_connection.proofs.TwoRanges.{row_low}
 use Rattle.theory_connection.proofs.MadeFor.{made_for}
 use Rattle.theory_connection.proofs.FoundInFront.{the_found, the_message, finds, all_met, news_free}
 use Rattle.theory_connection.proofs.EndedObject.{EndsAs, ended_view, after_is, argument_is, ends_have, if_by}
+use Rattle.theory_connection.specs.World.{Running}
+use Rattle.theory_connection.specs.Stands.{quiet}
+use Rattle.theory_connection.proofs.Errors.{nothing_behind, no_mark}
 use Rattle.wl_server.proofs.Fronts.{named_object}
 
 -- ---- the request at the front
@@ -374,14 +377,14 @@ plain_event test s n o f g p = plain_ends test (server_told s n) o (plain_tells 
 
 -- after the server has read a request the pair represents the next world
 pub server_read_stands : (p : PairState) (w : World) (m : Message Known) (ms : List (Message Known))
-    (told : List (Coming Known)) (s : StandsBy p w (m ∷ ms) told) (n : ℕ)
+    (told : List (Coming Known)) (s : StandsBy p w (m ∷ ms) told) (n : ℕ) → w.stage ≡ Running
     → AsksAt (test_of p) (all_asks ms) (server_rows p.server.core.view) s.meet.middle m.target (objects m.args)
     (made_in m.args) m.ends
     → InFlight p.client.core.outbox (without_first p.server.core.inbox n (length (tokens m.args)))
-    (map spelled_meant ms)
+    (map spelled_meant ms ++ [])
     → StandsBy (with_server p (left_state p.server m n))
     (request_read w (renamed born_of m) (map (renamed born_of) ms)) ms (told ++ answer id_maker m.ends)
-server_read_stands p w m ms told s n a up =
+server_read_stands p w m ms told s n z a up =
     let f = s.requests.fit.0.fits in
     let v = p.server.core.view in
     let new = made_in m.args in
@@ -397,12 +400,14 @@ server_read_stands p w m ms told s n a up =
           (plain_after (test_of p) (server_rows v) new m.ends a.new s.plain);
       none_made = s.none_made;
       requests = record { in_world = refl; in_boxes = up; fit = s.requests.fit.1 };
+      behind = s.behind;
       events = travel_more p.server.core.outbox (left_core p.server.core m n).outbox p.client.core.inbox w.events _ told
-          (answer id_maker m.ends) s.events
+          (answer id_maker m.ends) s.events (nothing_behind s z)
           (ap (λ (l : List (Coming Born)). w.events ++ l) (sym (map_answer v m.ends there)))
           refl refl (answer_whole p.client.core.inbox.limit m.ends)
           (answer_is (Each (ComesFitly p.server.core.tables p.server.globals)) m.ends tt
           (λ x e l. (low_there v s.server.sound x (subst (IfThere (ThereRow (server_rows v))) e there) l, tt)));
+      error = quiet z (no_mark s z) (nothing_behind s z);
       asks_counted = each_rest (IsAskedBelow (births_in (client_rows p.client.core.view))) (asks m) (all_asks ms)
           s.asks_counted;
       deletes_follow = follow_more told (answer id_maker m.ends) s.deletes_follow (follow_answer m.ends);
@@ -436,7 +441,7 @@ pub record InRequest (p : PairState) (w : World) (m : Message Known) (ms : List 
   pub asks_it : AsksAt (test_of p) (all_asks ms) (server_rows p.server.core.view) s.meet.middle m.target
       (objects m.args) (made_in m.args) m.ends
   pub up : InFlight p.client.core.outbox (without_first p.server.core.inbox n (length (tokens m.args)))
-      (map spelled_meant ms)
+      (map spelled_meant ms ++ [])
   pub more : List ℕ
   pub tokens_are : p.server.core.inbox.tokens ≡ tokens m.args ++ more
 
@@ -450,7 +455,7 @@ pub in_request : (p : PairState) (w : World) (m : Message Known) (ms : List (Mes
     (told : List (Coming Known)) (s : StandsBy p w (m ∷ ms) told) (n : ℕ)
     → in_front p.server.core.inbox ≡ Whole n → InRequest p w m ms told s n
 in_request p w m ms told s n e =
-    let q = first_read p.client.core.outbox p.server.core.inbox (spelled_meant m) (map spelled_meant ms) n
+    let q = first_read p.client.core.outbox p.server.core.inbox (spelled_meant m) (map spelled_meant ms ++ []) n
     s.requests.in_boxes e in
     let a = asks_at m.target (objects m.args) (made_in m.args) m.ends s.meet.tied in
     let i = request_front p w m ms told s n a in

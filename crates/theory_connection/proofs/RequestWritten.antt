@@ -90,12 +90,14 @@ ask_stands p w asked told s m c =
       plain = s.plain;
       none_made = s.none_made;
       requests = travel_more p.client.core.outbox
-          (asked_core p.client.core m).outbox p.server.core.inbox w.requests _ asked (m ∷ []) s.requests refl refl refl (
+          (asked_core p.client.core m).outbox p.server.core.inbox w.requests _ asked (m ∷ []) s.requests refl refl refl refl (
             whole_within p.server.core.inbox.limit m.target.id m.opcode (map wire m.args) f.opcode
                 (subst (λ (l : ℕ). message_len (map wire m.args) ≤ l) s.terms.up_limit c.short),
             tt,
           ) (c.fitly, tt);
+      behind = s.behind;
       events = s.events;
+      error = s.error;
       asks_counted = rw (all_asks_more asked m) (subst (λ (x : Rows Row). Each (IsAskedBelow (births_in x))
           (all_asks asked ++ asks m)) (sym rows)
           (below_asked (client_rows v) s.client.sets m c.target c.args c.new opened (all_asks asked) s.asks_counted));

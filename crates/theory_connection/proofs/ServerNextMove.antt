@@ -29,7 +29,7 @@ use Rattle.theory_connection.proofs.RowsAfterMessage.{there_row}
 use Rattle.theory_connection.specs.World.{World, IfThere, request_read, reads_request, answer}
 use Rattle.theory_connection.specs.Pair.{PairState, ServerNext, with_server, Nexts, answered, no_memory}
 use Rattle.theory_connection.specs.Pair.{no_memory_to_open}
-use Rattle.theory_connection.specs.Answers.{NotEnded, before, ReportsRequest, rows_of_server, IsOutFull}
+use Rattle.theory_connection.specs.Answers.{ReportsRequest, rows_of_server, IsOutFull}
 use Rattle.theory_connection.specs.Stands.{StandsBy}
 use Rattle.theory_connection.proofs.Channels.{pops, never_bad}
 use Rattle.theory_connection.proofs.ReadAsMeant.{reports_right}
@@ -40,17 +40,19 @@ use Rattle.theory_connection.specs.Flight.{server_rows}
 use Rattle.theory_connection.proofs.RequestRead.{InRequest, in_request, left_state, left_is, owes_is}
 use Rattle.theory_connection.proofs.RequestRead.{server_read_stands}
 use Rattle.theory_connection.proofs.Moves.{Moves, goes_on, stays, reading_request}
+use Rattle.theory_connection.specs.World.{Running}
+use Rattle.theory_connection.proofs.Errors.{before, server_lives}
 
 -- ---- nothing at the front
 
 idle : (p : PairState) (w : World) (asked : List (Message Known)) (told : List (Coming Known))
-    (s : StandsBy p w asked told) → in_front p.server.core.inbox ≡ More
+    (s : StandsBy p w asked told) → w.stage ≡ Running → in_front p.server.core.inbox ≡ More
     → (request p.server ≡ Ok None) × (next_answer p.server ≡ Ok None) × (after_next p.server ≡ p.server)
-idle p w asked told s e =
+idle p w asked told s z e =
     let r : request p.server ≡ Ok None = ap (λ (f : Front). unless_bad_bind p.server
     (found_at p.server.core request_side f)) e
     in
-    (r, rw (s.server.lives, r) refl, rw (s.server.lives, r) refl)
+    (r, rw (server_lives s z, r) refl, rw (server_lives s z, r) refl)
 
 -- ---- a request at the front
 
@@ -87,7 +89,7 @@ and_not true b h e = h
 and_not false b h e = absurd (cc e)
 
 keeps_out_full : (p : PairState) (w : World) (m : Message Known) (ms : List (Message Known))
-    (told : List (Coming Known)) (s : StandsBy p w (m ∷ ms) told) (n : ℕ) → NotEnded p w
+    (told : List (Coming Known)) (s : StandsBy p w (m ∷ ms) told) (n : ℕ) → w.stage ≡ Running
     → in_front p.server.core.inbox ≡ Whole n → InRequest p w m ms told s n
     → (reply : Result (Option Report) NextError) (p' : PairState)
     → (Nexts needs_memory false (next_answer p.server) p (with_server p (after_next p.server)) reply p')
@@ -103,7 +105,7 @@ keeps_out_full p w m ms told s n z e i reply p' d full answered = record {
     because = full;
     same = refl;
   });
-  outcome = goes_on (m ∷ ms) told z s stays;
+  outcome = goes_on (m ∷ ms) told s stays;
 }
 keeps_out_full p w m ms told s n z e i reply p' d full (no_memory q h) = absurd (cc q)
 keeps_out_full p w m ms told s n z e i reply p' d full (no_memory_to_open q h) = absurd (cc h)
@@ -117,7 +119,7 @@ request_there p w m ms told s n i =
     ends_have there p.server.core.tables request_side m f i.asks_it.target i.asks_it.args
 
 keeps_read : (p : PairState) (w : World) (m : Message Known) (ms : List (Message Known)) (told : List (Coming Known))
-    (s : StandsBy p w (m ∷ ms) told) (n : ℕ) → NotEnded p w
+    (s : StandsBy p w (m ∷ ms) told) (n : ℕ) → w.stage ≡ Running
     → in_front p.server.core.inbox ≡ Whole n → (i : InRequest p w m ms told s n)
     → (reply : Result (Option Report) NextError) (p' : PairState)
     → (Nexts needs_memory false (next_answer p.server) p (with_server p (after_next p.server)) reply p')
@@ -130,12 +132,12 @@ keeps_read p w m ms told s n z e i reply p' d room answered = record {
   answers = before z d (record {
     waits = subst HasMessage (sym e) tt;
     message = renamed born_of m;
-    steps = reads_request (renamed born_of m) (map (renamed born_of) ms) s.requests.in_world;
+    steps = reads_request (renamed born_of m) (map (renamed born_of) ms) z s.requests.in_world;
     reports =
         reports p w m ms told s n i;
     has_room = room;
   });
-  outcome = goes_on ms (told ++ answer id_maker m.ends) z (server_read_stands p w m ms told s n i.asks_it i.up)
+  outcome = goes_on ms (told ++ answer id_maker m.ends) (server_read_stands p w m ms told s n z i.asks_it i.up)
       (reading_request m ms n refl e (if_by (λ x h. s.server.sets.below x.id x.born h) m.ends
       (request_there p w m ms told s n i)));
 }
@@ -153,7 +155,7 @@ keeps_read p w m ms told s n z e i reply p' d room (no_memory {report = r} q h) 
         because = (needs, room);
         same = refl;
       });
-      outcome = goes_on (m ∷ ms) told z s stays;
+      outcome = goes_on (m ∷ ms) told s stays;
     }
 
 is_client : (b : Bool) → same_maker (cond b Server Client) Client ≡ not b
@@ -178,14 +180,14 @@ owes_in p w m ms told s n i =
     i.same_target i.asks_it.target i.asks_it.args)
 
 at_request : (p : PairState) (w : World) (m : Message Known) (ms : List (Message Known)) (told : List (Coming Known))
-    (s : StandsBy p w (m ∷ ms) told) (n : ℕ) → NotEnded p w
+    (s : StandsBy p w (m ∷ ms) told) (n : ℕ) → w.stage ≡ Running
     → in_front p.server.core.inbox ≡ Whole n → (i : InRequest p w m ms told s n)
     → (reply : Result (Option Report) NextError) (p' : PairState)
     → (Nexts needs_memory false (next_answer p.server) p (with_server p (after_next p.server)) reply p')
     → (b : Bool) → is_out_full p.server.core (the_found n m i.entry s.requests.fit.0.fits.signature) ≡ b
     → Moves p w (m ∷ ms) told ServerNext (ServerNext reply) p'
 at_request p w m ms told s n z e i reply p' d true h =
-    let a = answer_is p m (the_found n m i.entry s.requests.fit.0.fits.signature) true s.server.lives i.finds_it h in
+    let a = answer_is p m (the_found n m i.entry s.requests.fit.0.fits.signature) true (server_lives s z) i.finds_it h in
     let k = and_parts _ _ h in
     let owes = owes_in p w m ms told s n i in
     keeps_out_full p w m ms told s n z e i reply p' d (owes ∙ k.0, ltb-true _ _ k.1)
@@ -193,7 +195,7 @@ at_request p w m ms told s n z e i reply p' d true h =
     (subst (λ x. Nexts needs_memory false x p (with_server p (after_next p.server)) reply p') a.answer d))
 at_request p w m ms told s n z e i reply p' d false h =
     let f = the_found n m i.entry s.requests.fit.0.fits.signature in
-    let a = answer_is p m f false s.server.lives i.finds_it h in
+    let a = answer_is p m f false (server_lives s z) i.finds_it h in
     let owes = owes_in p w m ms told s n i in
     keeps_read p w m ms told s n z e i reply p' d
     (λ full. (let no = ltb-false _ _ (and_not _ _ h (sym owes ∙ full.0)) in absurd (omega (arith, no, full.1))))
@@ -203,7 +205,7 @@ at_request p w m ms told s n z e i reply p' d false h =
     (subst (λ x. Nexts needs_memory false x p (with_server p (after_next p.server)) reply p') a.answer d))
 
 at_whole : (p : PairState) (w : World) (asked : List (Message Known)) (told : List (Coming Known))
-    (s : StandsBy p w asked told) (n : ℕ) → NotEnded p w
+    (s : StandsBy p w asked told) (n : ℕ) → w.stage ≡ Running
     → in_front p.server.core.inbox ≡ Whole n → (reply : Result (Option Report) NextError) (p' : PairState)
     → (Nexts needs_memory false (next_answer p.server) p (with_server p (after_next p.server)) reply p')
     → Moves p w asked told ServerNext (ServerNext reply) p'
@@ -214,22 +216,22 @@ at_whole p w (m ∷ ms) told s n z e reply p' d =
     at_request p w m ms told s n z e i reply p' d _ refl
 
 keeps_idle : (p : PairState) (w : World) (asked : List (Message Known)) (told : List (Coming Known))
-    (s : StandsBy p w asked told) → NotEnded p w → in_front p.server.core.inbox ≡ More
+    (s : StandsBy p w asked told) → w.stage ≡ Running → in_front p.server.core.inbox ≡ More
     → (reply : Result (Option Report) NextError) (p' : PairState)
     → (Nexts needs_memory false (next_answer p.server) p (with_server p (after_next p.server)) reply p')
     → Nexts needs_memory false (Ok None) p p reply p' → Moves p w asked told ServerNext (ServerNext reply) p'
 keeps_idle p w asked told s z e reply p' d answered =
-    record { world = w; answers = before z d (λ h. subst HasMessage e h, refl); outcome = goes_on asked told z s stays }
+    record { world = w; answers = before z d (λ h. subst HasMessage e h, refl); outcome = goes_on asked told s stays }
 keeps_idle p w asked told s z e reply p' d (no_memory q h) = absurd (cc q)
 keeps_idle p w asked told s z e reply p' d (no_memory_to_open q h) = absurd (cc h)
 
 at_front : (p : PairState) (w : World) (asked : List (Message Known)) (told : List (Coming Known))
-    (s : StandsBy p w asked told) → NotEnded p w
+    (s : StandsBy p w asked told) → w.stage ≡ Running
     → (reply : Result (Option Report) NextError) (p' : PairState)
     → (Nexts needs_memory false (next_answer p.server) p (with_server p (after_next p.server)) reply p')
     → (f : Front) → in_front p.server.core.inbox ≡ f → Moves p w asked told ServerNext (ServerNext reply) p'
 at_front p w asked told s z reply p' d More e =
-    let i = idle p w asked told s e in
+    let i = idle p w asked told s z e in
     keeps_idle p w asked told s z e reply p' d
     (subst (λ st. Nexts needs_memory false (Ok None) p (with_server p st) reply p') i.2
     (subst (λ x. Nexts needs_memory false x p (with_server p (after_next p.server)) reply p') i.1 d))
@@ -239,7 +241,7 @@ at_front p w asked told s z reply p' d (Whole n) e = at_whole p w asked told s n
 
 -- after a read by the server the pair represents the next world
 pub server_next_keeps : (p : PairState) (w : World) (asked : List (Message Known)) (told : List (Coming Known))
-    → StandsBy p w asked told → NotEnded p w
+    → StandsBy p w asked told → w.stage ≡ Running
     → (reply : Result (Option Report) NextError) (p' : PairState)
     → (Nexts needs_memory false (next_answer p.server) p (with_server p (after_next p.server)) reply p')
     → Moves p w asked told ServerNext (ServerNext reply) p'

@@ -36,7 +36,7 @@ use Rattle.theory_connection.specs.World.{dropped, Steps, writes_event, drops, W
 use Rattle.theory_connection.specs.Pair.{ended_mark, after_post, PairState, ServerSend, ServerDrop}
 use Rattle.theory_connection.specs.Pair.{PostError, with_server_core, Writes, accepted, refused}
 use Rattle.theory_connection.specs.Pair.{no_memory, Calls, done}
-use Rattle.theory_connection.specs.Answers.{NotEnded, birth_at, before}
+use Rattle.theory_connection.specs.Answers.{birth_at}
 use Rattle.theory_connection.specs.Flight.{IsBelow, server_rows, tells, all_tells}
 use Rattle.theory_connection.specs.Stands.{StandsBy, by_event}
 use Rattle.theory_connection.specs.Runs.{FitsWords}
@@ -74,10 +74,19 @@ use Rattle.theory_connection.proofs.Written.{call_ends, accepted_call, opens, no
 use Rattle.theory_connection.proofs.ClientSendMove.{made_same}
 use Rattle.theory_connection.proofs.EndedObject.{ended_view, ends_have, after_is, if_by, born_ends}
 use Rattle.theory_connection.proofs.EventWritten.{CanTell, told_core, dropped_core, tell_stands, drop_stands}
-use Rattle.theory_connection.proofs.Moves.{LeadsTo, Moves, Outcome, goes_on, ends_it, stays}
+use Rattle.theory_connection.proofs.Moves.{LeadsTo, Moves, Outcome, goes_on, posts_it, stays}
 use Rattle.theory_connection.proofs.Moves.{telling, event_below, delete_below}
+use Rattle.std.proofs.Common.{◌<◌, ◌^◌}
+use Rattle.wl_server.specs.Calls.{error_at, is_error_text}
+use Rattle.wl_connection.proofs.Messages.{whole_within}
+use Rattle.theory_connection.specs.World.{Posted, Running, Failing, in_stage, posts}
+use Rattle.theory_connection.specs.Stands.{comes, IsErrorAbout, error_message}
+use Rattle.theory_connection.proofs.Channels.{pushed}
+use Rattle.theory_connection.proofs.Stands.{none_behind}
+use Rattle.theory_connection.proofs.ErrorRead.{error_values, error_short}
+use Rattle.theory_connection.proofs.Errors.{before, server_lives, nothing_behind, no_mark}
 
-there_live : (v : Objects) (x : Known) → LiveAt v x → ThereRow (server_rows v) x
+pub there_live : (v : Objects) (x : Known) → LiveAt v x → ThereRow (server_rows v) x
 there_live v x l = ap (option_map (born_of_entry x.id)) l.there ∙ ap Some l.same
 
 no_registry : (a b : Bool) → (a || b) ≡ false → b ≡ false
@@ -166,7 +175,7 @@ server_can p w asked told s target opcode given signature c k n =
     }
 
 -- the delete of an object that an event ends is appended to the outbox
-followed_event : (b : Bool) (id : ℕ) (o : Option Known) (c : Core) → b ≡ is_some o → IfThere (λ x. x.id ≡ id) o
+pub followed_event : (b : Bool) (id : ℕ) (o : Option Known) (c : Core) → b ≡ is_some o → IfThere (λ x. x.id ≡ id) o
     → with_following b id c ≡ record c {
       outbox =
           record c.outbox { messages = c.outbox.messages ++ map spelled_coming (delete o) };
@@ -175,7 +184,7 @@ followed_event b id None c f h = ap (λ (k : Bool). with_following k id c) f
     ∙ (λ i. record c { outbox = record c.outbox { messages = sym (append-nil c.outbox.messages) i } })
 followed_event b id (Some x) c f h = λ i. with_following (f i) (sym h i) c
 
-left_by : (core : Core) (target : Object) (opcode : ℕ) (given : List Given) (signature : sigs.MessageSignature)
+pub left_by : (core : Core) (target : Object) (opcode : ℕ) (given : List Given) (signature : sigs.MessageSignature)
     → Valid core.tables → checked core.outbox.limit.bytes core.tables Event core.view target opcode given ≡ Ok signature
     → (c : Checked core.outbox.limit.bytes core.tables Event core.view target opcode given signature)
     (k : CallIs core Event target opcode given signature c.entry)
@@ -217,11 +226,11 @@ if_born births (Some x) h = h
 
 -- the call is a step in the world
 pub tells_world : (p : PairState) (w : World) (asked : List (Message Known)) (told : List (Coming Known))
-    (s : StandsBy p w asked told) (m : Message Known) → CanTell p m
+    (s : StandsBy p w asked told) (m : Message Known) → CanTell p m → w.stage ≡ Running
     → Steps p.server.core.tables w (WriteEvent (renamed born_of m)) (event_written w (renamed born_of m))
-tells_world p w asked told s m c =
+tells_world p w asked told s m c z =
     let v = p.server.core.view in
-    writes_event (renamed born_of m) (s.server.sets.shown m.target.id m.target.born c.target)
+    writes_event (renamed born_of m) z (s.server.sets.shown m.target.id m.target.born c.target)
     (rw (objects_map born_of m.args) (each_map born_of (IsThere w.server) (objects m.args)
     (each_by (ThereRow (server_rows v)) (λ (x : Known). IsThere w.server x.born)
     (λ x h. s.server.sets.shown x.id x.born h) (objects m.args) c.args)))
@@ -269,7 +278,7 @@ tells_one p w asked told s m c =
 
 -- after a call of the server the pair represents the next world
 pub server_send_keeps : (p : PairState) (w : World) (asked : List (Message Known)) (told : List (Coming Known))
-    → StandsBy p w asked told → NotEnded p w → (target : Object) (opcode : ℕ) (given : List Given)
+    → StandsBy p w asked told → w.stage ≡ Running → (target : Object) (opcode : ℕ) (given : List Given)
     → Each FitsWords given
     → (reply : Result (Option Object) SendError) (p' : PairState)
     → Writes (send_answer p.server.core Event target opcode given)
@@ -279,7 +288,7 @@ pub server_send_keeps : (p : PairState) (w : World) (asked : List (Message Known
     → Moves p w asked told (ServerSend target opcode given) (ServerSend reply) p'
 server_send_keeps p w asked told s z target opcode given g reply p' (accepted {new = new} h) =
     let core = p.server.core in
-    let a = accepted_call core Event target opcode given new s.server.lives h in
+    let a = accepted_call core Event target opcode given new (server_lives s z) h in
     let c = is_checked core.outbox.limit.bytes core.tables Event core.view target opcode given a.signature a.checks in
     let k = call_is core Event target opcode given a.signature s.terms.valid s.server.sound g c in
     let o = opens core Server (made_at core Event target a.signature given) new a.opens_it in
@@ -305,25 +314,26 @@ server_send_keeps p w asked told s z target opcode given g reply p' (accepted {n
             ∙ new_births (made_in args) object (told_births core.view (made_in args) s.server.sound can.new)
             ∙ ap (option_map birth_at) (ap (option_map (λ (y : NewObject). object))
             (sym (made_same core Event target given a.signature c.entry c.there ∙ k.made_is)) ∙ sym o.is);
-        steps = tells_world p w asked told s m can;
+        steps = tells_world p w asked told s m can z;
       });
       outcome = subst (λ (x : Core). Outcome p asked told (with_server_core p x) (event_written w (renamed born_of m)))
           (sym (left_by core target opcode given a.signature s.terms.valid a.checks c k))
-          (goes_on asked (told ++ (event_of m ∷ delete m.ends)) z (tell_stands p w asked told s m can)
+          (goes_on asked (told ++ (event_of m ∷ delete m.ends)) (tell_stands p w asked told s m can z)
           (tells_one p w asked told s m can));
     }
 server_send_keeps p w asked told s z target opcode given g reply p' (refused h) =
-    record { world = w; answers = before z (refused h) refl; outcome = goes_on asked told z s stays }
+    record { world = w; answers = before z (refused h) refl; outcome = goes_on asked told s stays }
 server_send_keeps p w asked told s z target opcode given g reply p' (no_memory h o) =
-    record { world = w; answers = before z (no_memory h o) refl; outcome = goes_on asked told z s stays }
+    record { world = w; answers = before z (no_memory h o) refl; outcome = goes_on asked told s stays }
 
 -- ---- dropping
 
-record Droppable (core : Core) (object : Object) : Type 0 where
-  entry : Entry
-  there : look core.view object.id ≡ Some entry
-  birth : entry.birth ≡ object.birth
-  by : is_ended_by_event (interface_at core.tables entry.iface.0) ≡ true
+-- an object that can be dropped
+pub record Droppable (core : Core) (object : Object) : Type 0 where
+  pub entry : Entry
+  pub there : look core.view object.id ≡ Some entry
+  pub birth : entry.birth ≡ object.birth
+  pub by : is_ended_by_event (interface_at core.tables entry.iface.0) ≡ true
 
 by_row : (core : Core) (entry : Entry) (b : Bool) (why : SendError) (rest : Option SendError)
     → not (is_ended_by_event (interface_at core.tables entry.iface.0)) ≡ b → cond b (Some why) rest ≡ None
@@ -346,7 +356,7 @@ droppable_at core object (Some entry) e h =
     let l = live_found object.birth (look core.view object.id) _ entry refl e in
     record { entry = entry; there = l.0; birth = l.1; by = by_row core entry _ _ _ refl h }
 
-droppable : (core : Core) (object : Object) → core.failed ≡ false → drop_refusal core object ≡ None
+pub droppable : (core : Core) (object : Object) → core.failed ≡ false → drop_refusal core object ≡ None
     → Droppable core object
 droppable core object l h =
     droppable_at core object (live_row core.view object) refl
@@ -354,11 +364,11 @@ droppable core object l h =
 
 -- after an object is dropped the pair represents the next world
 pub server_drop_keeps : (p : PairState) (w : World) (asked : List (Message Known)) (told : List (Coming Known))
-    → StandsBy p w asked told → NotEnded p w → (object : Object) (reply : Result (Unit {0}) SendError) (p' : PairState)
+    → StandsBy p w asked told → w.stage ≡ Running → (object : Object) (reply : Result (Unit {0}) SendError) (p' : PairState)
     → Calls (drop_refusal p.server.core object) p (with_server_core p (after_drop p.server.core object)) reply p'
     → Moves p w asked told (ServerDrop object) (ServerDrop reply) p'
 server_drop_keeps p w asked told s z object reply p' (done h) =
-    let d = droppable p.server.core object s.server.lives h in
+    let d = droppable p.server.core object (server_lives s z) h in
     let x : Known = record { id = object.id; born = born_of_entry object.id d.entry } in
     let there : ThereRow (server_rows p.server.core.view) x = ap (option_map (born_of_entry object.id)) d.there in
     let range = there_client p w asked told s x there d.by in
@@ -370,9 +380,9 @@ server_drop_keeps p w asked told s z object reply p' (done h) =
       answers = before z (done h) (record {
         object = x.born;
         is = ap (λ (n : ℕ). birth_at (record { id = object.id; birth = n })) d.birth;
-        steps = drops x.born (s.server.sets.shown x.id x.born there) d.by;
+        steps = drops x.born z (s.server.sets.shown x.id x.born there) d.by;
       });
-      outcome = goes_on asked (told ++ Delete x ∷ []) z (drop_stands p w asked told s x there d.by low)
+      outcome = goes_on asked (told ++ Delete x ∷ []) (drop_stands p w asked told s x there d.by low z)
           (telling (closed p.server.core.view x.id) (dropped_core p.server.core x).outbox p.server.registries
           (Delete x ∷ [])
           (λ k. subst (λ (n : Maker → ℕ). births_in (server_rows p.server.core.view) k ≤ n k) (sym same) (omega arith)) (
@@ -382,26 +392,100 @@ server_drop_keeps p w asked told s z object reply p' (done h) =
           ));
     }
 server_drop_keeps p w asked told s z object reply p' (refused h) =
-    record { world = w; answers = before z (refused h) refl; outcome = goes_on asked told z s stays }
+    record { world = w; answers = before z (refused h) refl; outcome = goes_on asked told s stays }
 
 -- ---- an error
 
--- posting an error ends the world
+-- an error about this object can be posted
+record Postable (core : Core) (object : Object) (text : List ℕ) : Type 0 where
+  entry : Entry
+  there : look core.view object.id ≡ Some entry
+  birth : entry.birth ≡ object.birth
+  fits : is_error_text text ≡ true
+
+text_fits : (text : List ℕ) (b : Bool) → is_error_text text ≡ b → cond b None (Some (refusals.WrongArgs 2)) ≡ None
+    → is_error_text text ≡ true
+text_fits text true e h = e
+text_fits text false e h = absurd (cc h)
+
+postable_at : (core : Core) (object : Object) (text : List ℕ) (o : Option Entry) → live_row core.view object ≡ o
+    → error_at text o ≡ None → Postable core object text
+postable_at core object text None e h = absurd (cc h)
+postable_at core object text (Some entry) e h =
+    let l = live_found object.birth (look core.view object.id) _ entry refl e in
+    record { entry = entry; there = l.0; birth = l.1; fits = text_fits text _ refl h }
+
+postable : (core : Core) (object : Object) (text : List ℕ) → core.failed ≡ false → error_refusal core object text ≡ None
+    → Postable core object text
+postable core object text l h =
+    postable_at core object text (live_row core.view object) refl
+    (sym (ap (λ (b : Bool). cond b (Some refusals.Failed) (error_at text (live_row core.view object))) l) ∙ h)
+
+-- after an error is posted it is in flight, behind all events
+post_stands : (p : PairState) (w : World) (asked : List (Message Known)) (told : List (Coming Known))
+    (s : StandsBy p w asked told) (object : Object) (e : Posted) → w.stage ≡ Running
+    → IsErrorAbout (server_rows p.server.core.view) object.id e
+    → StandsBy (after_post p object e.code e.text) (in_stage w (Failing e)) asked told
+post_stands p w asked told s object e z a =
+    let error = error_message object.id e in
+    let limit = p.client.core.inbox.limit in
+    record {
+      terms = s.terms;
+      client = s.client;
+      server = record {
+        sets = s.server.sets;
+        births = s.server.births;
+        sound = s.server.sound;
+        display = s.server.display;
+        versions = s.server.versions;
+        live = s.server.live;
+        lives = refl;
+      };
+      plain = s.plain;
+      none_made = s.none_made;
+      requests = s.requests;
+      behind = error ∷ [];
+      events = record {
+        in_world = s.events.in_world;
+        in_boxes = pushed p.server.core.outbox (after_post p object e.code e.text).server.core.outbox
+            p.client.core.inbox (map spelled_coming told) (error ∷ [])
+            (none_behind p.server.core.outbox p.client.core.inbox (map spelled_coming told) s.behind
+            s.events.in_boxes (nothing_behind s z)) refl refl (
+              whole_within limit 1 0 (error_values object.id e) (omega arith)
+                  (let short = error_short object.id e a.text in omega (arith, short, limit.in_range.0)),
+              tt,
+            );
+        fit = s.events.fit;
+      };
+      error = comes e object.id refl
+          (ap (λ (o : Option ℕ). is_some (ended_mark o (length p.recording))) (no_mark s z)) refl a;
+      asks_counted = s.asks_counted;
+      deletes_follow = s.deletes_follow;
+      meet = s.meet;
+      globals = s.globals;
+      registries = s.registries;
+    }
+
+-- after an error is posted the pair represents the next world
 pub post_error_keeps : (p : PairState) (w : World) (asked : List (Message Known)) (told : List (Coming Known))
-    → StandsBy p w asked told → NotEnded p w → (object : Object) (code : ℕ) (text : List ℕ)
-    (reply : Result (Unit {0}) SendError) (p' : PairState)
+    → StandsBy p w asked told → w.stage ≡ Running → (object : Object) (code : ℕ) (text : List ℕ) → code < 2 ^ 32
+    → (reply : Result (Unit {0}) SendError) (p' : PairState)
     → Calls (error_refusal p.server.core object text) p (after_post p object code text) reply p'
     → Moves p w asked told (PostError object code text) (PostError reply) p'
-post_error_keeps p w asked told s z object code text reply p' (done h) =
+post_error_keeps p w asked told s z object code text c reply p' (done h) =
+    let d = postable p.server.core object text (server_lives s z) h in
+    let born = born_of_entry object.id d.entry in
+    let e : Posted = record { object = born; code = code; text = text } in
+    let there = ap (option_map (born_of_entry object.id)) d.there in
     record {
-      world = record w { ended = true };
-      answers = before z (done h) refl;
-      outcome = ends_it refl (record {
-        tables = refl;
-        limit = refl;
-        pieces = refl;
-        mark = ap (λ (o : Option ℕ). ended_mark o (length p.recording)) z.1;
+      world = in_stage w (Failing e);
+      answers = before z (done h) (record {
+        object = born;
+        is = ap (λ (n : ℕ). birth_at (record { id = object.id; birth = n })) d.birth;
+        steps = posts e z (s.server.sets.shown object.id born there);
       });
+      outcome = posts_it object code text refl (post_stands p w asked told s object e z
+          (record { there = there; code = c; text = d.fits }));
     }
-post_error_keeps p w asked told s z object code text reply p' (refused h) =
-    record { world = w; answers = before z (refused h) refl; outcome = goes_on asked told z s stays }
+post_error_keeps p w asked told s z object code text c reply p' (refused h) =
+    record { world = w; answers = before z (refused h) refl; outcome = goes_on asked told s stays }

@@ -1,11 +1,11 @@
 -- How a move changes each part of the relation between a pair and its world.
-use Rattle.std.proofs.Common.{◌≡◌, ◌≢◌, ℕ, Bool, true, false, cond, List, ◌∷◌, ◌++◌, map, length, take, ◌≤◌, ◌<◌}
+use Rattle.std.proofs.Common.{◌≡◌, ◌≢◌, ℕ, Bool, true, false, cond, List, [], ◌∷◌, ◌++◌, map, length, take, ◌≤◌, ◌<◌}
 use Rattle.std.proofs.Common.{refl, sym, ap, subst, ◌∙◌, arith}
 use Rattle.std.specs.Prelude.{option_map, nat_eq, is_some}
 use Rattle.std.specs.declared.option.Option.{Option}
 use Rattle.std.specs.declared.option.Option.TheVariants.{None, Some}
 use Rattle.std.proofs.lemmas.Bool.{ne_eqb}
-use Rattle.std.proofs.lemmas.List.{map-append}
+use Rattle.std.proofs.lemmas.List.{append-nil, map-append}
 use Rattle.wl_sigs.specs.Side.{Side}
 use Rattle.wl_sigs.specs.Side.TheVariants.{Request, Event}
 use Rattle.wl_message.specs.Arrived.{Arrived, without_first, in_front}
@@ -195,13 +195,13 @@ module _ {view : Objects} {failed : Bool} {births : ℕ} {held : Birth → Optio
 
 -- ---- the server's objects
 
-module _ {view : Objects} {failed : Bool} {births : ℕ} {there : Birth → Option Born}
-    (s : ServerStands view failed births there) where
+module _ {view : Objects} {failed posted : Bool} {births : ℕ} {there : Birth → Option Born}
+    (s : ServerStands view failed posted births there) where
   -- After a request that makes `new` and ends `ends`, the server's objects represent the next
   -- world.
   pub server_message : (new ends : Option Known) → IfThere (Fresh (server_rows view)) new
       → IfThere (λ x. 1 ≤ x.born.version) new → IfThere (ThereRow (server_rows view)) ends → IfThere Mortal ends
-      → ServerStands (ended_view Event (opens view (option_map made_of new)) ends) failed births
+      → ServerStands (ended_view Event (opens view (option_map made_of new)) ends) failed posted births
       (gone (option_map born_of ends) (born_into same (option_map born_of new) there))
   server_message new ends fresh version has mortal =
       let made = server_makes (server_rows view) new in
@@ -228,7 +228,7 @@ module _ {view : Objects} {failed : Bool} {births : ℕ} {there : Birth → Opti
   -- After an event that makes `new` and ends `ends`, the server's objects represent the next world.
   pub server_event : (new ends : Option Known) → IfThere (FreshTold (server_rows view)) new
       → IfThere (λ x. 1 ≤ x.born.version) new → IfThere (ThereRow (server_rows view)) ends → IfThere Mortal ends
-      → ServerStands (ended_view Event (opens view (option_map made_of new)) ends) failed
+      → ServerStands (ended_view Event (opens view (option_map made_of new)) ends) failed posted
       (births_counted (option_map born_of new) births)
       (gone (option_map born_of ends) (born_into same (option_map born_of new) there))
   server_event new ends fresh version has mortal =
@@ -285,23 +285,35 @@ first_read from to first rest n f e =
           (subst (λ (l : List ℕ). InFlight from (without_first to n (length l)) q.rest) tokens q.stay);
     }
 
-module _ {M W : Type 0} {as_born : M → W} {as_sent : M → boxes.QueuedMessage} {Fitly : M → Type 0} where
-  -- More messages are written: they are appended to those in flight.
+-- nothing is behind the messages in flight
+pub none_behind : (from : Outgoing) (to : Arrived) (messages behind : List boxes.QueuedMessage)
+    → InFlight from to (messages ++ behind) → behind ≡ [] → InFlight from to messages
+none_behind from to messages behind f b = subst (InFlight from to)
+    (ap (λ (l : List boxes.QueuedMessage). messages ++ l) b ∙ append-nil messages) f
+
+module _ {M W : Type 0} {as_born : M → W} {as_sent : M → boxes.QueuedMessage} {Fitly : M → Type 0}
+    {behind : List boxes.QueuedMessage} where
+  -- More messages are written: they are appended to those in flight, if nothing is behind these.
   pub travel_more : (from after : Outgoing) (to : Arrived) (births now : List W) (messages more : List M)
-      → Travel as_born as_sent Fitly from to births messages → now ≡ births ++ map as_born more
+      → Travel as_born as_sent Fitly from to births messages behind → behind ≡ []
+      → now ≡ births ++ map as_born more
       → after.left ≡ from.left → after.messages ≡ from.messages ++ map as_sent more
       → Each (λ m. IsMessage to.limit.bytes m.bytes) (map as_sent more) → Each Fitly more
-      → Travel as_born as_sent Fitly after to now (messages ++ more)
-  travel_more from after to births now messages more t n l e w f = record {
+      → Travel as_born as_sent Fitly after to now (messages ++ more) behind
+  travel_more from after to births now messages more t b n l e w f = record {
     in_world = n ∙ ap (λ (bs : List W). bs ++ map as_born more) t.in_world ∙ sym (map-append as_born messages more);
-    in_boxes = subst (λ (ms : List boxes.QueuedMessage). InFlight after to ms) (sym (map-append as_sent messages more))
-        (pushed from after to (map as_sent messages) (map as_sent more) t.in_boxes l e w);
+    in_boxes = subst (λ (ms : List boxes.QueuedMessage). InFlight after to ms)
+        (sym (map-append as_sent messages more) ∙ sym (append-nil (map as_sent (messages ++ more)))
+        ∙ ap (λ (x : List boxes.QueuedMessage). map as_sent (messages ++ more) ++ x) (sym b))
+        (pushed from after to (map as_sent messages) (map as_sent more)
+        (none_behind from to (map as_sent messages) behind t.in_boxes b) l e w);
     fit = each_more Fitly messages more t.fit f;
   }
 
   -- The messages in flight fit in another sense, if the first sense implies it.
   pub travel_by : {Other : M → Type 0} {from : Outgoing} {to : Arrived} {births : List W} {messages : List M}
       → ((m : M) → Fitly m → Other m)
-      → Travel as_born as_sent Fitly from to births messages → Travel as_born as_sent Other from to births messages
+      → Travel as_born as_sent Fitly from to births messages behind
+      → Travel as_born as_sent Other from to births messages behind
   travel_by {Other = Other} {messages = messages} f t =
       record { in_world = t.in_world; in_boxes = t.in_boxes; fit = each_by Fitly Other f messages t.fit }

@@ -22,7 +22,7 @@ use Rattle.theory_connection.specs.Flight.{Tied, drained, use_, make, destroy, g
 use Rattle.theory_connection.specs.Flight.{server_rows, make_tell, all_asks, all_tells, ends}
 use Rattle.theory_connection.specs.Pair.{PairState}
 use Rattle.theory_connection.specs.Answers.{birth_at, marks_of}
-use Rattle.theory_connection.specs.Stands.{Stands, stands, ended, StandsBy, by_event}
+use Rattle.theory_connection.specs.Stands.{Stands, stands, over, StandsBy, by_event}
 use Rattle.theory_connection.specs.Plain.{In, IsHeldAtClient, DeleteComes, MakeComes, DestroyComes}
 use Rattle.theory_connection.specs.Plain.{IsSomewhere, NamesBirth, StandsIn, IsUnnamed, news, tell_id}
 use Rattle.theory_connection.proofs.Flight.{counts_after}
@@ -556,11 +556,11 @@ module _ (p : PairState) (w : World) (asked : List (Message Known)) (told : List
 
 -- ---- a pair that represents a world
 
--- what follows for each pair that represents a world follows in a world that has not ended
+-- what follows for each pair that represents a world follows in a world in which the client has read no error
 pub in_world : {A : Type 0} (p : PairState) (w : World) → StandsIn p w
     → ((asked : List (Message Known)) (told : List (Coming Known)) → StandsBy p w asked told → A) → A
 in_world {A} p w h f = by_stands h.stands
   where
     by_stands : Stands p w → A
-    by_stands (ended e) = absurd (let z = h.goes_on in cc (e, z))
-    by_stands (stands asked told z s) = f asked told s
+    by_stands (over asked o) = absurd (let z = h.goes_on in let e = o.stage in cc (e, z))
+    by_stands (stands asked told s) = f asked told s

@@ -18,6 +18,9 @@ use Rattle.wl_object_map.specs.declared.object.Maker.TheVariants.{Client}
 use Rattle.wl_object_map.specs.Objects.{maker_of}
 use Rattle.wl_objects.specs.declared.argument.Named.{Named}
 use Rattle.wl_objects.specs.declared.argument.Named.TheVariants as named_as
+use Rattle.wl_objects.specs.declared.error.SendError.TheVariants as refusals
+use Rattle.wl_server.specs.declared.globals.GlobalError.TheVariants as global_errors
+use Rattle.wl_connection.specs.Core.{no_room}
 use Rattle.wl_objects.specs.declared.error.NextError.{NextError}
 use Rattle.wl_objects.specs.declared.error.NextError.TheVariants as errors
 use Rattle.wl_objects.specs.Reading.{Reported}
@@ -28,17 +31,18 @@ use Rattle.wl_server.specs.State as server
 use Rattle.wl_server.specs.Requests as requests
 use Rattle.wl_server.specs.Calls.{without_at}
 use Rattle.wl_server.specs.Announcing.{Owing, owed_to, marked, owed_opcode, values_of}
-use Rattle.wl_recording.specs.Piece.{Piece}
 use Rattle.theory_connection.specs.Meant.{Birth, client_birth, server_birth, same_birth, same_maker}
 use Rattle.theory_connection.specs.Meant.{Born, Message, Coming}
 use Rattle.theory_connection.specs.Meant.{Event, Delete, Arg, rearg, birth_of, made_in}
 use Rattle.theory_connection.specs.Meant.{ended_by, tokens}
 use Rattle.theory_connection.specs.World.{World, Row, Open, Ending, Marks, Action, WriteRequest}
 use Rattle.theory_connection.specs.World.{ReadRequest, WriteEvent, Drop, ReadEvent, Steps, IsOpen}
-use Rattle.theory_connection.specs.World.{IsEnding, IsThere}
+use Rattle.theory_connection.specs.World.{IsEnding, IsThere, Posted, Stage, Running, Failing, Over}
+use Rattle.theory_connection.specs.World.{is_over, Post, ReadError}
 use Rattle.theory_connection.specs.Pair.{PairState, Move, Reply, ClientSend, ClientBind, ServerSend}
 use Rattle.theory_connection.specs.Pair.{ServerDrop, PostError, AddGlobal, Withdraw, Announce}
 use Rattle.theory_connection.specs.Pair.{CarryToServer, CarryToClient, ClientNext, ServerNext, Does}
+use Rattle.theory_connection.specs.Pair.{Moved}
 
 -- ---- writes
 
@@ -247,23 +251,50 @@ pub record KeepsEvent (p : PairState) (w : World) (w' : World) : Type 0 where
   pub because : NeedsMemory w coming
   pub same : w' ≡ w
 
+-- The report of the error that the server posted: the object that was meant, live or dead according
+-- to the client's rows, the code and the text.
+abbrev pub ReportsError : World → Posted → events.Report → Type 0
+ReportsError w e (events.Error id named code text) =
+    (seen_named named ≡ seen_by w.client (Some e.object)) × (code ≡ e.code) × (text ≡ e.text)
+ReportsError w e report = ⊥
+
+-- the client reads the error
+pub record ReadsError (tables : List Interface) (p : PairState) (w : World) (report : events.Report)
+    (w' : World) : Type 0 where
+  pub waits : HasOne p.client.core.inbox
+  pub error : Posted
+  pub steps : Steps tables w (ReadError error) w'
+  pub reports : ReportsError w error report
+
+-- the error stays: there was no memory for its text
+pub record KeepsError (p : PairState) (w : World) (w' : World) : Type 0 where
+  pub waits : HasOne p.client.core.inbox
+  pub error : Posted
+  pub comes : w.stage ≡ Failing error
+  pub first : w.events ≡ []
+  pub same : w' ≡ w
+
 -- The server's read takes the first request and reports it, if a whole message waits. The request
 -- stays if there is no room for its delete, or else if there is no memory for a report with
--- arguments; no fault and no failure is reported.
+-- arguments; no fault is reported, and no failure unless an error was posted.
 abbrev pub ReadsAtServer : List Interface → PairState → World
     → Result (Option requests.Report) NextError → World → Type 0
 ReadsAtServer tables p w (Ok None) w' = HasNone p.server.core.inbox × (w' ≡ w)
 ReadsAtServer tables p w (Ok (Some report)) w' = ReadsRequest tables p w report w'
 ReadsAtServer tables p w (Err errors.OutFull) w' = KeepsRequest p w (IsOutFull p) w'
 ReadsAtServer tables p w (Err errors.Memory) w' = KeepsRequest p w (AsksMemory p) w'
+ReadsAtServer tables p w (Err errors.Failed) w' = (w.stage ≢ Running) × (w' ≡ w)
 ReadsAtServer tables p w (Err other) w' = ⊥
 
--- The client's read takes the first of what comes and reports it, if a whole message waits.
+-- The client's read takes the first of what comes and reports it, if a whole message waits: the
+-- first of the events or, if there is none, the error. After the error it reports a failure.
 abbrev pub ReadsAtClient : List Interface → PairState → World
     → Result (Option events.Report) NextError → World → Type 0
 ReadsAtClient tables p w (Ok None) w' = HasNone p.client.core.inbox × (w' ≡ w)
-ReadsAtClient tables p w (Ok (Some report)) w' = ReadsEvent tables p w report w'
-ReadsAtClient tables p w (Err errors.Memory) w' = KeepsEvent p w w'
+ReadsAtClient tables p w (Ok (Some report)) w' =
+    ReadsEvent tables p w report w' ⊎ ReadsError tables p w report w'
+ReadsAtClient tables p w (Err errors.Memory) w' = KeepsEvent p w w' ⊎ KeepsError p w w'
+ReadsAtClient tables p w (Err errors.Failed) w' = (is_over w.stage ≡ true) × (w' ≡ w)
 ReadsAtClient tables p w (Err other) w' = ⊥
 
 -- ---- all moves
@@ -276,6 +307,13 @@ pub record Drops (tables : List Interface) (w : World) (birth : Birth) (w' : Wor
   pub object : Born
   pub is : object.birth ≡ birth
   pub steps : Steps tables w (Drop object) w'
+
+-- An error is posted about the object with this birth.
+pub record Posts (tables : List Interface) (w : World) (birth : Birth) (code : ℕ) (text : List ℕ)
+    (w' : World) : Type 0 where
+  pub object : Born
+  pub is : object.birth ≡ birth
+  pub steps : Steps tables w (Post (record { object = object; code = code; text = text })) w'
 
 -- The effect of a move in the world, given the pair and the reply.
 abbrev pub Means : PairState → World → Move → Reply → World → Type 0
@@ -291,7 +329,7 @@ Means p w (ServerSend target opcode given) (ServerSend reply) w' =
 Means p w (ServerDrop object) (ServerDrop reply) w' =
     IfOk reply w w' (Drops p.server.core.tables w (birth_at object) w')
 Means p w (PostError object code text) (PostError reply) w' =
-    IfOk reply w w' (w' ≡ record w { ended = true })
+    IfOk reply w w' (Posts p.server.core.tables w (birth_at object) code text w')
 Means p w (AddGlobal iface version) (AddGlobal reply) w' =
     IfAccepted reply w w' (λ name. (name ≡ length w.given + 1) × (w' ≡ record w {
       given = w.given ++ record { iface = iface; version = version; present = true } ∷ [];
@@ -308,20 +346,36 @@ Means p w ClientNext (ClientNext reply) w' = ReadsAtClient p.client.core.tables 
 Means p w ServerNext (ServerNext reply) w' = ReadsAtServer p.server.core.tables p w reply w'
 Means p w _ _ w' = ⊥
 
--- no error was posted yet
-abbrev pub NotEnded : PairState → World → Type 0
-NotEnded p w = (w.ended ≡ false) × (p.ended_at ≡ None)
+-- the server, which has failed, refuses the call, and nothing is carried to it
+abbrev pub IsRefusedAtServer : Reply → Type 0
+IsRefusedAtServer (ServerSend reply) = reply ≡ Err refusals.Failed
+IsRefusedAtServer (ServerDrop reply) = reply ≡ Err refusals.Failed
+IsRefusedAtServer (PostError reply) = reply ≡ Err refusals.Failed
+IsRefusedAtServer (AddGlobal reply) = reply ≡ Err global_errors.Failed
+IsRefusedAtServer (Withdraw reply) = reply ≡ Err global_errors.Failed
+IsRefusedAtServer (Announce reply) = reply ≡ Err refusals.Failed
+IsRefusedAtServer (ServerNext reply) = reply ≡ Err errors.Failed
+IsRefusedAtServer (CarryToServer reply) = reply ≡ Moved no_room
+IsRefusedAtServer _ = Unit {0}
 
--- The recorded pieces stay, and the mark that an error set stays in its place.
-pub record KeepsRecord (p p' : PairState) : Type 0 where
-  pub more : List Piece
-  pub pieces : p'.recording ≡ p.recording ++ more
-  pub mark : (count : ℕ) → p.ended_at ≡ Some count → p'.ended_at ≡ Some count
+-- the client, which has failed, refuses the call, and nothing is carried to it
+abbrev pub IsRefusedAtClient : Reply → Type 0
+IsRefusedAtClient (ClientSend reply) = reply ≡ Err refusals.Failed
+IsRefusedAtClient (ClientBind reply) = reply ≡ Err refusals.Failed
+IsRefusedAtClient (ClientNext reply) = reply ≡ Err errors.Failed
+IsRefusedAtClient (CarryToClient reply) = reply ≡ Moved no_room
+IsRefusedAtClient _ = Unit {0}
 
--- The reply that a move may get, and what it leaves of the pair and the world. After an error was
--- posted anything is allowed, except that what was recorded stays.
-pub data Answers (p : PairState) (w : World) (move : Move) (reply : Reply) (p' : PairState)
+-- From the post on, the server refuses all calls, and no byte reaches it. Once the client has read
+-- the error, so does the client.
+abbrev pub IsRefusedIn : Stage → Reply → Type 0
+IsRefusedIn Running reply = Unit {0}
+IsRefusedIn (Failing e) reply = IsRefusedAtServer reply
+IsRefusedIn (Over e) reply = IsRefusedAtServer reply × IsRefusedAtClient reply
+
+-- The reply that a move may get, and what it leaves of the pair and the world.
+pub record Answers (p : PairState) (w : World) (move : Move) (reply : Reply) (p' : PairState)
     (w' : World) : Type 0 where
-  before : NotEnded p w → Does p move reply p' → Means p w move reply w'
-      → Answers p w move reply p' w'
-  after : w.ended ≡ true → w'.ended ≡ true → KeepsRecord p p' → Answers p w move reply p' w'
+  pub does : Does p move reply p'
+  pub means : Means p w move reply w'
+  pub refused : IsRefusedIn w.stage reply

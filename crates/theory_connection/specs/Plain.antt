@@ -7,6 +7,7 @@ use Rattle.wl_object_map.specs.Ranges.{is_of_server, wire_id}
 use Rattle.theory_connection.specs.Meant.{Birth, Born, Known, Message, Coming, Event}
 use Rattle.theory_connection.specs.Meant.{Delete as delete_of, known_id, birth_of, objects, made_in}
 use Rattle.theory_connection.specs.World.{World, Row, IsOpen, IsEnding, IsThere, Each, marks_birth}
+use Rattle.theory_connection.specs.World.{is_over}
 use Rattle.theory_connection.specs.Flight.{Ask, Use, Make, Destroy, Tell, Name, Made, Destroyed}
 use Rattle.theory_connection.specs.Flight.{Delete, Rows, IsHeldInRows}
 use Rattle.theory_connection.specs.Flight.{all_asks, all_tells}
@@ -160,10 +161,10 @@ IsInOrder maker first next births =
 
 -- ---- for a pair that represents a world
 
--- the pair represents a world in which no error was posted
+-- the pair represents a world in which the client has read no error
 pub record StandsIn (pair : PairState) (world : World) : Type 0 where
   pub stands : Stands pair world
-  pub goes_on : world.ended ≡ false
+  pub goes_on : is_over world.stage ≡ false
 
 -- For each pair that represents a world, and each object.
 abbrev pub OfEach : (PairState → World → Born → Type 0) → Type 0

@@ -12,8 +12,8 @@ use Rattle.wl_object_map.specs.Objects.{Objects, look, is_held, is_live, in_rang
 use Rattle.wl_object_map.specs.Objects.{next_birth}
 use Rattle.wl_objects.specs.Writing.{Given}
 use Rattle.theory_connection.specs.World.{World, Each}
-use Rattle.theory_connection.specs.Pair.{PairState, Move, Reply, ClientSend, ServerSend, AddGlobal}
-use Rattle.theory_connection.specs.Pair.{Does}
+use Rattle.theory_connection.specs.Pair.{PairState, Move, Reply, ClientSend, ServerSend, PostError}
+use Rattle.theory_connection.specs.Pair.{AddGlobal, Does}
 use Rattle.theory_connection.specs.Answers.{Answers}
 use Rattle.theory_connection.specs.Stands.{Stands}
 
@@ -46,6 +46,7 @@ FitsWords _ = Unit {0}
 abbrev pub IsMove : Move → Type 0
 IsMove (ClientSend target opcode given) = Each FitsWords given
 IsMove (ServerSend target opcode given) = Each FitsWords given
+IsMove (PostError object code text) = code < 2 ^ 32
 IsMove (AddGlobal iface version) = version < 2 ^ 32
 IsMove _ = Unit {0}
 

@@ -13,8 +13,10 @@ use Rattle.theory_connection.specs.Meant.{Event, Delete}
 use Rattle.theory_connection.specs.World.{World, Open, Ending, opening_world, display_born}
 use Rattle.theory_connection.specs.World.{request_written, request_read, event_written, event_read}
 use Rattle.theory_connection.specs.World.{delete_read, Steps, WriteRequest, ReadRequest, WriteEvent}
-use Rattle.theory_connection.specs.World.{ReadEvent, put, nothing, nothing_told}
-use Rattle.theory_connection.specs.Answers.{ReportsComing}
+use Rattle.theory_connection.specs.World.{ReadEvent, put, nothing, nothing_told, Posted, Failing}
+use Rattle.theory_connection.specs.World.{Over}
+use Rattle.theory_connection.specs.World.{in_stage, Post, ReadError}
+use Rattle.theory_connection.specs.Answers.{ReportsComing, ReportsError}
 
 -- the client asks wl_display for a callback, birth 1, and the server is done with it
 abbrev pub sample_callback : Born
@@ -116,6 +118,32 @@ pub record DeadArgument (tables : List Interface) : Type 0 where
   pub reads : Steps tables (crossed tables) (ReadRequest destroy)
       (request_read (crossed tables) destroy [])
   pub deletes : (request_read (crossed tables) destroy []).events ≡ Delete sample_surface ∷ []
+
+-- The same, but then the server posts an error about the surface. The client reads the event, then
+-- the error, whose object is dead. The request that destroys the surface is never read.
+abbrev pub surface_error : Posted
+surface_error = record { object = sample_surface; code = 2; text = codes "no buffer" }
+
+abbrev pub error_posted : World
+error_posted = in_stage destroy_written (Failing surface_error)
+
+abbrev pub events_read : List Interface → World
+events_read tables = event_read tables error_posted enter []
+
+abbrev pub sample_error_report : events.Report
+sample_error_report =
+    events.Error 4 (named_as.Dead (record { id = 4; birth = 3 })) 2 (codes "no buffer")
+
+pub record DeadInError (tables : List Interface) : Type 0 where
+  pub tells : Steps tables both_open (WriteEvent enter) entered
+  pub asks : Steps tables entered (WriteRequest destroy) destroy_written
+  pub posts_it : Steps tables destroy_written (Post surface_error) error_posted
+  pub sees : Steps tables error_posted (ReadEvent (Event enter)) (events_read tables)
+  pub reports : ReportsComing error_posted (Event enter) sample_report
+  pub reads_it : Steps tables (events_read tables) (ReadError surface_error)
+      (in_stage (events_read tables) (Over surface_error))
+  pub reports_it : ReportsError (events_read tables) surface_error sample_error_report
+  pub unread : (in_stage (events_read tables) (Over surface_error)).requests ≡ destroy ∷ []
 
 -- A wl_fixes, birth 8, and a registry, birth 9, are open at both ends.
 abbrev pub fixer : Born

@@ -1,9 +1,11 @@
 -- When a pair represents a world.
 use Rattle.std.specs.Prelude.{◌≡◌, ◌≢◌, ◌⊎◌, ◌↔◌, ℕ, ◌<◌, ◌≤◌, ◌^◌, Bool, true, false, List, []}
-use Rattle.std.specs.Prelude.{◌∷◌, ◌++◌, length, map, Option, Some, is_some}
+use Rattle.std.specs.Prelude.{◌∷◌, ◌++◌, length, map, Option, Some, None, is_some}
 use Rattle.wl_wire.specs.declared.kind.Iface.{Iface}
 use Rattle.wl_wire.specs.declared.kind.Kind.{Kind}
 use Rattle.wl_wire.specs.Argument.{Uint, Str, Obj, New, NewNamed}
+use Rattle.wl_objects.specs.Writing.{message_bytes}
+use Rattle.wl_server.specs.Calls.{is_error_text}
 use Rattle.wl_wire.specs.Spelling.{Suits}
 use Rattle.wl_sigs.specs.Side.{Side}
 use Rattle.wl_sigs.specs.Side.TheVariants.{Request as request_side}
@@ -41,9 +43,9 @@ use Rattle.theory_connection.specs.Meant.{Delete, Arg, renamed, recoming, born_o
 use Rattle.theory_connection.specs.Meant.{made_in, new_object_in, ended_by, wire, spelled_meant}
 use Rattle.theory_connection.specs.Meant.{spelled_coming, live_entry}
 use Rattle.theory_connection.specs.World.{World, display_born, Row, Marks, Open, Ending, Each}
-use Rattle.theory_connection.specs.World.{IfThere}
+use Rattle.theory_connection.specs.World.{IfThere, Posted, Stage, Running, Failing, Over, has_error}
 use Rattle.theory_connection.specs.Pair.{PairState}
-use Rattle.theory_connection.specs.Answers.{NotEnded, marks_of}
+use Rattle.theory_connection.specs.Answers.{marks_of}
 use Rattle.theory_connection.specs.Flight.{Rows, client_rows, server_rows, births_in, all_asks}
 use Rattle.theory_connection.specs.Flight.{IsAskedBelow, all_tells}
 use Rattle.theory_connection.specs.Flight.{MeetInMiddle}
@@ -253,7 +255,7 @@ MadePlain test s =
     → (test x ≡ false) × (x.iface ≢ registry)
 
 -- The rows at the server represent the births that are open there.
-pub record ServerStands (view : Objects) (failed : Bool) (counted : ℕ)
+pub record ServerStands (view : Objects) (failed posted : Bool) (counted : ℕ)
     (there : Birth → Option Born) : Type 0 where
   pub sets : ShowsBirths birth_of NoneIsGone (server_rows view).rows (births_in (server_rows view))
       there
@@ -262,18 +264,41 @@ pub record ServerStands (view : Objects) (failed : Bool) (counted : ℕ)
   pub display : look view 1 ≡ Some (live_entry display_born)
   pub versions : (id : ℕ) (e : Entry) → look view id ≡ Some e → 1 ≤ e.version
   pub live : (id : ℕ) (e : Entry) → look view id ≡ Some e → e.state ≡ states.Live
-  -- it has not failed
-  pub lives : failed ≡ false
+  -- it has failed if and only if it posted an error
+  pub lives : failed ≡ posted
 
--- These messages are in flight from an outbox to an inbox, and each fits.
+-- These messages are in flight from an outbox to an inbox, and each fits. This is behind them.
 pub record Travel {M W : Type 0} (as_born : M → W) (as_sent : M → boxes.QueuedMessage)
     (Fitly : M → Type 0) (from : Outgoing) (to : Arrived) (births : List W) (messages : List M)
-    : Type 0 where
+    (behind : List boxes.QueuedMessage) : Type 0 where
   -- the world has them in flight by births; the queues have their canonical spellings, by ids
   pub in_world : births ≡ map as_born messages
-  pub in_boxes : InFlight from to (map as_sent messages)
+  pub in_boxes : InFlight from to (map as_sent messages ++ behind)
   -- each fits a signature; each bind, and each global announced, is of a global that was added
   pub fit : Each Fitly messages
+
+-- ---- an error on its way
+
+-- wl_display.error about the object with this id, as the server writes it
+abbrev pub error_message : ℕ → Posted → boxes.QueuedMessage
+error_message id e =
+    boxes.queued (message_bytes 1 0 (Obj id ∷ Uint e.code ∷ Str (Some e.text) ∷ [])) []
+
+-- The server has the object of the error with this id, and the code and the text are those that
+-- `post_error` takes.
+pub record IsErrorAbout (server : Rows Born) (id : ℕ) (e : Posted) : Type 0 where
+  pub there : server.rows id ≡ Some e.object
+  pub code : e.code < 2 ^ 32
+  pub text : is_error_text e.text ≡ true
+
+-- What is in flight behind the events: an error that was posted and not yet read. The recording is
+-- marked from the post on.
+pub data ErrorComes (stage : Stage) (mark : Option ℕ) (server : Rows Born)
+    (behind : List boxes.QueuedMessage) : Type 0 where
+  quiet : stage ≡ Running → mark ≡ None → behind ≡ [] → ErrorComes stage mark server behind
+  comes : (e : Posted) (id : ℕ) → stage ≡ Failing e → is_some mark ≡ true
+      → behind ≡ error_message id e ∷ [] → IsErrorAbout server id e
+      → ErrorComes stage mark server behind
 
 -- The ends' globals are the world's, and those of the client were added by the server.
 pub record GlobalsStand (tables : List Interface) (client_knows : List Remembered)
@@ -295,9 +320,10 @@ pub record RegistriesStand (view : Objects) (registries : List server.Registry) 
 pub record StandsBy (p : PairState) (w : World) (asked : List (Message Known))
     (told : List (Coming Known)) : Type 0 where
   pub terms : SameTerms (terms_of p.client.core) (terms_of p.server.core)
-  -- the objects at each end, and that neither end has failed
+  -- the objects at each end, and whether it has failed
   pub client : ClientStands p.client.core.view p.client.core.failed w.births w.client
-  pub server : ServerStands p.server.core.view p.server.core.failed w.server_births w.server
+  pub server : ServerStands p.server.core.view p.server.core.failed (has_error w.stage)
+      w.server_births w.server
   -- no event ends an object that the server made, and none is a registry
   pub plain : MadePlain (by_event p.server.core.tables) (server_rows p.server.core.view)
   -- if no event of the tables makes an object, the server has made none: its births begin at 1
@@ -305,10 +331,12 @@ pub record StandsBy (p : PairState) (w : World) (asked : List (Message Known))
   -- what is in flight each way
   pub requests : Travel (renamed born_of) spelled_meant
       (AsksFitly p.server.core.tables p.server.globals)
-      p.client.core.outbox p.server.core.inbox w.requests asked
+      p.client.core.outbox p.server.core.inbox w.requests asked []
+  pub behind : List boxes.QueuedMessage
   pub events : Travel (recoming born_of) spelled_coming
       (ComesFitly p.server.core.tables p.server.globals)
-      p.server.core.outbox p.client.core.inbox w.events told
+      p.server.core.outbox p.client.core.inbox w.events told behind
+  pub error : ErrorComes w.stage p.ended_at (server_rows p.server.core.view) behind
   -- the client has counted each object that a request on the way names, makes or destroys
   pub asks_counted : Each (IsAskedBelow (births_in (client_rows p.client.core.view)))
       (all_asks asked)
@@ -322,8 +350,26 @@ pub record StandsBy (p : PairState) (w : World) (asked : List (Message Known))
       w.remembered w.given
   pub registries : RegistriesStand p.server.core.view p.server.registries w.registries
 
--- The pair represents the world; every pair represents an ended world.
+-- The client has read the error: both ends have failed, and keep their objects. These requests were
+-- written and not read.
+pub record StandsOver (p : PairState) (w : World) (asked : List (Message Known)) : Type 0 where
+  pub error : Posted
+  pub stage : w.stage ≡ Over error
+  pub mark : is_some p.ended_at ≡ true
+  pub client_failed : p.client.core.failed ≡ true
+  pub server_failed : p.server.core.failed ≡ true
+  -- apart from its failure the client is as before
+  pub client : ClientStands p.client.core.view false w.births w.client
+  pub server : ServerStands p.server.core.view p.server.core.failed true w.server_births w.server
+  pub requests : Travel (renamed born_of) spelled_meant
+      (AsksFitly p.server.core.tables p.server.globals)
+      p.client.core.outbox p.server.core.inbox w.requests asked []
+  -- all events were read
+  pub meet : MeetInMiddle (by_event p.server.core.tables) [] (all_asks asked)
+      (client_rows p.client.core.view) (server_rows p.server.core.view)
+
+-- The pair represents the world.
 pub data Stands (p : PairState) (w : World) : Type 0 where
-  ended : w.ended ≡ true → Stands p w
   stands : (asked : List (Message Known)) (told : List (Coming Known))
-      → NotEnded p w → StandsBy p w asked told → Stands p w
+      → StandsBy p w asked told → Stands p w
+  over : (asked : List (Message Known)) → StandsOver p w asked → Stands p w

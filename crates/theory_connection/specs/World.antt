@@ -28,6 +28,30 @@ pub record Marks : Type 0 where
   pub told : List Bool
   pub removed : List Bool
 
+-- an error that the server posted: the object that it is about, its code and its text
+pub record Posted : Type 0 where
+  pub object : Born
+  pub code : ℕ
+  pub text : List ℕ
+
+-- whether an error was posted, and whether the client has read it
+pub data Stage : Type 0 where
+  Running : Stage
+  -- posted, and not yet read
+  Failing : Posted → Stage
+  -- read, after which neither end does anything
+  Over : Posted → Stage
+
+abbrev pub has_error : Stage → Bool
+has_error Running = false
+has_error (Failing e) = true
+has_error (Over e) = true
+
+abbrev pub is_over : Stage → Bool
+is_over Running = false
+is_over (Failing e) = false
+is_over (Over e) = true
+
 pub record World : Type 0 where
   -- the number of the client's next birth, and of the server's, whose births begin at 1
   pub births : ℕ
@@ -43,8 +67,7 @@ pub record World : Type 0 where
   pub remembered : List Remembered
   pub given : List Global
   pub registries : List Marks
-  -- an error was posted
-  pub ended : Bool
+  pub stage : Stage
 
 -- ---- sets of births
 
@@ -170,6 +193,8 @@ pub data Action : Type 0 where
   WriteEvent : Message Born → Action
   Drop : Born → Action
   ReadEvent : Coming Born → Action
+  Post : Posted → Action
+  ReadError : Posted → Action
 
 abbrev pub request_written : World → Message Born → World
 request_written w m = record w {
@@ -206,36 +231,48 @@ event_read tables w m rest = record w {
 abbrev pub delete_read : World → Born → List (Coming Born) → World
 delete_read w x rest = record w { events = rest; client = put w.client x.birth None }
 
--- What the world allows, in terms of births alone.
+abbrev pub in_stage : World → Stage → World
+in_stage w stage = record w { stage = stage }
+
+-- What the world allows, in terms of births alone. Once an error is posted, the server takes no
+-- more steps; once the client has read it, neither does the client.
 pub data Steps (tables : List Interface) (w : World) : Action → World → Type 0 where
   -- The target and the objects of a written request are open at the client, and a new object is the
   -- client's next birth. The request is appended to those in flight, and an object that it destroys
   -- becomes ending.
-  writes_request : (m : Message Born) → IsOpen w.client m.target
+  writes_request : (m : Message Born) → is_over w.stage ≡ false → IsOpen w.client m.target
       → Each (IsOpen w.client) (objects m.args)
       → IfThere (λ x. x.birth ≡ client_birth w.births) (made_in m.args)
       → Steps tables w (WriteRequest m) (request_written w m)
   -- The first request is read: its new object becomes open at the server; one that it destroys is
   -- closed and, if the client made it, its delete is written.
-  reads_request : (m : Message Born) (rest : List (Message Born))
+  reads_request : (m : Message Born) (rest : List (Message Born)) → w.stage ≡ Running
       → w.requests ≡ m ∷ rest → Steps tables w (ReadRequest m) (request_read w m rest)
   -- The target and the objects of a written event are open at the server, and a new object is the
   -- server's next birth. (Its interface and version are as `NamesRightly` says, if a pair
   -- represents the world.) An object that the event destroys is closed, and its delete follows.
-  writes_event : (m : Message Born) → IsThere w.server m.target
+  writes_event : (m : Message Born) → w.stage ≡ Running → IsThere w.server m.target
       → Each (IsThere w.server) (objects m.args)
       → IfThere (λ x. x.birth ≡ server_birth w.server_births) (made_in m.args)
       → Steps tables w (WriteEvent m) (event_written w m)
   -- An object whose interface has a destroying event is closed without one.
-  drops : (x : Born) → IsThere w.server x → is_ended_by_event (interface_at tables x.iface.0) ≡ true
+  drops : (x : Born) → w.stage ≡ Running → IsThere w.server x
+      → is_ended_by_event (interface_at tables x.iface.0) ≡ true
       → Steps tables w (Drop x) (dropped w x)
   -- The first event is read: its new object becomes open at the client, even if its target is
   -- ending there, and an object that it destroys becomes ending.
-  reads_event : (m : Message Born) (rest : List (Coming Born)) → w.events ≡ Event m ∷ rest
+  reads_event : (m : Message Born) (rest : List (Coming Born)) → is_over w.stage ≡ false
+      → w.events ≡ Event m ∷ rest
       → Steps tables w (ReadEvent (Event m)) (event_read tables w m rest)
   -- A delete is read: its object is then neither open nor ending.
-  reads_delete : (x : Born) (rest : List (Coming Born)) → w.events ≡ Delete x ∷ rest
-      → Steps tables w (ReadEvent (Delete x)) (delete_read w x rest)
+  reads_delete : (x : Born) (rest : List (Coming Born)) → is_over w.stage ≡ false
+      → w.events ≡ Delete x ∷ rest → Steps tables w (ReadEvent (Delete x)) (delete_read w x rest)
+  -- An error about an object that is open at the server is posted. It is the only one.
+  posts : (e : Posted) → w.stage ≡ Running → IsThere w.server e.object
+      → Steps tables w (Post e) (in_stage w (Failing e))
+  -- The error is read once all events that were written before it are read.
+  reads_error : (e : Posted) → w.stage ≡ Failing e → w.events ≡ []
+      → Steps tables w (ReadError e) (in_stage w (Over e))
 
 abbrev pub display_born : Born
 display_born = record { birth = client_birth 0; iface = display; version = 1 }
@@ -252,5 +289,5 @@ opening_world = record {
   remembered = [];
   given = [];
   registries = [];
-  ended = false;
+  stage = Running;
 }

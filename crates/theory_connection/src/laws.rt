@@ -24,7 +24,8 @@ ghost use Rattle.theory_connection.specs.Pair.{PairState, Move, Reply, Does, new
 ghost use Rattle.theory_connection.specs.Pair.{carries, carried_bytes, carried_tokens};
 ghost use Rattle.theory_connection.specs.Stands.{Stands, HoldsServerObjects, by_event};
 ghost use Rattle.theory_connection.specs.Runs.{Runs, DoesAll, IsMove, Agree, Keeps};
-ghost use Rattle.theory_connection.specs.Samples.{CallbackLives, DeadArgument, DeadRegistry};
+ghost use Rattle.theory_connection.specs.Samples.{CallbackLives, DeadArgument, DeadInError};
+ghost use Rattle.theory_connection.specs.Samples.{DeadRegistry};
 ghost use Rattle.theory_connection.specs.Samples.{ServerObjectLives};
 ghost use Rattle.wl_object_map.specs.Ranges.{is_of_server};
 ghost use Rattle.theory_connection.specs.Plain.{IsOfClient, IsOfServer, StandsIn, OfEach, OnTheWay};
@@ -42,11 +43,6 @@ pub fn new_stands()
     ensures { (tables : List Interface) (client server : Sizes)
         → client.limit.bytes ≡ server.limit.bytes → Valid tables
         → Stands (new_pair tables client server) opening_world }
-{}
-
-/// Every pair represents an ended world.
-pub fn ended_stands()
-    ensures { (pair : PairState) (world : World) → world.ended ≡ true → Stands pair world }
 {}
 
 /// Whatever one move does with a pair that represents a world, its reply is one that the world
@@ -79,22 +75,19 @@ pub fn run_more()
 /// When nothing waits in any queue, both ends have the same objects under the same ids. At the ids
 /// of the server's range that the server has freed, the client still has zombies.
 pub fn drained_agree()
-    ensures { (pair : PairState) (world : World) → Stands pair world → world.ended ≡ false
-        → drained pair
+    ensures { (pair : PairState) (world : World) → Stands pair world → drained pair
         → Agree pair.client.core.view pair.server.core.view }
 {}
 
 /// The client of a pair that represents a world meets no fault.
 pub fn client_meets_no_fault()
     ensures { (pair : PairState) (world : World) (fault : Fault) (offset : ℕ) → Stands pair world
-        → world.ended ≡ false
         → client_reads.next_answer pair.client ≡ Err (errors.Fault fault offset) → ⊥ }
 {}
 
 /// The server of a pair that represents a world meets no fault.
 pub fn server_meets_no_fault()
     ensures { (pair : PairState) (world : World) (fault : Fault) (offset : ℕ) → Stands pair world
-        → world.ended ≡ false
         → server_reads.next_answer pair.server ≡ Err (errors.Fault fault offset) → ⊥ }
 {}
 
@@ -342,6 +335,13 @@ pub fn callback_lives()
 /// the object dead.
 pub fn dead_argument()
     ensures { (tables : List Interface) → DeadArgument tables }
+{}
+
+/// An example history: the server posts an error about an object that the client has destroyed. The
+/// client reads an earlier event, then the error, with the object dead. The server does not read
+/// the request that destroys the object.
+pub fn dead_in_error()
+    ensures { (tables : List Interface) → DeadInError tables }
 {}
 
 /// An example history: a registry is destroyed through wl_fixes while a `global` is on its way to

@@ -15,7 +15,7 @@ use Rattle.wl_objects.specs.declared.error.NextError.{NextError}
 use Rattle.wl_objects.specs.declared.error.NextError.TheVariants as errors
 use Rattle.wl_connection.specs.Core.{Core, with_arrived}
 use Rattle.wl_connection.specs.Receiving.{Found, found, past_found}
-use Rattle.wl_connection.specs.Streams.{waiting_part, need_of, WantsNeed, IsTaken, taken_bytes, taken_tokens, untaken}
+use Rattle.wl_connection.specs.Streams.{waiting_part, need_of, FrontNeeds, IsTaken, taken_bytes, taken_tokens, untaken}
 use Rattle.wl_connection.specs.Streams.{BeginWith}
 use Rattle.wl_connection.specs.Reads.{Reading, IsCoreOf, with_arrivals, Reads, none, fault, full, last}
 use Rattle.wl_connection.specs.Reads.{next, ReadsSome, nothing, more}
@@ -85,9 +85,9 @@ fault_again e state what offset bytes tokens f =
 
 -- what is found at an end after more arrived
 wants_more : {S R : Type 0} (e : Reading S R) (side : Side) → IsReading e side
-    → (state : S) (bytes tokens : List ℕ) (need : _) → WantsNeed (with_arrived (e.core state) bytes tokens) side need
-    → WantsNeed (e.core (with_arrivals e state bytes tokens)) side need
-wants_more e side i state bytes tokens need w = subst (λ c. WantsNeed c side need)
+    → (state : S) (bytes tokens : List ℕ) (need : _) → FrontNeeds (with_arrived (e.core state) bytes tokens) side need
+    → FrontNeeds (e.core (with_arrivals e state bytes tokens)) side need
+wants_more e side i state bytes tokens need w = subst (λ c. FrontNeeds c side need)
     (sym (i.laws.new state (with_arrived (e.core state) bytes tokens))) w
 
 sound_more : {S R : Type 0} (e : Reading S R) (side : Side) → IsReading e side → (state : S) (bytes tokens : List ℕ)
@@ -136,7 +136,7 @@ step_past e side i state r later a s needs b =
     let tokens = part_tokens later in
     let m = i.message state r a in
     let h = is_found (e.core state) side m.message m.there in
-    let wants : WantsNeed (with_arrived (e.core state) bytes tokens) side (need_of m.message) =
+    let wants : FrontNeeds (with_arrived (e.core state) bytes tokens) side (need_of m.message) =
     record {
       more = [];
       message = m.message;

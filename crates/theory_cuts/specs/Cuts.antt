@@ -5,7 +5,7 @@ use Rattle.wl_sigs.specs.Side.{Side}
 use Rattle.wl_message.specs.declared.amounts.Amounts.{Amounts}
 use Rattle.wl_message.specs.InStep.{Part, Need, InStep, part_bytes, part_tokens}
 use Rattle.wl_objects.specs.declared.error.NextError.{NextError}
-use Rattle.wl_connection.specs.Streams.{BeginWith, WantsNeed, IsTaken, taken_bytes, taken_tokens}
+use Rattle.wl_connection.specs.Streams.{BeginWith, FrontNeeds, IsTaken, taken_bytes, taken_tokens}
 use Rattle.wl_connection.specs.Streams.{untaken, waiting_part}
 use Rattle.wl_connection.specs.Reads.{Reading, with_arrivals, Reads, ReadsSome}
 
@@ -17,10 +17,10 @@ pub data BeginsWithNeeds {S R : Type 0} (e : Reading S R) (side : Side) : S → 
     → Type 0 where
   here : {state : S} → BeginsWithNeeds e side state []
   ends : {state : S} {need : Need} → (e.core state).failed ≡ false
-      → WantsNeed (e.core state) side need
+      → FrontNeeds (e.core state) side need
       → BeginsWithNeeds e side state (need ∷ [])
   goes_on : {state : S} {need : Need} {needs : List Need} {report : R}
-      → e.answer state ≡ Ok (Some report) → WantsNeed (e.core state) side need
+      → e.answer state ≡ Ok (Some report) → FrontNeeds (e.core state) side need
       → BeginsWithNeeds e side (e.after state) needs → BeginsWithNeeds e side state (need ∷ needs)
 
 -- the pieces bring in step the messages with which what waits begins

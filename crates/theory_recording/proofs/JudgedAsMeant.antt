@@ -53,7 +53,7 @@ call_as d m entry signature = record {
 }
 
 -- the bytes after the header
-body_is : (m : Message Known) (stream more : List ℕ) (p : ℕ) → drop p stream ≡ (spelled_meant m).bytes ++ more
+pub body_is : (m : Message Known) (stream more : List ℕ) (p : ℕ) → drop p stream ≡ (spelled_meant m).bytes ++ more
     → take (length (spelled_meant m).bytes - 8) (drop (p + 8) stream) ≡ spelled_values (map wire m.args)
 body_is m stream more p e =
     let vs = map wire m.args in

@@ -1,141 +1,97 @@
--- Whatever the move, an end keeps its tables and its limit, and what was recorded before an error
--- stays.
-use Rattle.std.proofs.Common.{◌≡◌, ℕ, Bool, true, false, cond, List, length, take, refl, ap, ◌∙◌, arith, length-append}
-use Rattle.std.proofs.lemmas.List.{take-append-le}
+-- After an error was posted, no move changes that what is recorded is lawful to its end.
+use Rattle.std.proofs.Common.{◌≡◌, ℕ, Bool, true, List, ◌++◌, length, sym, ap, subst, ◌∙◌}
+use Rattle.std.proofs.lemmas.List.{append-nil, append_assoc}
 use Rattle.std.specs.declared.option.Option.{Option}
-use Rattle.std.specs.declared.option.Option.TheVariants.{None, Some}
 use Rattle.std.specs.declared.result.Result.{Result}
-use Rattle.std.specs.declared.result.Result.TheVariants.{Ok, Err}
-use Rattle.wl_sigs.specs.Side.TheVariants.{Event as event_side}
-use Rattle.wl_sigs.specs.Tables.{Interface}
-use Rattle.wl_sigs.specs.Tables as sigs
 use Rattle.wl_object_map.specs.declared.object.Object.{Object}
-use Rattle.wl_objects.specs.declared.error.Fault.{Fault}
 use Rattle.wl_objects.specs.declared.error.NextError.{NextError}
 use Rattle.wl_objects.specs.declared.error.SendError.{SendError}
-use Rattle.wl_objects.specs.Writing.{Given}
-use Rattle.wl_objects.specs.Messages.{checked}
-use Rattle.wl_connection.specs.Core.{Core}
-use Rattle.wl_connection.specs.Receiving.{Found}
-use Rattle.wl_connection.specs.Roles.{front_left}
-use Rattle.wl_connection.specs.Sending.{after_checked, with_following}
 use Rattle.wl_message.specs.declared.amounts.Amounts.{Amounts}
-use Rattle.wl_server.specs.declared.globals.GlobalError.{GlobalError}
-use Rattle.wl_server.specs.State as server
-use Rattle.wl_server.specs.Announcing.{owed}
-use Rattle.wl_server.specs.Requests as requests
-use Rattle.wl_recording.specs.Piece.{Piece}
+use Rattle.wl_message.specs.Outgoing.{goes, newly_begun, all_tokens}
+use Rattle.wl_connection.specs.Core.{no_room}
+use Rattle.wl_client.specs.State as client
+use Rattle.wl_recording.specs.declared.piece.Direction.TheVariants.{ToServer, ToClient}
+use Rattle.wl_recording.specs.Piece.{Piece, passed}
+use Rattle.wl_check.specs.Session.{IsLawful, session_of}
+use Rattle.theory_connection.specs.World.{World, has_error}
 use Rattle.theory_connection.specs.Pair.{PairState, Move, Reply, ClientSend, ClientBind, ServerSend}
 use Rattle.theory_connection.specs.Pair.{ServerDrop, PostError, AddGlobal, Withdraw, Announce}
 use Rattle.theory_connection.specs.Pair.{CarryToServer, CarryToClient, ClientNext, ServerNext, Does}
-use Rattle.theory_connection.specs.Pair.{CarryOutcome, Writes, Calls, Adds, Announces, Nexts, Carries}
-use Rattle.theory_connection.specs.Pair.{accepted, refused, no_memory, no_memory_to_open, done, added, announced}
-use Rattle.theory_connection.specs.Pair.{answered, moved}
-use Rattle.theory_connection.specs.Answers.{KeepsRecord}
-use Rattle.theory_connection.proofs.Announces.{only_sent}
-use Rattle.theory_recording.specs.Linked.{EndedLawful}
+use Rattle.theory_connection.specs.Pair.{CarryOutcome, Writes, Nexts, Carries, with_client, carries}
+use Rattle.theory_connection.specs.Pair.{accepted, refused, no_memory, no_memory_to_open, answered, moved}
+use Rattle.theory_connection.specs.Pair.{after_carry_to_server, after_carry_to_client, carried_bytes}
+use Rattle.theory_connection.proofs.Channels.{goes_there, goes_tokens}
+use Rattle.theory_connection.proofs.Refused.{Refused, carries_none, server_send_refused, server_drop_refused}
+use Rattle.theory_connection.proofs.Refused.{post_error_refused, add_global_refused, withdraw_refused}
+use Rattle.theory_connection.proofs.Refused.{announce_refused, server_next_refused}
+use Rattle.theory_recording.specs.Linked.{RecordsToEnd, piece, pair_limit}
 
--- what no move changes
-record Fixed : Type 0 where
-  tables : List Interface
-  limit : ℕ
+by_write : (answer : Result (Option Object) SendError) (opens : Bool) (p : PairState) (c : client.State)
+    (reply : Result (Option Object) SendError) (p' : PairState) → RecordsToEnd p
+    → Writes answer opens p (with_client p c) reply p' → RecordsToEnd p'
+by_write answer opens p c reply p' r (accepted h) = record { failed = r.failed; lawful = r.lawful }
+by_write answer opens p c reply p' r (refused h) = r
+by_write answer opens p c reply p' r (no_memory h o) = r
 
-abbrev fixed : Core → Fixed
-fixed c = record { tables = c.tables; limit = c.inbox.limit.bytes }
+by_next : {R : Type 0} (needs : R → Bool) (opens : Bool) (answer : Result (Option R) NextError) (p : PairState)
+    (c : client.State) (reply : Result (Option R) NextError) (p' : PairState) → RecordsToEnd p
+    → Nexts needs opens answer p (with_client p c) reply p' → RecordsToEnd p'
+by_next needs opens answer p c reply p' r answered = record { failed = r.failed; lawful = r.lawful }
+by_next needs opens answer p c reply p' r (no_memory h o) = r
+by_next needs opens answer p c reply p' r (no_memory_to_open h o) = r
 
-abbrev HasTables : PairState → PairState → Type 0
-HasTables p q = fixed q.server.core ≡ fixed p.server.core
+by_call : {p p' : PairState} {w : World} {move : Move} {reply : Reply} → RecordsToEnd p → Refused p w move reply p'
+    → RecordsToEnd p'
+by_call r e = subst RecordsToEnd (sym e.stays_so) r
 
-by_write : (answer : Result (Option Object) SendError) (opens : Bool) (p q : PairState)
-    (reply : Result (Option Object) SendError) (p' : PairState) → HasTables p q → Writes answer opens p q reply p'
-    → HasTables p p'
-by_write answer opens p q reply p' k (accepted h) = k
-by_write answer opens p q reply p' k (refused h) = refl
-by_write answer opens p q reply p' k (no_memory h o) = refl
-
-by_call : {E : Type 0} (refusal : Option E) (p q : PairState) (reply : Result (Unit {0}) E) (p' : PairState)
-    → HasTables p q → Calls refusal p q reply p' → HasTables p p'
-by_call refusal p q reply p' k (done h) = k
-by_call refusal p q reply p' k (refused h) = refl
-
-by_add : (refusal : Option GlobalError) (name : ℕ) (p q : PairState) (reply : Result ℕ GlobalError) (p' : PairState)
-    → HasTables p q → Adds refusal name p q reply p' → HasTables p p'
-by_add refusal name p q reply p' k (added h) = k
-by_add refusal name p q reply p' k (refused h) = refl
-by_add refusal name p q reply p' k (no_memory h) = refl
-
-by_announce : (p : PairState) (reply : Result ℕ SendError) (p' : PairState) → Announces p reply p' → HasTables p p'
-by_announce p reply p' (announced {count = count} l f) = ap fixed (only_sent p.server.core (take count (owed p.server)))
-by_announce p reply p' (refused l) = refl
-
-by_next : {R : Type 0} (needs : R → Bool) (opens : Bool) (answer : Result (Option R) NextError) (p q : PairState)
-    (reply : Result (Option R) NextError) (p' : PairState) → HasTables p q → Nexts needs opens answer p q reply p'
-    → HasTables p p'
-by_next needs opens answer p q reply p' k answered = k
-by_next needs opens answer p q reply p' k (no_memory h o) = refl
-by_next needs opens answer p q reply p' k (no_memory_to_open h o) = refl
-
-by_carry : (taken : Amounts) (p q : PairState) (reply : CarryOutcome) (p' : PairState) → HasTables p q
-    → Carries taken p q reply p' → HasTables p p'
-by_carry taken p q reply p' k moved = k
-by_carry taken p q reply p' k (no_memory h) = refl
-
-following_tables : (b : Bool) (id : ℕ) (c : Core) → fixed (with_following b id c) ≡ fixed c
-following_tables true id c = refl
-following_tables false id c = refl
-
-checked_tables : (core : Core) (target : Object) (opcode : ℕ) (given : List Given)
-    (r : Result sigs.MessageSignature SendError)
-    → fixed (after_checked core event_side target opcode given r) ≡ fixed core
-checked_tables core target opcode given (Err why) = refl
-checked_tables core target opcode given (Ok signature) = following_tables _ _ _
-
-full_tables : (s : server.State) (f : Found) (b : Bool) → fixed (cond b s (requests.state_past s f)).core ≡ fixed s.core
-full_tables s f true = refl
-full_tables s f false = following_tables _ _ _
-
-found_tables : (s : server.State) (r : Result (Option Found) Fault)
-    → fixed (front_left requests.server_role s r).core ≡ fixed s.core
-found_tables s (Err fault) = refl
-found_tables s (Ok None) = refl
-found_tables s (Ok (Some f)) = full_tables s f (requests.is_out_full s.core f)
-
-next_tables : (s : server.State) (b : Bool) → fixed (cond b s (front_left requests.server_role s (requests.request s))).core
-    ≡ fixed s.core
-next_tables s true = refl
-next_tables s false = found_tables s (requests.request s)
-
-keeps_tables : (p : PairState) (move : Move) (reply : Reply) (p' : PairState) → Does p move reply p' → HasTables p p'
-keeps_tables p (ClientSend target opcode given) (ClientSend reply) p' d = by_write _ _ p _ reply p' refl d
-keeps_tables p (ClientBind target name iface version) (ClientBind reply) p' d = by_write _ _ p _ reply p' refl d
-keeps_tables p (ServerSend target opcode given) (ServerSend reply) p' d =
-    by_write _ _ p _ reply p' (checked_tables p.server.core target opcode given
-    (checked p.server.core.outbox.limit.bytes p.server.core.tables event_side p.server.core.view target opcode
-    given)) d
-keeps_tables p (ServerDrop object) (ServerDrop reply) p' d = by_call _ p _ reply p' refl d
-keeps_tables p (PostError object code text) (PostError reply) p' d = by_call _ p _ reply p' refl d
-keeps_tables p (AddGlobal iface version) (AddGlobal reply) p' d = by_add _ _ p _ reply p' refl d
-keeps_tables p (Withdraw name) (Withdraw reply) p' d = by_call _ p _ reply p' refl d
-keeps_tables p Announce (Announce reply) p' d = by_announce p reply p' d
-keeps_tables p (CarryToServer most) (CarryToServer reply) p' d = by_carry _ p _ reply p' refl d
-keeps_tables p (CarryToClient most) (CarryToClient reply) p' d = by_carry _ p _ reply p' refl d
-keeps_tables p ClientNext (ClientNext reply) p' d = by_next _ _ _ p _ reply p' refl d
-keeps_tables p ServerNext (ServerNext reply) p' d =
-    by_next _ _ _ p _ reply p' (next_tables p.server p.server.core.failed) d
-keeps_tables p _ _ p' d = absurd d
-
--- what was lawful up to the mark stays lawful
-pub still_lawful : (p p' : PairState) (move : Move) (reply : Reply) → Does p move reply p' → KeepsRecord p p'
-    → EndedLawful p → EndedLawful p'
-still_lawful p p' move reply d k l =
-    let there = l.there in
-    let same = keeps_tables p move reply p' d in
-    let first : take l.count p'.recording ≡ take l.count p.recording =
-    ap (take l.count) k.pieces ∙ take-append-le l.count p.recording k.more there in
+-- nothing goes to the server
+to_server : (p : PairState) (taken : Amounts) → taken ≡ no_room → (reply : CarryOutcome) (p' : PairState)
+    → RecordsToEnd p → Carries taken p (after_carry_to_server p taken) reply p' → RecordsToEnd p'
+to_server p taken e reply p' r (no_memory h) = r
+to_server p taken e reply p' r moved =
+    let same : p.recording ++ passed ToServer (carried_bytes p.client.core taken) taken.tokens ≡ p.recording =
+    ap (λ (t : Amounts). p.recording ++ passed ToServer (carried_bytes p.client.core t) t.tokens) e
+    ∙ append-nil p.recording in
     record {
-      count = l.count;
-      mark = k.mark l.count l.mark;
-      there = let e = ap (λ (x : List Piece). length x) k.pieces
-          in omega (arith, e, there, length-append p.recording k.more);
-      lawful = rw (ap (λ (f : Fixed). f.tables) same, ap (λ (f : Fixed). f.limit) same, first) l.lawful;
+      failed = r.failed;
+      lawful = λ more g. subst (λ (l : List Piece). IsLawful p.server.core.tables
+          (session_of (pair_limit p) (l ++ more))) (sym same) (r.lawful more g);
     }
+
+-- what goes to the client was waiting
+to_client : (p : PairState) (most : ℕ) (reply : CarryOutcome) (p' : PairState) → RecordsToEnd p
+    → Carries (carries p.server.core p.client.core most) p
+    (after_carry_to_client p (carries p.server.core p.client.core most)) reply p' → RecordsToEnd p'
+to_client p most reply p' r (no_memory h) = r
+to_client p most reply p' r moved =
+    let from = p.server.core.outbox in
+    let taken = carries p.server.core p.client.core most in
+    let bytes = carried_bytes p.server.core taken in
+    let there = goes_there from _ _ in
+    let tokens : taken.tokens ≡ length (all_tokens (newly_begun from taken.bytes)) = goes_tokens from _ _ in
+    record {
+      failed = r.failed;
+      lawful = λ more g. subst (λ (l : List Piece). IsLawful p.server.core.tables (session_of (pair_limit p) l))
+          (sym (append_assoc p.recording (passed ToClient bytes (length (all_tokens (newly_begun from taken.bytes)))) more)
+          ∙ ap (λ (n : ℕ). (p.recording ++ passed ToClient bytes n) ++ more) (sym tokens))
+          (r.lawful (passed ToClient bytes (length (all_tokens (newly_begun from taken.bytes))) ++ more)
+          (piece taken.bytes there g));
+    }
+
+-- after any move, what is recorded is still lawful to its end
+pub records_on : (p : PairState) (w : World) → has_error w.stage ≡ true → (move : Move) (reply : Reply) (p' : PairState)
+    → Does p move reply p' → RecordsToEnd p → RecordsToEnd p'
+records_on p w z (ClientSend target opcode given) (ClientSend reply) p' d r = by_write _ _ p _ reply p' r d
+records_on p w z (ClientBind target name iface version) (ClientBind reply) p' d r = by_write _ _ p _ reply p' r d
+records_on p w z ClientNext (ClientNext reply) p' d r = by_next _ _ _ p _ reply p' r d
+records_on p w z (ServerSend target opcode given) (ServerSend reply) p' d r = by_call r (server_send_refused p w r.failed z target opcode given reply p' d)
+records_on p w z (ServerDrop object) (ServerDrop reply) p' d r = by_call r (server_drop_refused p w r.failed z object reply p' d)
+records_on p w z (PostError object code text) (PostError reply) p' d r = by_call r (post_error_refused p w r.failed z object code text reply p' d)
+records_on p w z (AddGlobal iface version) (AddGlobal reply) p' d r = by_call r (add_global_refused p w r.failed z iface version reply p' d)
+records_on p w z (Withdraw name) (Withdraw reply) p' d r = by_call r (withdraw_refused p w r.failed z name reply p' d)
+records_on p w z Announce (Announce reply) p' d r = by_call r (announce_refused p w r.failed z reply p' d)
+records_on p w z ServerNext (ServerNext reply) p' d r = by_call r (server_next_refused p w r.failed z reply p' d)
+records_on p w z (CarryToServer most) (CarryToServer reply) p' d r =
+    to_server p _ (carries_none p.client.core p.server.core most r.failed) reply p' r d
+records_on p w z (CarryToClient most) (CarryToClient reply) p' d r = to_client p most reply p' r d
+records_on p w z _ _ p' d r = absurd d

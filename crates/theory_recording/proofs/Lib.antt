@@ -16,4 +16,5 @@ pub mod LinkedWithoutCarry
 pub mod KeptByAnyMove
 pub mod LinkedIsLawful
 pub mod LinkedAtOpening
+pub mod LastRecorded
 pub mod LinkedMove

@@ -155,7 +155,7 @@ none_recorded limit tables d sizes same = record {
 pub new_linked : (tables : List Interface) (client_sizes server_sizes : Sizes)
     → client_sizes.limit.bytes ≡ server_sizes.limit.bytes → Valid tables
     → Linked (new_pair tables client_sizes server_sizes) opening_world
-new_linked tables client_sizes server_sizes one v = linked [] [] (refl, refl) (record {
+new_linked tables client_sizes server_sizes one v = linked [] [] refl (record {
   stands = new_stands_by tables client_sizes server_sizes one v;
   requests = record {
     seen = [];

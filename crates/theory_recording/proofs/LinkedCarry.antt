@@ -16,13 +16,15 @@ use Rattle.wl_check.specs.Merged.{stream_of, piece_tokens}
 use Rattle.wl_check.specs.Session.{Judged}
 use Rattle.wl_check.proofs.PiecesOfCarry.{carry_brings}
 use Rattle.theory_connection.specs.Meant.{Born, Known, Message, Coming, spelled_meant, spelled_coming}
-use Rattle.theory_connection.specs.World.{World, Row, Each}
+use Rattle.theory_connection.specs.World.{World, Running, Row, Each}
 use Rattle.theory_connection.specs.Pair.{PairState, carries, carried_bytes, carried_tokens}
 use Rattle.theory_connection.specs.Pair.{after_carry_to_server, after_carry_to_client}
 use Rattle.theory_connection.specs.Flight.{Rows, client_rows, server_rows, all_tells, all_asks, Ask, MeetInMiddle}
 use Rattle.theory_connection.specs.Stands.{StandsBy, InFlight, AsksFitly, ComesFitly, IsGlobal, by_event}
 use Rattle.theory_connection.proofs.WholeInFlight.{all_asks_both, each_rest}
 use Rattle.theory_connection.proofs.Carries.{carry_fits}
+use Rattle.theory_connection.proofs.Errors.{nothing_behind}
+use Rattle.theory_connection.proofs.Stands.{none_behind}
 use Rattle.theory_connection.specs.Flight as flight
 use Rattle.theory_recording.specs.Follows.{Follows}
 use Rattle.theory_recording.specs.Linked.{LinkedBy, pair_limit}
@@ -32,7 +34,7 @@ use Rattle.theory_recording.proofs.RecordedEvent.{Whereabouts, tell_one}
 use Rattle.theory_recording.proofs.CompletedMessages.{KeepsOne}
 use Rattle.theory_recording.proofs.RecordedCarry.{recorded_other, carry_recorded}
 
-one_with : {limit : ℕ} {tables : List Interface} {d : Direction} {stream : List ℕ} {t
+pub one_with : {limit : ℕ} {tables : List Interface} {d : Direction} {stream : List ℕ} {t
     p : ℕ} {sent : boxes.QueuedMessage} {e : List Judged} (P Q : List Judged → Type 0)
     → ((e' : List Judged) → P e' → Q e')
     → One limit tables d stream t p sent e P → One limit tables d stream t p sent e Q
@@ -77,7 +79,8 @@ carry_to_server_links p w asked told most l s =
     (subst (Each (AsksFitly tables p.server.globals)) l.requests.is l.stands.requests.fit) in
     let there = (carry_fits p.client.core p.server.core most).tokens_there in
     let flight = subst (λ (ms : List (Message Known)). InFlight next.client.core.outbox next.server.core.inbox
-    (map spelled_meant ms)) l.requests.is s.requests.in_boxes in
+    (map spelled_meant ms)) l.requests.is (none_behind next.client.core.outbox next.server.core.inbox
+    (map spelled_meant asked) [] s.requests.in_boxes refl) in
     let c = carry_recorded spelled_meant limit tables ToServer ps qs bytes taken.tokens F next.client.core.outbox
     p.server.core.inbox next.server.core.inbox l.requests.seen l.requests.later brings
     (asking_one limit tables p.server.globals l.events.seen client p.client.globals (λ x. stream_of x qs)
@@ -107,12 +110,12 @@ carry_to_server_links p w asked told most l s =
 -- ---- to the client
 
 -- the checker follows the ends, and the events that are not yet recorded fit
-abbrev Telling : List Interface → List Global → List (Message Known) → List (Coming Known) → Rows Row → List Remembered
+abbrev pub Telling : List Interface → List Global → List (Message Known) → List (Coming Known) → Rows Row → List Remembered
     → List Judged → List (Coming Known) → List (Coming Known) → Type 0
 Telling tables given asked_later told client remembered e seen later =
     Follows tables e asked_later seen client remembered × (told ≡ seen ++ later) × Each (ComesFitly tables given) later
 
-telling_one : (limit : ℕ) (tables : List Interface) (given : List Global)
+pub telling_one : (limit : ℕ) (tables : List Interface) (given : List Global)
     (asked_seen asked_later : List (Message Known)) (told : List (Coming Known)) (client : Rows Row)
     (server : Rows Born) (remembered : List Remembered)
     (streams : Direction → List ℕ) (t : ℕ) → Valid tables
@@ -126,7 +129,7 @@ telling_one limit tables given asked_seen asked_later told client server remembe
     (tell_one limit tables given asked_seen asked_later told client server remembered
     (streams ToClient) more t p e seen later c valid w f.1 f.0 f.2.0 whole at enough)
 
-whereabouts : (p : PairState) (w : World) (asked : List (Message Known)) (told : List (Coming Known))
+pub whereabouts : (p : PairState) (w : World) (asked : List (Message Known)) (told : List (Coming Known))
     (l : LinkedBy p w asked told)
     → Whereabouts p.server.core.tables l.requests.seen l.requests.later told (client_rows p.client.core.view)
     (server_rows p.server.core.view)
@@ -143,10 +146,10 @@ whereabouts p w asked told l =
 
 -- a carry to the client keeps a pair linked
 pub carry_to_client_links : (p : PairState) (w : World) (asked : List (Message Known)) (told : List (Coming Known))
-    (most : ℕ) → LinkedBy p w asked told
+    (most : ℕ) → w.stage ≡ Running → LinkedBy p w asked told
     → StandsBy (after_carry_to_client p (carries p.server.core p.client.core most)) w asked told
     → LinkedBy (after_carry_to_client p (carries p.server.core p.client.core most)) w asked told
-carry_to_client_links p w asked told most l s =
+carry_to_client_links p w asked told most z l s =
     let tables = p.server.core.tables in
     let limit = pair_limit p in
     let taken = carries p.server.core p.client.core most in
@@ -161,7 +164,8 @@ carry_to_client_links p w asked told most l s =
     (subst (Each (ComesFitly tables p.server.globals)) l.events.is l.stands.events.fit) in
     let there = (carry_fits p.server.core p.client.core most).tokens_there in
     let flight = subst (λ (cs : List (Coming Known)). InFlight next.server.core.outbox next.client.core.inbox
-    (map spelled_coming cs)) l.events.is s.events.in_boxes in
+    (map spelled_coming cs)) l.events.is (none_behind next.server.core.outbox next.client.core.inbox
+    (map spelled_coming told) s.behind s.events.in_boxes (nothing_behind s z)) in
     let c = carry_recorded spelled_coming limit tables ToClient ps qs bytes taken.tokens F next.server.core.outbox
     p.client.core.inbox next.client.core.inbox l.events.seen l.events.later brings
     (telling_one limit tables p.server.globals l.requests.seen l.requests.later told client

@@ -58,6 +58,9 @@ use Rattle.theory_recording.specs.Linked.{LinkedBy, knows, pair_limit}
 use Rattle.theory_recording.proofs.LeadsByMessage.{asks_more}
 use Rattle.theory_recording.proofs.ReadIsRecorded.{rest_seen}
 use Rattle.theory_connection.proofs.Births.{counted_more}
+use Rattle.theory_connection.specs.World.{Running}
+use Rattle.theory_connection.proofs.Errors.{nothing_behind}
+use Rattle.theory_connection.proofs.Stands.{none_behind}
 
 -- ---- nothing in flight changes
 
@@ -235,7 +238,8 @@ pub request_links : (p : PairState) (w w' : World) (m : Message Known) (ms : Lis
     → LinkedBy (with_server p (left_state p.server m n)) w' ms (told ++ answer id_maker m.ends)
 request_links p w w' m ms told n whole there l s =
     let seen = rest_seen spelled_meant (pair_limit p) ToServer p.recording p.client.core.outbox p.server.core.inbox
-    ((knows p).taken ToServer) n m ms l.stands.requests.in_boxes whole l.requests in
+    ((knows p).taken ToServer) n m ms (none_behind p.client.core.outbox p.server.core.inbox (map spelled_meant (m ∷ ms)) []
+    l.stands.requests.in_boxes refl) whole l.requests in
     let births = counted_at p.server.core.view in
     let now = counted_at (ended_view event_side (opens p.server.core.view (option_map made_of (made_in m.args))) m.ends) in
     let dead = answer id_maker m.ends in
@@ -310,7 +314,7 @@ read_client st c n view globals made replaced = record {
 coming_links : (p : PairState) (w w' : World) (asked : List (Message Known)) (c : Coming Known)
     (cs : List (Coming Known)) (n : ℕ) (view : Objects) (globals : List Remembered)
     (made replaced : Option Object)
-    → in_front p.client.core.inbox ≡ Whole n → (l : LinkedBy p w asked (c ∷ cs))
+    → w.stage ≡ Running → in_front p.client.core.inbox ≡ Whole n → (l : LinkedBy p w asked (c ∷ cs))
     → ((here : Rows Row) (rest : List (Coming Known))
     → Joins (by_event p.server.core.tables) (all_asks l.requests.later) (all_tells (c ∷ rest)) here
     (client_rows p.client.core.view)
@@ -318,11 +322,12 @@ coming_links : (p : PairState) (w w' : World) (asked : List (Message Known)) (c 
     → (TellsAdvertised p.server.core.tables (knows p) c → Each (Advertised p) globals)
     → StandsBy (with_client p (read_client p.client c n view globals made replaced)) w' asked cs
     → LinkedBy (with_client p (read_client p.client c n view globals made replaced)) w' asked cs
-coming_links p w w' asked c cs n view globals made replaced whole l joins learned s =
+coming_links p w w' asked c cs n view globals made replaced z whole l joins learned s =
     let f = l.follows in
     let tables = p.server.core.tables in
     let seen = rest_seen spelled_coming (pair_limit p) ToClient p.recording p.server.core.outbox p.client.core.inbox
-    ((knows p).taken ToClient) n c cs l.stands.events.in_boxes whole l.events in
+    ((knows p).taken ToClient) n c cs (none_behind p.server.core.outbox p.client.core.inbox (map spelled_coming (c ∷ cs)) l.stands.behind
+    l.stands.events.in_boxes (nothing_behind l.stands z)) whole l.events in
     let told = subst (λ (x : List (Coming Known)). Each (TellsAdvertised tables (knows p)) x) seen.seen_is f.tells in
     record {
       stands = s;
@@ -343,17 +348,17 @@ coming_links p w w' asked c cs n view globals made replaced whole l joins learne
 
 -- a pair stays linked when the client reads an event
 pub event_links : (p : PairState) (w w' : World) (asked : List (Message Known)) (m : Message Known)
-    (cs : List (Coming Known)) (n : ℕ) (entry : Entry)
+    (cs : List (Coming Known)) (n : ℕ) (entry : Entry) → w.stage ≡ Running
     → in_front p.client.core.inbox ≡ Whole n → LinkedBy p w asked (Event m ∷ cs)
     → StandsBy (with_client p (after_event p.client m n (teaches m entry))) w' asked cs
     → LinkedBy (with_client p (after_event p.client m n (teaches m entry))) w' asked cs
-event_links p w w' asked m cs n entry whole l s =
+event_links p w w' asked m cs n entry z whole l s =
     let tables = p.server.core.tables in
     let fit = l.stands.events.fit.0 in
     coming_links p w w' asked (Event m) cs n
     (ended_view request_side (opens p.client.core.view (option_map made_of (made_in m.args))) m.ends)
     (after_event p.client m n (teaches m entry)).globals (after_event p.client m n (teaches m entry)).made
-    (after_event p.client m n (teaches m entry)).replaced whole l
+    (after_event p.client m n (teaches m entry)).replaced z whole l
     (λ here rest j. event_joins (by_event tables) m l.requests.later rest here p.client.core.view tables fit.fits j)
     (λ told. learns (Advertised p) tables p.client.core.tables p.server.globals p.client.globals m
     l.stands.terms.same_tables fit (told_advertised tables p.server.globals (knows p) m told) l.follows.remembers
@@ -375,10 +380,10 @@ delete_joins test x asked_later rest here p n j =
 
 -- a pair stays linked when the client reads a delete
 pub delete_links : (p : PairState) (w w' : World) (asked : List (Message Known)) (x : Known) (cs : List (Coming Known))
-    (n : ℕ) → in_front p.client.core.inbox ≡ Whole n
+    (n : ℕ) → w.stage ≡ Running → in_front p.client.core.inbox ≡ Whole n
     → LinkedBy p w asked (Delete x ∷ cs) → StandsBy (with_client p (after_delete p.client x n)) w' asked cs
     → LinkedBy (with_client p (after_delete p.client x n)) w' asked cs
-delete_links p w w' asked x cs n whole l s =
-    coming_links p w w' asked (Delete x) cs n (closed p.client.core.view x.id) p.client.globals None None whole l
+delete_links p w w' asked x cs n z whole l s =
+    coming_links p w w' asked (Delete x) cs n (closed p.client.core.view x.id) p.client.globals None None z whole l
     (λ here rest j. delete_joins (by_event p.server.core.tables) x l.requests.later rest here p n j)
     (λ told. l.follows.remembers) s

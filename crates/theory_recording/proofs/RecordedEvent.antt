@@ -234,7 +234,7 @@ event_one limit tables given asked_seen asked_later told client server remembere
 -- ---- a delete
 
 -- the checker has wl_display
-display_held : (tables : List Interface) (e : List Judged) (asked_later : List (Message Known))
+pub display_held : (tables : List Interface) (e : List Judged) (asked_later : List (Message Known))
     (seen : List (Coming Known)) (client : Rows Row) (remembered : List Remembered)
     (f : Follows tables e asked_later seen client remembered)
     → Valid tables → client.rows 1 ≡ Some (Open display_born)

@@ -1,20 +1,20 @@
 -- When a pair, its world and its recording are linked.
-use Rattle.std.specs.Prelude.{◌≡◌, ℕ, ◌≤◌, true, List, [], ◌∷◌, ◌++◌, length, map, take, Option}
-use Rattle.std.specs.Prelude.{Some, None}
+use Rattle.std.specs.Prelude.{◌≡◌, ℕ, ◌≤◌, true, List, [], ◌∷◌, ◌++◌, length, map, take}
 use Rattle.wl_sigs.specs.Tables.{Interface}
 use Rattle.wl_message.specs.Arrived.{Arrived}
 use Rattle.wl_message.specs.Outgoing as boxes
+use Rattle.wl_message.specs.Outgoing.{waiting_bytes, newly_begun, all_tokens, after_taking}
 use Rattle.wl_recording.specs.declared.piece.Direction.{Direction}
 use Rattle.wl_recording.specs.declared.piece.Direction.TheVariants.{ToServer, ToClient}
-use Rattle.wl_recording.specs.Piece.{Piece}
+use Rattle.wl_recording.specs.Piece.{Piece, passed}
 use Rattle.wl_check.specs.Places.{KnownAtPlace as Knows}
 use Rattle.wl_check.specs.Session.{Judged, IsLawful, messages, session_of}
 use Rattle.theory_connection.specs.Meant.{Known, Message, Coming, spelled_meant, spelled_coming}
-use Rattle.theory_connection.specs.World.{World, Each}
+use Rattle.theory_connection.specs.World.{World, Running, Each}
 use Rattle.theory_connection.specs.Pair.{PairState, Move, Reply}
 use Rattle.theory_connection.specs.Flight.{client_rows, server_rows, births_in, all_tells, IsBelow}
-use Rattle.theory_connection.specs.Answers.{NotEnded, Answers}
-use Rattle.theory_connection.specs.Stands.{StandsBy}
+use Rattle.theory_connection.specs.Answers.{Answers}
+use Rattle.theory_connection.specs.Stands.{Stands, StandsBy}
 use Rattle.theory_recording.specs.Recorded.{Recorded}
 use Rattle.theory_recording.specs.Follows.{Follows, knowledge}
 
@@ -59,24 +59,27 @@ pub record LinkedBy (p : PairState) (w : World) (asked : List (Message Known))
   -- the server has counted what each event in flight concerns
   pub counted : Each (IsBelow (births_in (server_rows p.server.core.view))) (all_tells told)
 
--- the pieces up to the mark
-abbrev pub up_to : Option ℕ → List Piece → List Piece
-up_to None pieces = pieces
-up_to (Some count) pieces = take count pieces
+-- The pieces in which an outbox gives what waits in it: any front part of it, then any front part
+-- of what is left, and so on; the rest stays.
+pub data GivesInPieces : boxes.Outgoing → List Piece → Type 0 where
+  nothing : {from : boxes.Outgoing} → GivesInPieces from []
+  piece : {from : boxes.Outgoing} {others : List Piece} (n : ℕ)
+      → n ≤ length (waiting_bytes from) → GivesInPieces (after_taking from n) others
+      → GivesInPieces from (passed ToClient (take n (waiting_bytes from))
+      (length (all_tokens (newly_begun from n))) ++ others)
 
--- what was recorded when the first error was posted is lawful
-pub record EndedLawful (p : PairState) : Type 0 where
-  pub count : ℕ
-  pub mark : p.ended_at ≡ Some count
-  pub there : count ≤ length p.recording
-  pub lawful : IsLawful p.server.core.tables (session_of (pair_limit p) (take count p.recording))
+-- The server has posted an error and gives nothing but what waits in its outbox. In whatever pieces
+-- that is recorded, the recording is lawful.
+pub record RecordsToEnd (p : PairState) : Type 0 where
+  pub failed : p.server.core.failed ≡ true
+  pub lawful : (more : List Piece) → GivesInPieces p.server.core.outbox more
+      → IsLawful p.server.core.tables (session_of (pair_limit p) (p.recording ++ more))
 
--- The pair's recording is linked with its world. After the world has ended, this says only that
--- what was recorded before the end is lawful.
+-- The pair's recording is linked with its world: so far, or to its end.
 pub data Linked (p : PairState) (w : World) : Type 0 where
-  ended : w.ended ≡ true → EndedLawful p → Linked p w
   linked : (asked : List (Message Known)) (told : List (Coming Known))
-      → NotEnded p w → LinkedBy p w asked told → Linked p w
+      → w.stage ≡ Running → LinkedBy p w asked told → Linked p w
+  posted : Stands p w → RecordsToEnd p → Linked p w
 
 -- The run of these moves: each pair is linked with its world, and each reply is one that the world
 -- allows.

@@ -9,7 +9,7 @@ ghost use Rattle.theory_connection.specs.World.{World, opening_world, Each};
 ghost use Rattle.theory_connection.specs.Pair.{PairState, Move, Reply, Does, new_pair};
 ghost use Rattle.theory_connection.specs.Stands.{Stands};
 ghost use Rattle.theory_connection.specs.Runs.{DoesAll, IsMove};
-ghost use Rattle.theory_recording.specs.Linked.{Linked, LinksOn, RunsLinked, pair_limit, up_to};
+ghost use Rattle.theory_recording.specs.Linked.{Linked, LinksOn, RunsLinked, pair_limit};
 
 /// A new pair with one limit is linked with the opening world.
 pub fn new_linked()
@@ -40,18 +40,18 @@ pub fn linked_stands()
     ensures { (pair : PairState) (world : World) → Linked pair world → Stands pair world }
 {}
 
-/// What a linked pair recorded is lawful, up to the first error that was posted.
+/// What a linked pair recorded is lawful.
 pub fn linked_lawful()
     ensures { (pair : PairState) (world : World) → Linked pair world
         → IsLawful pair.server.core.tables
-        (session_of (pair_limit pair) (up_to pair.ended_at pair.recording)) }
+        (session_of (pair_limit pair) pair.recording) }
 {}
 
-/// Whatever verdict a checker may give on what a linked pair recorded, up to the first error that
-/// was posted, it is that the session is lawful.
+/// Whatever verdict a checker may give on what a linked pair recorded, it is that the session is
+/// lawful.
 pub fn check_says_lawful()
     ensures { (pair : PairState) (world : World) (verdict : Verdict) → Linked pair world
         → IsVerdictOf pair.server.core.tables
-        (session_of (pair_limit pair) (up_to pair.ended_at pair.recording)) verdict
+        (session_of (pair_limit pair) pair.recording) verdict
         → SaysLawful verdict }
 {}

@@ -6,11 +6,23 @@
 //! carries these, when it is read, and on which thread. So a toolkit, a compositor, a proxy and a
 //! test use the same two types.
 //!
-//! The contract of each call says what it returns and what it leaves, and is proved. More is proved
-//! about two ends of this library that start together, over a transport that keeps bytes in order
-//! and descriptors in step. Up to the first error that the server posts, each end reads exactly the
-//! messages that the other wrote, however the bytes are split. Once both streams are drained, both
-//! ends have the same objects, including the server's.
+//! The contract of each call says what it returns and what it leaves, and is proved.
+//!
+//! # What is proved of two ends
+//!
+//! Each end reads exactly the messages that the other wrote, however the bytes are split. A server
+//! that has posted an error reads nothing more, and the client reads that error last. Once both
+//! streams are drained, both ends have the same objects, including the server's. At an id that the
+//! server has freed in its own range, the client has a zombie. The recording of a pair is lawful.
+//!
+//! These are the premises:
+//!
+//! - Both ends are this library's. They start together, with the same tables and the same [`Limit`].
+//! - The transport delivers all bytes unchanged and in order, and each token no later than the first
+//!   byte of its message. In a [`Pair`] this is proved; between processes the caller sees to it.
+//! - The client never calls `bind_unannounced`. The server never calls `end_object`,
+//!   `next_unanswered`, or `next_answering` with `false`. Neither end calls `more_tables` or
+//!   `take_waiting_tokens`.
 //!
 //! # The loop
 //!
@@ -174,12 +186,14 @@
 //!   `flush` with a stream. `in_room` and `goes` say how much would be moved. `token_to_go`,
 //!   `is_drained`, `has_failed`, `take_waiting_tokens`, `display`, `live` (interface and version of
 //!   a live object), `objects`, `table` (the objects of the client's range).
-//! - [`Client`]: `new`, `send`, `bind` (an announced global), `bind_unannounced` (any global),
-//!   `remembers` (whether `bind` can bind a global), `more_tables`, `next`, `next_with_entry`,
-//!   `next_owned`, `next_owned_with_entry`, `read_all`, `made` and `replaced` (by the last
-//!   message).
-//! - [`Server`]: `new`, `send`, `add_global`, `withdraw`, `announce` (to each registry what it
-//!   lacks), `drop_object` (without an event), `post_error`, `next`, `next_with_entry`,
+//! - [`Client`]: `new`, `send`, `send_words` (a message of numbers alone), `bind` (an announced
+//!   global), `bind_unannounced` (any global), `remembers` (whether `bind` can bind a global),
+//!   `more_tables`, `next`, `next_with_entry`, `next_owned`, `next_owned_with_entry`, `read_all`,
+//!   `made` and `replaced` (by the last message).
+//! - [`Server`]: `new`, `send`, `send_words`, `add_global`, `withdraw`, `announce` (to each
+//!   registry what it lacks), `more_tables`, `drop_object` (without an event), `end_object` (of any
+//!   interface), `post_error`, `next`, `next_with_entry`, `next_unanswered` (leaves a fault to the
+//!   caller), `next_answering` (does as the caller says), `front` (the bytes of the first message),
 //!   `next_owned`, `next_owned_with_entry`, `read_all`.
 //! - [`IncomingWithEntry`]: `shown`. [`RequestWithEntry`]: `shown`.
 //! - [`Args`]: `next`, `len`, `is_empty`, `to_owned`. [`OwnedArgs`]: `as_slice`, `into_vec`,
@@ -187,10 +201,10 @@
 //!   `copy_of`, `from_vec`, `into_vec`.
 //! - [`Fixed`]: `from_raw`, `raw`, `from_int`, `to_int`. [`Limit`]: `new`, `allows` (a length),
 //!   `is_message` (whether bytes are one message). [`Sizes`]: `is_allowed`.
-//! - [`Tables`]: `core`, `read_more`, `interface` (by its name), `name`, `version`, `message` (its
-//!   signature), `opcode` (by a name), `ends_by_event`, `ends_by_request`, `has_server_objects`
-//!   (whether the server can make objects). [`Signature`]: `name`, `kinds`. [`Destroys`]:
-//!   `destroys_one`.
+//! - [`Tables`]: `core`, `core_unended` (for a server whose caller ends objects), `read_more`,
+//!   `interface` (by its name), `name`, `version`, `message` (its signature), `opcode` (by a name),
+//!   `ends_by_event`, `ends_by_request`, `has_server_objects` (whether the server can make
+//!   objects). [`Signature`]: `name`, `kinds`. [`Destroys`]: `destroys_one`.
 //! - [`Table`]: `new`, `look`, `is_free`, `has_room`, `can_open`, `used` (ids), `births`, `len`,
 //!   `open_next`, `open_at`, `reopen` (a new object in place of one), `make_zombie`, `close`.
 //! - [`Objects`], a table for each range of ids: `new`, `with_server_range`, `client`,
@@ -200,7 +214,8 @@
 //! - [`Pair`]: `new`, `run`, `agree` (whether both ends have the same objects), `drained`, `len`
 //!   (objects), `recording`, `ended_at` (how many pieces were recorded at the first error).
 //! - [`Recording`]: `new`, `add`, `pieces`, `parse`, `to_text`. [`Tee`]: `new`, `reader`, `add_to`.
-//! - [`Inspector`]: `new`, `pass`, `lines`, `judged_count`, `verdict`.
+//! - [`Inspector`]: `new`, `pass`, `lines`, `judged_count`, `undeserved` (the first delete_id that
+//!   nothing asked for), `verdict`.
 //! - [`Follower`], which tells what a message says before it is passed on: `new`, `feed`, `ahead`
 //!   (the next message), `go_past` (it), `object`, `client_id_count`, `server_id_count`,
 //!   `announced_version`.
@@ -208,14 +223,42 @@
 //!   argument for the other end).
 //! - Functions: `check`, `trace`, `same_rows`, `object_count`.
 //!
-//! A [`Move`] is a call of one end of a pair, with its arguments owned ([`SendArg`]), or a carry of
-//! at most a given number of bytes. Its [`Reply`] has the same case with what the call returns.
+//! # The moves of a pair
+//!
+//! A [`Move`] is a call of one end of a pair, or a carry of bytes between them. Its [`Reply`] has the
+//! case of the same name, with what the call returns. Each case of a move, its call, and the `Ok` of
+//! the reply:
+//!
+//! - `ClientSend { target, opcode, args }`, `ServerSend { target, opcode, args }`: `send`, with a
+//!   vector of [`SendArg`]; the object that the message made, or `None`.
+//! - `ClientBind { registry, name, iface, version }`: `bind`; the object.
+//! - `ServerDrop { object }`: `drop_object`; nothing.
+//! - `PostError { object, code, text }`: `post_error`; nothing.
+//! - `AddGlobal { iface, version }`: `add_global`; the name of the global.
+//! - `Withdraw { name }`: `withdraw`; nothing.
+//! - `Announce`: `announce`; the number of events that were written.
+//! - `ClientNext`, `ServerNext`: `next_owned`; the [`OwnedIncoming`] or the [`OwnedRequest`], or
+//!   `None`.
+//! - `CarryToServer(most)`, `CarryToClient(most)`: bytes of one end go to the other, at most so many,
+//!   and no more than its inbox has room for. The reply is no `Result` but a [`Carried`]:
+//!   `Moved(fed)`, or `Memory` if there was no memory to record what would go; then nothing went.
+//!
+//! A [`SendArg`] has the cases of an [`Arg`], and owns what an `Arg` borrows:
+//!
+//! - `Int(i32)`, `Uint(u32)`, `Fixed(Fixed)`: the number.
+//! - `Str(Option<..>)`: the bytes of a string, without a NUL, or `None` for the null string.
+//! - `Obj(Option<Object>)`: a live object, or `None` for the null object.
+//! - `New`: the position of the new object, which the call makes.
+//! - `Array(..)`: the bytes.
+//! - `Fd(u32)`: the token of a descriptor.
+//!
+//! # Preconditions
 //!
 //! These calls have a precondition:
 //!
 //! - `new` of a client, a server and a pair: [`Sizes::is_allowed`] holds for the sizes; for a pair,
 //!   both have the same limit;
-//! - `more_tables`: the tables extend the client's, as those that [`Tables::read_more`] makes from
+//! - `more_tables`: the tables extend the end's, as those that [`Tables::read_more`] makes from
 //!   them do (the law `texts_extend` of `wl_connection`);
 //! - [`Recording::add`]: at most 65,536 tokens;
 //! - `make_zombie` of a table: the id has a live object; `close` and `reopen`: the id has an entry;
@@ -234,7 +277,7 @@ pub use wl_objects::{
     NextError, Object, Objects, OwnedArgs, SendError, SlotTable, State, Table, TableError,
 };
 pub use wl_server::{
-    GlobalError, OwnedRequest, OwnedRequestWithEntry, Request, RequestWithEntry, Server,
+    Announced, GlobalError, OwnedRequest, OwnedRequestWithEntry, Request, RequestWithEntry, Server,
 };
 pub use wl_session::{
     Carried, Direction, Move, Pair, Passed, Recording, RecordingError, Reply, SendArg, Tee,

@@ -38,7 +38,7 @@ unannounced_opens state target name iface version entry global lives row registe
 -- ---- which binds are refused with S7
 
 -- `can_bind` for an interface that `place_of` finds
-fitting : (tables : List Interface) (iface : List ℕ) (name version place : ℕ) (i : Interface)
+pub fitting : (tables : List Interface) (iface : List ℕ) (name version place : ℕ) (i : Interface)
     → place_of tables iface ≡ Some (record { 0 = place }) → interface_at tables place ≡ Some i
     → can_bind tables iface version (any_global tables name iface)
     ≡ (bytes_eq i.name iface && (nat_le 1 version && (nat_le version i.version && nat_le version i.version)))

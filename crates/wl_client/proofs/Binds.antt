@@ -40,7 +40,7 @@ fits_version tables v iface version advertised place (Some i) e h =
     let same : i.name ≡ iface = (bytes_eq-Decides i.name iface).0 (and_parts (bytes_eq i.name iface) _ h).0 in
     subst FitsBind same (name_fits i.name (v.names_distinct.interfaces_named place i e))
 
-fits_global : (tables : List Interface) → Valid tables → (iface : List ℕ) (version : ℕ) (o : Option Global)
+pub fits_global : (tables : List Interface) → Valid tables → (iface : List ℕ) (version : ℕ) (o : Option Global)
     → can_bind tables iface version o ≡ true → FitsBind iface
 fits_global tables v iface version None h = absurd (cc h)
 fits_global tables v iface version (Some g) h = fits_version tables v iface version g.version g.iface.0
@@ -76,7 +76,7 @@ fits_answer state target name version iface new v e = by_failed state.core.faile
 
 -- ---- its bytes
 
-kinds_in : (o : Option MessageSignature) (m signature : MessageSignature) → o ≡ Some m → o ≡ Some signature
+pub kinds_in : (o : Option MessageSignature) (m signature : MessageSignature) → o ≡ Some m → o ≡ Some signature
     → m.kinds ≡ signature.kinds
 kinds_in o m signature e there = let same = sym e ∙ there in let is : m ≡ signature = cc same
     in ap (λ (x : MessageSignature). x.kinds) is

@@ -16,7 +16,6 @@ use Rattle.wl_object_map.specs.declared.object.Maker.TheVariants.{Client}
 use Rattle.wl_object_map.specs.Objects.{Objects, ObjectsAreSound, next_id, opened_at}
 use Rattle.wl_object_map.specs.ObjectsLaws.{next_of_client}
 use Rattle.wl_objects.specs.declared.argument.Arg.{Arg}
-use Rattle.wl_objects.specs.declared.error.SendError.{SendError}
 use Rattle.wl_objects.specs.Writing.{given}
 use Rattle.wl_objects.specs.Messages.{NewObject, opens}
 use Rattle.wl_connection.specs.Core.{Core, with_view}
@@ -65,8 +64,8 @@ sound_changed core (Close id) can s = record {
 }
 
 -- after a call of send
-pub sound_sent : (before now : Core) (target : Object) (opcode : ℕ) (list : List Arg)
-    (result : Result (Option Object) SendError)
+pub sound_sent : {X E : Type 0} (before now : Core) (target : Object) (opcode : ℕ) (list : List Arg)
+    (result : Result X E)
     → OnOk result (now ≡ after_send before Request target opcode (given list)) → OnErr result (now ≡ before)
     → IfOk result (λ _. Valid before.tables) → IfOk result (λ _. ObjectsAreSound before.view)
     → IsSound before → IsSound now

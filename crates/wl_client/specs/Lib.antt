@@ -9,3 +9,4 @@ pub mod Binding
 pub mod Outlines
 pub mod Shown
 pub mod Unannounced
+pub mod Replacing

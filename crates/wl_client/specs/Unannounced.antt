@@ -1,21 +1,25 @@
 -- What `bind_unannounced`, which ignores what was announced, returns and writes.
-use Rattle.std.specs.Prelude.{◌≡◌, ℕ, ◌≤◌, not, if◌then◌else◌, List, [], Option, Some, None}
-use Rattle.std.specs.Prelude.{option_map}
+use Rattle.std.specs.Prelude.{◌≡◌, ℕ, ◌<◌, ◌≤◌, ◌^◌, not, if◌then◌else◌, List, [], Option, Some}
+use Rattle.std.specs.Prelude.{None, option_map}
 use Rattle.std.specs.Option.{option_and_then}
 use Rattle.std.specs.declared.result.Result.{Result}
-use Rattle.std.specs.declared.result.Result.TheVariants.{Err}
-use Rattle.wl_sigs.specs.Tables.{Interface, interface_at, place_of}
+use Rattle.std.specs.declared.result.Result.TheVariants.{Ok, Err}
+use Rattle.wl_sigs.specs.Side.TheVariants.{Request}
+use Rattle.wl_sigs.specs.Tables.{Interface, MessageSignature, interface_at, place_of, signature_at}
+use Rattle.wl_sigs.specs.Valid.{Valid}
+use Rattle.wl_message.specs.Cut.{usual_limit}
 use Rattle.wl_sigs.specs.Fixed.{registry}
 use Rattle.wl_object_map.specs.declared.object.Object.{Object}
 use Rattle.wl_object_map.specs.declared.object.Entry.{Entry}
 use Rattle.wl_objects.specs.declared.error.SendError.{SendError}
 use Rattle.wl_objects.specs.declared.error.SendError.TheVariants as refusals
 use Rattle.wl_object_map.specs.declared.object.Maker.TheVariants.{Client}
-use Rattle.wl_object_map.specs.Objects.{next_id, opened_at}
-use Rattle.wl_objects.specs.Writing.{bind_values, message_len}
+use Rattle.wl_object_map.specs.Objects.{ObjectsAreSound, next_id, opened_at}
+use Rattle.wl_objects.specs.Writing.{bind_values, message_bytes, message_len}
 use Rattle.wl_objects.specs.Messages.{NewObject, live_row, same_iface}
 use Rattle.wl_connection.specs.Core.{with_view}
 use Rattle.wl_connection.specs.Sending.{fits, with_sent, opening_answer}
+use Rattle.wl_connection.specs.Spelled.{MessageSpells}
 use Rattle.wl_client.specs.State.{State, Global}
 use Rattle.wl_client.specs.Calls.{can_bind, iface_or}
 
@@ -71,5 +75,27 @@ pub record HasVersion (tables : List Interface) (iface : List ℕ) (version : �
   pub interface : Interface
   pub at : interface_at tables place ≡ Some interface
   pub named : interface.name ≡ iface
+  pub some : 1 ≤ version
+  pub known : version ≤ interface.version
+
+-- What an accepted `bind_unannounced` writes is a spelling of its values by the tables' signature;
+-- the new object has the next id.
+abbrev pub UnannouncedSpells : State → Object → ℕ → List ℕ → ℕ → Type 0
+UnannouncedSpells state target name iface version =
+    Valid state.core.tables → ObjectsAreSound state.core.view → name < 2 ^ 32 → version < 2 ^ 32
+    → (new : Option Object) → unannounced_answer state target name iface version ≡ Ok new
+    → (signature : MessageSignature) → signature_at state.core.tables 1 Request 0 ≡ Some signature
+    → MessageSpells usual_limit signature.kinds target.id 0
+    (bind_values name iface version (next_id Client state.core.view))
+    (message_bytes target.id 0 (bind_values name iface version (next_id Client state.core.view)))
+
+-- The object that it makes has the interface of this name, at the version of the tables, which is
+-- at least the version that the message has.
+pub record IsOfNamed (state : State) (name : ℕ) (iface : List ℕ) (version : ℕ) : Type 0 where
+  pub interface : Interface
+  pub at : interface_at state.core.tables (unannounced_object state name iface).iface.0
+      ≡ Some interface
+  pub named : interface.name ≡ iface
+  pub version_is : (unannounced_object state name iface).version ≡ interface.version
   pub some : 1 ≤ version
   pub known : version ≤ interface.version

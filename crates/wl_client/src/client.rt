@@ -77,9 +77,10 @@ impl<'t, T: Table> Client<'t, T> {
 
     /// The live object that the object returned by `made` replaced: it had the same id, and no
     /// request could end it at its version (for example a version-2 zwlr_output_head_v1). No later
-    /// report names it, so free here what belongs to it. `None` if the last message read replaced
-    /// none. A call that reads no message does not change it. After `read_all` it is what the last
-    /// of its messages replaced, so read one by one if you need each.
+    /// report names it (`replaced_objects_are_over`), so free here what belongs to it. `None` if
+    /// the last message read replaced none. A call that reads no message does not change it. After
+    /// `read_all` it is what the last of its messages replaced, so read one by one if you need
+    /// each.
     pub fn replaced(&self) -> Option<Object>
         ensures { result ≡ self.now.replaced }
     {

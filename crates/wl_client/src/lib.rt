@@ -22,8 +22,8 @@ mod unannounced;
 
 pub use client::Client;
 pub use laws::{
-    any_cut_reads, binds_are_spelled, one_reading, unannounced_binds_are_known,
-    whole_messages_are_read,
+    any_cut_reads, binds_are_spelled, one_reading, replaced_objects_are_over,
+    unannounced_binds_are_known, unannounced_binds_are_spelled, whole_messages_are_read,
 };
 pub use report::{Incoming, IncomingWithEntry, OwnedIncoming, OwnedIncomingWithEntry};
 pub use shown::ShownIncoming;

@@ -53,7 +53,7 @@ impl Outline {
             → entry_of view (lent_report result) ≡ outline_entry view self.now }
     {
         let Endpoint { core, args } = end;
-        let (body, tokens) = core.inbox.last();
+        let (body, tokens) = core.inbox.last_with_tokens();
         match self {
             Outline::Event {
                 target,

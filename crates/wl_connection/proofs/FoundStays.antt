@@ -31,7 +31,7 @@ use Rattle.wl_objects.specs.Messages.{received_as, received_by, received}
 use Rattle.wl_connection.specs.Core.{Core, with_arrived}
 use Rattle.wl_connection.specs.Receiving.{reader_in, Found, found_in, found_at, found, header_of, takes}
 use Rattle.wl_connection.specs.Receiving.{reported, own_tokens, past_found}
-use Rattle.wl_connection.specs.Streams.{WantsNeed, need_of}
+use Rattle.wl_connection.specs.Streams.{FrontNeeds, need_of}
 use Rattle.wl_sigs.specs.Rules.{is_empty}
 use Rattle.wl_connection.proofs.Descriptors.{fds, HasAll, all_read, reports_stay}
 
@@ -297,14 +297,14 @@ past_shorter core side f h = omega (arith, length-drop f.size core.inbox.bytes, 
 -- token comes in.
 pub data Faulty (core : Core) (side : Side) (what : Fault) : Type 0 where
   always : ((bytes tokens : List ℕ) → found (with_arrived core bytes tokens) side ≡ Err what) → Faulty core side what
-  lacks : (need : Need) → ((bytes tokens : List ℕ) → WantsNeed (with_arrived core bytes tokens) side need)
+  lacks : (need : Need) → ((bytes tokens : List ℕ) → FrontNeeds (with_arrived core bytes tokens) side need)
       → length core.inbox.tokens < need.tokens → 0 < length core.inbox.bytes → what ≡ faults.MissingDescriptor
       → ((bytes : List ℕ) → found (with_arrived core bytes []) side ≡ Err what) → Faulty core side what
 
 wants_there : (core : Core) (side : Side) (g : Found)
     → ((bytes tokens : List ℕ) → takes g.message ≤ length (core.inbox.tokens ++ tokens)
     → found (with_arrived core bytes tokens) side ≡ Ok (Some g))
-    → (bytes tokens : List ℕ) → WantsNeed (with_arrived core bytes tokens) side (need_of g)
+    → (bytes tokens : List ℕ) → FrontNeeds (with_arrived core bytes tokens) side (need_of g)
 wants_there core side g some bytes tokens =
     let more = replicate (takes g.message) 0 in
     let len : length more ≡ takes g.message = length-replicate (takes g.message) 0 in

@@ -6,6 +6,7 @@ pub mod Displays
 pub mod Messages
 pub mod Appended
 pub mod CheckedSends
+pub mod WordSends
 pub mod Openings
 pub mod ReceivedMessage
 pub mod Spelled

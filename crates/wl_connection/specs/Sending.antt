@@ -11,6 +11,7 @@ use Rattle.wl_sigs.specs.Tables.{MessageSignature, destroys_one, makes}
 use Rattle.wl_message.specs.Outgoing.{Outgoing, room_of, token_room_of, with_message, with_error}
 use Rattle.wl_object_map.specs.declared.object.Object.{Object}
 use Rattle.wl_object_map.specs.declared.object.Entry.{Entry}
+use Rattle.wl_objects.specs.declared.argument.Arg.{Arg}
 use Rattle.wl_objects.specs.declared.error.SendError.{SendError}
 use Rattle.wl_objects.specs.declared.error.SendError.TheVariants as refusals
 use Rattle.wl_wire.specs.declared.kind.Iface.{Iface}
@@ -18,7 +19,7 @@ use Rattle.wl_object_map.specs.declared.object.Maker.{Maker}
 use Rattle.wl_object_map.specs.Objects.{Objects, look, next_id, next_birth, can_open}
 use Rattle.wl_objects.specs.Writing.{Given, wired, message_len, message_bytes, tokens_of}
 use Rattle.wl_objects.specs.Messages.{NewObject, made, maker_by, checked, after}
-use Rattle.wl_objects.specs.Messages.{ended_id}
+use Rattle.wl_objects.specs.Messages.{ended_id, numbers_called}
 use Rattle.wl_connection.specs.Core.{Core, with_view}
 use Rattle.wl_connection.specs.Outcomes.{AnswersOrMemory}
 
@@ -42,7 +43,7 @@ delete_id_len = 12
 
 -- the longest text of an error in bytes
 abbrev pub max_error_text : ℕ
-max_error_text = 40
+max_error_text = 127
 
 -- wl_display.error added, in the room reserved for it; the end has failed
 abbrev pub with_error_event : Core → ℕ → ℕ → List ℕ → Core
@@ -152,3 +153,13 @@ IsSendAnswer core side target opcode given result =
     (opens_object
     (checked core.outbox.limit.bytes core.tables side core.view target opcode given))
     (send_answer core side target opcode given) result
+
+-- the arguments that words are for the message that a call names
+abbrev pub numbers_of : Core → Side → Object → ℕ → List ℕ → List Arg
+numbers_of core side target opcode words =
+    numbers_called core.tables side core.view target opcode words
+
+-- the result of a call that makes no object, as that of a call that may make one
+abbrev pub made_nothing : {X E : Type 0} → Result X E → Result (Option Object) E
+made_nothing (Ok x) = Ok None
+made_nothing (Err why) = Err why

@@ -19,7 +19,7 @@ abbrev pub need_of : Found → Need
 need_of f = record { size = f.size; tokens = takes f.message }
 
 -- A message with this need is at the front: it is found there, or would be if more tokens waited.
-pub record WantsNeed (core : Core) (side : Side) (need : Need) : Type 0 where
+pub record FrontNeeds (core : Core) (side : Side) (need : Need) : Type 0 where
   pub more : List ℕ
   pub message : Found
   pub there : found (with_arrived core [] more) side ≡ Ok (Some message)

@@ -10,12 +10,14 @@ ghost use Rattle.wl_objects.specs.Messages.{destroys, ended_id};
 ghost use Rattle.wl_object_map.specs.Objects.{ObjectsAreSound, closed, is_held, is_live};
 ghost use Rattle.wl_object_map.specs.Objects.{next_id, opened_at};
 ghost use Rattle.wl_objects.specs.Writing.{CallFits, EachFits, bind_values, given, has_no_nul};
-ghost use Rattle.wl_objects.specs.Writing.{message_len, on_wire, tokens_of};
+ghost use Rattle.wl_objects.specs.Writing.{WordsFit, message_len, on_wire, tokens_of};
+ghost use Rattle.wl_objects.specs.Writing.{words_on_wire};
 ghost use Rattle.wl_connection.specs.Core.{with_view};
 ghost use Rattle.wl_connection.specs.Outcomes.{AnswersOrMemory, some_object};
 ghost use Rattle.wl_connection.specs.Sending.{IsSendAnswer, OpensNothing, after_send};
 ghost use Rattle.wl_connection.specs.Sending.{delete_id_len, fits, max_error_text};
-ghost use Rattle.wl_connection.specs.Sending.{following, following_len, next_object};
+ghost use Rattle.wl_connection.specs.Sending.{following, following_len, next_object, made_nothing};
+ghost use Rattle.wl_connection.specs.Sending.{numbers_of, send_answer};
 ghost use Rattle.wl_connection.specs.Sending.{opening_answer, with_delete_id, with_error_event};
 ghost use Rattle.wl_connection.specs.Sending.{with_following, with_sent};
 
@@ -23,8 +25,8 @@ use crate::receive::MAX_TOKENS;
 use crate::shared::Core;
 use wl_object_map::{DISPLAY_ID, Maker};
 use wl_objects::{
-    Arg, BindMessage, CallMessage, Object, SendError, SideTables, Table, TableError, check_call,
-    maker_by, take_tokens,
+    Arg, BindMessage, CallMessage, Object, SendError, SideTables, Table, TableError, WordsMessage,
+    check_call, check_words, maker_by, take_tokens,
 };
 use wl_sigs::event::wl_display::{DELETE_ID, ERROR};
 use wl_sigs::{Destroys, Side};
@@ -32,6 +34,17 @@ use wl_wire::{HEADER_LEN, Iface};
 
 /// The length of wl_display.delete_id in bytes: a header and an id.
 pub const DELETE_ID_LEN: usize = HEADER_LEN + 4;
+
+/// How many bytes the delete_id has that follows a destroying event; 0 if none follows.
+#[inline(always)]
+fn following_len(side: Side, what: Destroys) -> usize
+    ensures { result ≡ following_len side what }
+{
+    match (side, what) {
+        (Side::Event, Destroys::Target | Destroys::Arg(_)) => DELETE_ID_LEN,
+        _ => 0,
+    }
+}
 
 impl<'t, T: Table> Core<'t, T> {
     /// Whether this number of bytes and tokens is free in the outbox.
@@ -233,5 +246,62 @@ impl<'t, T: Table> Core<'t, T> {
         self.write_call(&message, call.tokens);
         self.end_object(side, what, target.id, args);
         Ok(new)
+    }
+    /// Writes the message that has these words as its arguments. It must fit.
+    #[inline(always)]
+    fn write_words(&mut self, message: &WordsMessage<'_>)
+        requires fits { WordsFit message.now }
+        requires short { message_len (words_on_wire message.now.words.now)
+            ≤ self.old.outbox.limit.bytes }
+        requires room { IsTrue
+            (fits self.old.outbox (message_len (words_on_wire message.now.words.now)) 0) }
+        ensures { self.new ≡ with_sent self.old message.now.object message.now.opcode
+            (words_on_wire message.now.words.now) [] }
+    {
+        self.outbox.push_encoded(message, &[], &mut self.store);
+    }
+
+    /// Writes a message whose arguments are numbers alone, given as their words, and does what
+    /// `send` does of these numbers. Any other message is refused with S5 at its first argument
+    /// that is no number. Allocates nothing.
+    pub fn send_words(
+        &mut self,
+        side: Side,
+        target: Object,
+        opcode: u16,
+        words: &[u32],
+    ) -> Result<(), SendError>
+        ensures answer { made_nothing result ≡ send_answer self.old side target opcode
+            (given (numbers_of self.old side target opcode words.now)) }
+        ensures ok { OnOk result (self.new ≡ after_send self.old side target opcode
+            (given (numbers_of self.old side target opcode words.now))) }
+        ensures err { OnErr result (self.new ≡ self.old) }
+        // Tables are always valid; a proof learns this from a call that read them.
+        ensures valid { IfOk result (λ _. Valid self.old.tables) }
+        ensures sound { IfOk result (λ _. ObjectsAreSound self.old.view) }
+    {
+        if self.failed {
+            return Err(SendError::Failed);
+        }
+        let limit = self.outbox.limit().bytes;
+        let writer = SideTables {
+            tables: self.tables,
+            side,
+        };
+        let signature = check_words(writer, &self.objects, target, opcode, words, limit)?;
+        let what = signature.destroys;
+        let len = HEADER_LEN + 4 * words.len();
+        if !self.fits(len + following_len(side, what), 0) {
+            return Err(SendError::Full);
+        }
+        let message = WordsMessage {
+            object: target.id,
+            opcode,
+            words,
+        };
+        self.write_words(&message);
+        // No word names the object that a message destroys.
+        self.end_object(side, what, target.id, &[]);
+        Ok(())
     }
 }

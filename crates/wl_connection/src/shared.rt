@@ -22,8 +22,8 @@ use wl_wire::Iface;
 /// The most globals that a server advertises in its lifetime, and the most that a client remembers.
 pub const MAX_GLOBALS: usize = 1024;
 
-/// The new tables have the first event by which the server makes an object, but the end that was to
-/// take them has no table of the server's range of ids.
+/// TB4: the new tables have the first event by which the server makes an object, but the end that
+/// was to take them has no table of the server's range of ids.
 #[derive(Clone, Copy, Debug, PartialEq, Eq)]
 pub struct FirstServerObject;
 

@@ -251,7 +251,7 @@ pushed_error h m i =
       error_to = w d + length m;
     }
 
-pub error_kept : (h : StoredMessages) (m : List ℕ) → AreStored h → h.has_error ≡ false → 8 ≤ length m → length m ≤ 64
+pub error_kept : (h : StoredMessages) (m : List ℕ) → AreStored h → h.has_error ≡ false → 8 ≤ length m → length m ≤ 148
     → AreStored (kept_with_error h m)
 error_kept h m i first low high =
     let z = i.no_error first in

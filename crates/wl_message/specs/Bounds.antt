@@ -14,4 +14,4 @@ min_inbox_tokens = 20
 
 -- the longest error event in bytes, for which an outbox has room beyond its capacity
 abbrev pub max_error_len : ℕ
-max_error_len = 64
+max_error_len = 148

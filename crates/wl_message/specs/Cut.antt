@@ -62,6 +62,12 @@ abbrev pub message_size : Front → ℕ
 message_size (Whole n) = n
 message_size _ = 0
 
+-- how many bytes are known to be of one message: all of a whole one, and the header with a bad size
+abbrev pub front_len : Front → ℕ
+front_len (Whole n) = n
+front_len (Bad n) = 8
+front_len More = 0
+
 -- The stream is cut into these messages and this rest: the stream is the messages joined, followed
 -- by the rest; each message is whole, and no whole message is at the front of the rest.
 pub record IsCut (limit : ℕ) (stream : List ℕ) (messages : List (List ℕ)) (rest : List ℕ)

@@ -5,7 +5,7 @@ ghost use Rattle.std.specs.Borrow.{sem};
 ghost use Rattle.std.specs.Io.BufRead.{Rests};
 ghost use Rattle.std.specs.Io.KnownBytes.{Keeps};
 ghost use Rattle.wl_message.specs.Bounds.{max_queue_bytes, max_queue_tokens, min_inbox_tokens};
-ghost use Rattle.wl_message.specs.Cut.{HasMessage, message_size};
+ghost use Rattle.wl_message.specs.Cut.{HasMessage, front, front_len, message_size};
 ghost use Rattle.wl_message.specs.Arrived.{nothing_arrived, free_bytes, free_tokens, fed};
 ghost use Rattle.wl_message.specs.Arrived.{fed_of_len, with_more, HasReceived, without_first};
 ghost use Rattle.wl_message.specs.Arrived.{without_tokens, in_front, TellsFront};
@@ -58,6 +58,24 @@ impl Display for BadSize {
 }
 
 impl Error for BadSize {}
+
+/// How many of these bytes are known to be of the first message.
+#[tactic(auto, unfolding(crate::specs::Cut::front))]
+fn front_len_of<A: Allocator>(bytes: &HeapCircularBuffer<u8, A>, limit: Limit) -> usize
+    ensures len { result ≡ front_len (front limit.bytes bytes.now.items) }
+    ensures there { result ≤ length bytes.now.items }
+    ensures within { result ≤ limit.bytes }
+{
+    if bytes.len() < HEADER_LEN {
+        return 0;
+    }
+    let header = header_in(bytes);
+    if !limit.allows(header.size) {
+        return HEADER_LEN;
+    }
+    let size = header.size as usize;
+    if bytes.len() < size { 0 } else { size }
+}
 
 /// Received bytes and tokens that wait to be read as messages.
 ///
@@ -270,6 +288,18 @@ impl<A: Allocator> Inbox<A> {
         &self.message[..size][HEADER_LEN..]
     }
 
+    /// The bytes of the first message, header included: all if it is whole, and the header alone if
+    /// that has a bad size; else none. They stay in the inbox.
+    pub fn front(&mut self) -> &[u8]
+        ensures* stays { sem 𝓛 (Rests (the_row A.row A.Allocator) self.entry (λ i. i ≡ self.old)) }
+        ensures front { result.now ≡ take (front_len (in_front self.old)) self.old.bytes }
+    {
+        let len = front_len_of(&self.bytes, self.limit);
+        copy_into(&self.bytes, &mut self.message, len);
+        self.copied_len = 0;
+        &self.message[..len]
+    }
+
     /// The waiting token at this place, from 0.
     pub fn token(&self, place: usize) -> Option<u32>
         ensures { result ≡ slice_get self.now.tokens place }
@@ -278,7 +308,7 @@ impl<A: Allocator> Inbox<A> {
     }
 
     /// Takes out the first message and enough of the first tokens to fill the slice, in order.
-    /// `last` lends them until the next message is taken out.
+    /// `last_with_tokens` lends them until the next message is taken out.
     pub fn pop(&mut self, tokens: &mut [u32])
         requires message { HasMessage (in_front self.old) }
         requires tokens { length tokens.old ≤ length self.old.tokens }
@@ -291,8 +321,8 @@ impl<A: Allocator> Inbox<A> {
         tokens.copy_from_slice(&self.last_tokens);
     }
 
-    /// Takes out the first message and this many of the first tokens, as `pop` does; `last` lends
-    /// them.
+    /// Takes out the first message and this many of the first tokens, as `pop` does;
+    /// `last_with_tokens` lends them.
     #[tactic(auto, using(crate::proofs::Fronts::has_message))]
     #[inline(always)]
     pub fn pass(&mut self, tokens: usize)
@@ -323,11 +353,18 @@ impl<A: Allocator> Inbox<A> {
         count
     }
 
+    /// The body of the message that was taken out last; empty before the first.
+    pub fn last(&self) -> &[u8]
+        ensures { result.now ≡ self.now.last }
+    {
+        &self.last[..self.last_len][HEADER_LEN..]
+    }
+
     /// The body and the tokens of the message that was taken out last; both empty before the first.
-    pub fn last(&self) -> (&[u8], &[u32])
+    pub fn last_with_tokens(&self) -> (&[u8], &[u32])
         ensures body { result.0.now ≡ self.now.last }
         ensures tokens { result.1.now ≡ self.now.last_tokens }
     {
-        (&self.last[..self.last_len][HEADER_LEN..], &self.last_tokens)
+        (self.last(), &self.last_tokens)
     }
 }

@@ -20,7 +20,7 @@ use std::marker::Model;
 use wl_wire::{Encode, HEADER_LEN};
 
 /// How many bytes are reserved for the error event.
-const MAX_ERROR_LEN: usize = 64;
+const MAX_ERROR_LEN: usize = 148;
 
 /// Messages that wait to go out, with their tokens.
 ///
@@ -194,8 +194,8 @@ impl<A: Allocator> Outbox<A> {
         self.push_fitting(&store[..len], tokens);
     }
 
-    /// Appends the error event, a whole message of at most 64 bytes without tokens. It always fits.
-    /// It is added at most once.
+    /// Appends the error event, a whole message of at most 148 bytes without tokens. It always
+    /// fits. It is added at most once.
     pub fn push_error(&mut self, message: &[u8])
         requires short { length message.now ≤ max_error_len }
         requires whole { IsMessage self.old.limit.bytes message.now }

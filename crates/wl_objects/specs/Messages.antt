@@ -1,6 +1,7 @@
 -- A whole message at an end: what it means to its reader, what a writer must fulfil, and how it
 -- changes the end's objects.
-use Rattle.std.specs.Prelude.{ℕ, ◌+◌, slice_get, Bool, true, false, ◌&&◌, ◌||◌, not, List, ◌∷◌, map}
+use Rattle.std.specs.Prelude.{ℕ, ◌+◌, slice_get, Bool, true, false, ◌&&◌, ◌||◌, not, List, []}
+use Rattle.std.specs.Prelude.{◌∷◌, map}
 use Rattle.std.specs.Prelude.{nat_eq, nat_le, nat_lt, if◌then◌else◌, Option, Some, None, option_map}
 use Rattle.std.specs.declared.result.Result.{Result}
 use Rattle.std.specs.declared.result.Result.TheVariants.{Ok, Err}
@@ -33,7 +34,9 @@ use Rattle.wl_object_map.specs.View.{lives}
 use Rattle.wl_objects.specs.declared.lookup.NewId.{NewId}
 use Rattle.wl_objects.specs.declared.lookup.NewId.TheVariants.{Free, Wrong, TooMany}
 use Rattle.wl_objects.specs.Reading.{Reader, forgiving, arguments_at}
+use Rattle.wl_objects.specs.declared.argument.Arg.{Arg as CallArg}
 use Rattle.wl_objects.specs.Writing.{Given, wrong_place, lost_place, is_live_as, wired, message_len}
+use Rattle.wl_objects.specs.Writing.{numbers_by}
 use Rattle.wl_objects.specs.declared.new_object.NewObject.{NewObject as Declared}
 use Rattle.wl_sigs.specs.Rules.{is_empty, is_ended_by_request}
 
@@ -254,3 +257,18 @@ abbrev pub checked : ℕ → List Interface → Side → Objects → Object → 
     → Result MessageSignature SendError
 checked limit tables side view target opcode given =
     checked_by limit tables side view opcode given (live_row view target)
+
+-- the kinds of the arguments of a message that a row's object has; none if it has no such message
+abbrev pub kinds_in : Option MessageSignature → List Kind
+kinds_in None = []
+kinds_in (Some signature) = signature.kinds
+
+abbrev pub kinds_at : List Interface → Side → ℕ → Option Entry → List Kind
+kinds_at tables side opcode None = []
+kinds_at tables side opcode (Some entry) = kinds_in (signature_at tables entry.iface.0 side opcode)
+
+-- The arguments that words are for the message that a call names. If there is no such message, the
+-- call is refused whatever they are.
+abbrev pub numbers_called : List Interface → Side → Objects → Object → ℕ → List ℕ → List CallArg
+numbers_called tables side view target opcode words =
+    numbers_by (kinds_at tables side opcode (look view target.id)) words

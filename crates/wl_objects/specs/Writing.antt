@@ -7,12 +7,13 @@ use Rattle.wl_wire.specs.declared.kind.Kind.TheVariants as kinds
 use Rattle.wl_wire.specs.declared.kind.Iface.{Iface}
 use Rattle.wl_wire.specs.Argument.{Argument, Shape, reshaped, units, Int, Uint, Fixed, Str, Obj}
 use Rattle.wl_wire.specs.Argument.{New, NewNamed, Array, Fd}
-use Rattle.wl_wire.specs.Word.{header_bytes}
+use Rattle.wl_wire.specs.Word.{header_bytes, signed}
 use Rattle.wl_wire.specs.Spelling.{canonical, spelled_len, Fits, has_nul}
 use Rattle.wl_objects.specs.declared.argument.Arg.{Arg}
 use Rattle.wl_objects.specs.declared.calling.Measured.{Measured}
 use Rattle.wl_objects.specs.declared.writing.CallMessage.{CallMessage}
 use Rattle.wl_objects.specs.declared.writing.BindMessage.{BindMessage}
+use Rattle.wl_objects.specs.declared.writing.WordsMessage.{WordsMessage}
 use Rattle.wl_objects.specs.declared.argument.Arg.TheVariants as args
 use Rattle.wl_object_map.specs.declared.object.Object.{Object}
 use Rattle.wl_object_map.specs.declared.object.Entry.{Entry}
@@ -193,3 +194,31 @@ pub record IsMeasured (ks : List Kind) (list : List Arg) (limit : ℕ) (m : Meas
   pub short : m.len ≤ limit
   pub tokens : m.tokens ≡ length (tokens_of (given list))
   pub makes : m.makes ≡ call_makes ks
+
+-- ---- a call whose arguments are numbers alone, given as their words
+
+-- what a word is for a kind: the number for which the kind asks; for a kind that asks for none, an
+-- unsigned number, which does not suit it
+abbrev pub number_by : Kind → ℕ → Arg
+number_by kinds.Int word = args.Int (signed word)
+number_by kinds.Fixed word = args.Fixed (record { parts = signed word })
+number_by _ word = args.Uint word
+
+-- what words are for these kinds, each at its place; beyond the kinds, unsigned numbers
+abbrev pub numbers_by : List Kind → List ℕ → List Arg
+numbers_by ks [] = []
+numbers_by [] (word ∷ words) = args.Uint word ∷ numbers_by [] words
+numbers_by (kind ∷ ks) (word ∷ words) = number_by kind word ∷ numbers_by ks words
+
+-- the words as unsigned numbers, on the wire
+abbrev pub words_on_wire : List ℕ → List Argument
+words_on_wire words = on_wire 0 (numbers_by [] words)
+
+-- the message with these words as its arguments
+abbrev pub words_message : WordsMessage → List ℕ
+words_message m = message_bytes m.object m.opcode (words_on_wire m.words.now)
+
+-- its opcode and its length fit in a header
+pub record WordsFit (m : WordsMessage) : Type 0 where
+  pub opcode : m.opcode < 65536
+  pub short : message_len (words_on_wire m.words.now) ≤ 65535

@@ -1,16 +1,19 @@
 //! The arguments of a call, checked before a message is made from them.
-ghost use Rattle.std.specs.Prelude.{◌≡◌, [], ◌∷◌, ◌≤◌, ◌+◌, ℕ, IfOk, IfSome, IsTrue, length};
-ghost use Rattle.std.specs.Prelude.{Some};
+ghost use Rattle.std.specs.Prelude.{◌≡◌, [], ◌∷◌, ◌≤◌, ◌+◌, ℕ, IfErr, IfOk, IfSome, IsTrue, length};
+ghost use Rattle.std.specs.Prelude.{List, Option, Some, Ok, Err, map};
 ghost use Rattle.std.specs.List.{All};
 ghost use Rattle.wl_wire.specs.Spelling.{padded, spelled_len};
-ghost use Rattle.wl_sigs.specs.Tables.{MessageSignature, max_args};
+ghost use Rattle.wl_sigs.specs.Tables.{MessageSignature, max_args, signature_at};
 ghost use Rattle.wl_sigs.specs.Valid.{Valid};
 ghost use Rattle.wl_object_map.specs.Objects.{look, ObjectsAreSound};
-ghost use Rattle.wl_objects.specs.Messages.{checked, live_row, signature_unless_wrong};
+ghost use Rattle.wl_object_map.specs.declared.object.Entry.{Entry as RowOf};
+ghost use Rattle.wl_objects.specs.Messages.{checked, live_row, numbers_called};
+ghost use Rattle.wl_objects.specs.Messages.{signature_unless_wrong};
 ghost use Rattle.wl_objects.specs.Carried.{InRange};
 ghost use Rattle.wl_objects.specs.Seen.{signature_in, signature_of};
 ghost use Rattle.wl_objects.specs.Writing.{EachFits, IsMeasured, call_makes, can_name, given};
 ghost use Rattle.wl_objects.specs.Writing.{given_of, lost_place, message_len, names_one, on_wire};
+ghost use Rattle.wl_objects.specs.Writing.{Given, lost_place, number_by, numbers_by};
 ghost use Rattle.wl_objects.specs.Writing.{suits, tokens_of, wired, wrong_place, IsNumberGiven};
 
 use crate::argument::Arg;
@@ -72,6 +75,67 @@ pub fn check_call<'t, T: Table>(
     ensures sound { ObjectsAreSound objects.now }
     ensures valid { IfOk result (λ _. Valid writer.entry.tables.now) }
 {
+    let (entry, signature) = called(writer, objects, target, opcode)?;
+    let Measured { len, tokens, makes } = measure(objects, signature.kinds(), args, limit)?;
+    Ok(CheckedCall {
+        entry,
+        signature,
+        len,
+        tokens,
+        makes,
+    })
+}
+
+/// As `check_call`, for a message whose arguments are numbers alone, given as their words: returns
+/// the first of S2, S3, S4, S5 and S8, else the message's signature. Any other message is refused
+/// with S5 at its first argument that is no number.
+pub fn check_words<'t, T: Table>(
+    writer: SideTables<'t>,
+    objects: &Objects<T>,
+    target: Object,
+    opcode: u16,
+    words: &[u32],
+    limit: u16,
+) -> Result<&'t Signature, SendError>
+    requires { 8 ≤ limit }
+    ensures ok { IfOk result (λ signature. checked limit writer.entry.tables.now writer.entry.side
+        objects.now target opcode (given (numbers_called writer.entry.tables.now
+        writer.entry.side objects.now target opcode words.now)) ≡ Ok signature.now) }
+    ensures err { IfErr result (λ why. checked limit writer.entry.tables.now writer.entry.side
+        objects.now target opcode (given (numbers_called writer.entry.tables.now
+        writer.entry.side objects.now target opcode words.now)) ≡ Err why) }
+    // Always true; known here because the objects and the tables were read.
+    ensures sound { ObjectsAreSound objects.now }
+    ensures valid { IfOk result (λ _. Valid writer.entry.tables.now) }
+{
+    let (_, signature) = called(writer, objects, target, opcode)?;
+    check_numbers(signature.kinds(), words, limit)?;
+    Ok(signature)
+}
+
+/// The entry of a call's target and the signature of its message, or the first of S2, S3 and S4.
+#[inline(always)]
+fn called<'t, T: Table>(
+    writer: SideTables<'t>,
+    objects: &Objects<T>,
+    target: Object,
+    opcode: u16,
+) -> Result<(Entry, &'t Signature), SendError>
+    ensures ok { IfOk result (λ found. (limit : ℕ) (list : List Given)
+        → checked limit writer.entry.tables.now writer.entry.side objects.now target opcode list
+        ≡ signature_unless_wrong limit (wrong_place 0 found.1.now.kinds list)
+        (lost_place (look objects.now) 0 found.1.now.kinds list)
+        (message_len (map (wired 0) list)) found.1.now) }
+    ensures err { IfErr result (λ why. (limit : ℕ) (list : List Given)
+        → checked limit writer.entry.tables.now writer.entry.side objects.now target opcode list
+        ≡ Err why) }
+    ensures entry { IfOk result (λ found. look objects.now target.id ≡ Some found.0) }
+    ensures message { IfOk result (λ found. signature_at writer.entry.tables.now found.0.iface.0
+        writer.entry.side opcode ≡ Some found.1.now) }
+    // Always true; known here because the objects and the tables were read.
+    ensures sound { ObjectsAreSound objects.now }
+    ensures valid { IfOk result (λ _. Valid writer.entry.tables.now) }
+{
     let SideTables { tables, side } = writer;
     let entry = match live_row(objects, target) {
         Some(entry) => entry,
@@ -87,14 +151,47 @@ pub fn check_call<'t, T: Table>(
     if entry.version < signature.since {
         return Err(SendError::TooOld);
     }
-    let Measured { len, tokens, makes } = measure(objects, signature.kinds(), args, limit)?;
-    Ok(CheckedCall {
-        entry,
-        signature,
-        len,
-        tokens,
-        makes,
-    })
+    Ok((entry, signature))
+}
+
+/// Refuses words that are not one number for each of these kinds, with S5, and a message that is
+/// longer than the limit, with S8.
+fn check_numbers(kinds: &[Kind], words: &[u32], limit: u16) -> Result<(), SendError>
+    requires few { length kinds.now ≤ max_args }
+    ensures ok { IfOk result (λ _. (rows : ℕ → Option RowOf) (signature : MessageSignature)
+        → signature_unless_wrong limit
+        (wrong_place 0 kinds.now (given (numbers_by kinds.now words.now)))
+        (lost_place rows 0 kinds.now (given (numbers_by kinds.now words.now)))
+        (message_len (on_wire 0 (numbers_by kinds.now words.now))) signature ≡ Ok signature) }
+    ensures err { IfErr result (λ why. (rows : ℕ → Option RowOf) (signature : MessageSignature)
+        → signature_unless_wrong limit
+        (wrong_place 0 kinds.now (given (numbers_by kinds.now words.now)))
+        (lost_place rows 0 kinds.now (given (numbers_by kinds.now words.now)))
+        (message_len (on_wire 0 (numbers_by kinds.now words.now))) signature ≡ Err why) }
+{
+    'kinds: for (place, kind) in kinds.iter().enumerate() {
+        if place == words.len() {
+            return Err(SendError::WrongArgs(place));
+        }
+        if !is_for_number(*kind) {
+            return Err(SendError::WrongArgs(place));
+        }
+    }
+    if kinds.len() < words.len() {
+        return Err(SendError::WrongArgs(kinds.len()));
+    }
+    let len = HEADER_LEN + 4 * words.len();
+    if len > limit as usize {
+        return Err(SendError::TooLong);
+    }
+    Ok(())
+}
+
+/// Whether a kind is a number.
+fn is_for_number(kind: Kind) -> bool
+    ensures { (word : ℕ) → result ≡ suits kind (given_of (number_by kind word)) }
+{
+    matches!(kind, Kind::Int | Kind::Uint | Kind::Fixed)
 }
 
 /// Goes through the arguments of a call once and returns the first of S5, S6 and S8, else their

@@ -22,7 +22,7 @@ mod writing;
 
 pub use args::Args;
 pub use argument::{Arg, Got, GotRef, Named};
-pub use calling::{CheckedCall, check_call, live_row};
+pub use calling::{CheckedCall, check_call, check_words, live_row};
 pub use error::{Fault, NextError, SendError};
 pub use lookup::{Lookup, NewId, ObjectsLookup, waits_for_request};
 pub use messages::{
@@ -37,4 +37,4 @@ pub use wl_object_map::{
     Entry, FIRST_SERVER_ID, Maker, MapTable, Object, Objects, SlotTable, State, Table, TableError,
 };
 pub use wl_sigs::MAX_ARGS;
-pub use writing::{BindMessage, CallMessage, take_tokens};
+pub use writing::{BindMessage, CallMessage, WordsMessage, take_tokens};

@@ -9,6 +9,7 @@ ghost use Rattle.wl_objects.specs.Writing.{BindFits, CallFits, EachFits, values_
 
 use crate::argument::Arg;
 use crate::calling::message_len;
+use byteorder::{ByteOrder, LittleEndian};
 use wl_sigs::MAX_ARGS;
 use wl_sigs::request::wl_registry::BIND;
 use wl_wire::{Encode, HEADER_LEN, Header, ValueRef, write_value};
@@ -85,6 +86,33 @@ impl<'a> Encode for CallMessage<'a> {
         'arguments: for arg in self.args {
             at += write_value(wired(arg, self.new_id), &mut out[at..]);
         }
+    }
+}
+
+/// A message whose arguments are numbers alone, given as their words.
+#[derive(Clone, Copy, Debug)]
+pub struct WordsMessage<'a> {
+    /// The id of the message's target.
+    pub object: u32,
+    pub opcode: u16,
+    pub words: &'a [u32],
+}
+
+impl<'a> Encode for WordsMessage<'a> {
+    ghost use Rattle.wl_objects.specs.Writing.{words_message, WordsFit};
+
+    ghost message = { λ message. words_message message };
+
+    ghost fits = { λ message. WordsFit message };
+
+    fn encoded_len(&self) -> usize {
+        HEADER_LEN + 4 * self.words.len()
+    }
+
+    #[inline(always)]
+    fn encode(&self, out: &mut [u8]) {
+        write_header(out, self.object, out.len(), self.opcode);
+        LittleEndian::write_u32_into(self.words, &mut out[HEADER_LEN..]);
     }
 }
 

@@ -1,7 +1,7 @@
 -- A server's list always has its open registries and nothing else.
 use Rattle.std.proofs.Common.{◌≡◌, ◌≢◌, ◌≤◌, ◌⊎◌, ℕ, Bool, true, false, cond, eqb, List, [], ◌∷◌, ◌++◌}
 use Rattle.std.proofs.Common.{Some, None, refl, sym, ap, subst, ◌∙◌, inl, inr, arith, ⊎_elim}
-use Rattle.std.specs.Prelude.{Option, map, nat_eq, not, if◌then◌else◌}
+use Rattle.std.specs.Prelude.{Option, map, nat_eq, not, ◌&&◌, ◌||◌, if◌then◌else◌}
 use Rattle.std.specs.List.{All}
 use Rattle.std.proofs.lemmas.List.Elements.{All-tail}
 use Rattle.wl_objects.proofs.WrittenArrives.{All-first}
@@ -44,7 +44,8 @@ use Rattle.wl_server.specs.Registries.{same_object, without_object, IsAmong}
 use Rattle.wl_server.specs.Registries.{IsRegistry, IsFreshId, HasRegistries}
 use Rattle.wl_server.specs.Requests.{registries_after}
 use Rattle.wl_sigs.specs.Rules.{is_ended_by_event}
-use Rattle.wl_server.specs.Calls.{drop_at, drop_refusal, after_drop}
+use Rattle.wl_server.specs.Calls.{drop_at, drop_refusal, after_drop, after_end, end_at, end_refusal, is_kept}
+use Rattle.wl_server.specs.Calls.{is_told_end}
 use Rattle.wl_server.specs.Announcing.{Due, marked_in, all_marked}
 use Rattle.wl_connection.proofs.Ends.{no_event}
 use Rattle.wl_server.specs.Steps.{Step, CanEnd, core_without, core_by, registries_by, registries_without, CanApply}
@@ -498,6 +499,41 @@ not_dropped core object v e d row is = by_failed core.failed e
 pub has_dropped : (core : Core) (rs : List Registry) (object : Object) → Valid core.tables
     → None ≡ drop_refusal core object → HasRegistries core.view rs → HasRegistries (after_drop core object).view rs
 has_dropped core rs object v e h = has_fewer core.view rs object.id (not_dropped core object v (sym e)) h
+
+-- ---- an object is ended when the caller says so
+
+third : (a b c : Bool) → (a || (b || c)) ≡ false → c ≡ true → ⊥
+third true b c none is = cc none
+third false true c none is = cc none
+third false false true none is = cc none
+third false false false none is = cc is
+
+-- an object that can be ended is no registry
+not_ended : (core : Core) (object : Object) → end_refusal core object ≡ None → (d : Entry)
+    → look core.view object.id ≡ Some d → d.iface ≢ registry
+not_ended core object e d row is = by_failed core.failed e
+  where
+    by_kept : (b : Bool) → is_kept object d ≡ b → (x : Option SendError)
+        → (if b then Some refusals.NotDroppable else x) ≡ None → ⊥
+    by_kept true t x h = cc h
+    by_kept false t x h = third (nat_eq object.id 1) (same_iface d.iface display) (same_iface d.iface registry) t
+        (is_same d.iface is)
+
+    by_birth : (b : Bool) → end_at core object (if b then look core.view object.id else None) ≡ None → ⊥
+    by_birth true h = by_kept (is_kept object d) refl
+        (if is_told_end object && not (fits core.outbox delete_id_len 0) then Some refusals.Full else None)
+        (ap (end_at core object) (sym row) ∙ h)
+    by_birth false h = cc h
+
+    by_failed : (b : Bool)
+        → (if b then Some refusals.Failed else end_at core object (live_row core.view object)) ≡ None → ⊥
+    by_failed true h = cc h
+    by_failed false h = by_birth (is_live_as object.birth (look core.view object.id)) h
+
+pub has_ended : (core : Core) (rs : List Registry) (object : Object) → None ≡ end_refusal core object
+    → HasRegistries core.view rs → HasRegistries (after_end core object).view rs
+has_ended core rs object e h = subst (λ (v : Objects). HasRegistries v rs) (sym (view_without core object))
+    (has_fewer core.view rs object.id (not_ended core object (sym e)) h)
 
 -- ---- events are sent to registries
 

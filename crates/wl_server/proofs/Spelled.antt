@@ -66,8 +66,8 @@ no_zero (b ∷ text) h = no_zero_in b text (nat_eq b 0) refl h (no_zero text)
 
 pub error_spells : (tables : List Interface) (object code : ℕ) (text : List ℕ) → ErrorSpells tables object code text
 error_spells tables object code text some low word plain =
-    let parts = and_parts (nat_le (length text) 40) _ plain in
-    let short : length text ≤ 40 = leb-true (length text) 40 parts.0 in
+    let parts = and_parts (nat_le (length text) 127) _ plain in
+    let short : length text ≤ 127 = leb-true (length text) 127 parts.0 in
     by_display tables 0 _ 1 (error_values object code text)
     (λ v. ap (option_and_then (message_of Event 0)) v.fixed_four.display)
     (own-spelled (any_object ∷ uint ∷ string ∷ []) 1 0 (error_values object code text) (

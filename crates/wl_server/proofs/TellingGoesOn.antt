@@ -3,6 +3,7 @@ use Rattle.std.proofs.Common.{◌≡◌, ℕ, ◌+◌, ◌-◌, ◌<◌, ◌≤�
 use Rattle.std.proofs.Common.{length, take, drop, get_or, set, refl, sym, subst, ◌∙◌, ap, arith}
 use Rattle.std.proofs.Common.{append_assoc, length-append}
 use Rattle.std.specs.Bool.{MatchBool}
+use Rattle.std.specs.Prelude.{◌↔◌}
 use Rattle.std.proofs.Common.{inl, inr}
 use Rattle.std.proofs.lemmas.Bool.{cases_lt}
 use Rattle.std.proofs.lemmas.List.{drop-set-lt, take_at}
@@ -138,6 +139,28 @@ finished state told now ms o t =
           t.progress.fit b fits,
       t.progress.number,
     )
+
+nothing-blocked : (now : Core) (rest : List Due) → IsBlocked now rest → length rest ≡ 0 → ⊥
+nothing-blocked now [] b e = b
+nothing-blocked now (d ∷ ds) b e = cc e
+
+-- all is told if and only if as many events were written as were owed
+pub all-told : (state : State) (told : Announced) (now : Core) (ms : List Registry)
+    → IsAnnounced state.core state.registries (owed state) told now ms
+    → (told.all ≡ true) ↔ (told.count ≡ length (owed state))
+all-told state told now ms t = (λ a. counts told.all a t.end, λ n. tells told.all t.end n)
+  where
+    counts : (b : Bool) → b ≡ true → MatchBool b (t.rest ≡ []) (IsBlocked now t.rest) → told.count ≡ length (owed state)
+    counts true a e =
+        let none : length t.rest ≡ 0 = ap length e in
+        omega (arith, none, t.progress.number, ap length t.progress.whole, length-append t.progress.done t.rest)
+    counts false a e = absurd (cc a)
+
+    tells : (b : Bool) → MatchBool b (t.rest ≡ []) (IsBlocked now t.rest) → told.count ≡ length (owed state) → b ≡ true
+    tells true e n = refl
+    tells false e n =
+        absurd (nothing-blocked now t.rest e
+        (omega (arith, n, t.progress.number, ap length t.progress.whole, length-append t.progress.done t.rest)))
 
 -- ---- all registries
 

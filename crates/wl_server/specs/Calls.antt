@@ -18,7 +18,7 @@ use Rattle.wl_object_map.specs.Objects.{closed}
 use Rattle.wl_objects.specs.Messages.{live_row, same_iface}
 use Rattle.wl_connection.specs.Core.{Core, with_view}
 use Rattle.wl_connection.specs.Sending.{fits, with_delete_id, delete_id_len, with_error_event}
-use Rattle.wl_connection.specs.Sending.{max_error_text}
+use Rattle.wl_connection.specs.Sending.{with_following, max_error_text}
 use Rattle.wl_server.specs.declared.globals.GlobalError.{GlobalError}
 use Rattle.wl_server.specs.declared.globals.GlobalError.TheVariants as global_errors
 use Rattle.wl_server.specs.State.{State, Global, global_of}
@@ -48,6 +48,36 @@ pub record IsLiveOfServer (core : Core) (object : Object) : Type 0 where
 -- The end after `drop_object`: delete_id is written, and the object is closed.
 abbrev pub after_drop : Core → Object → Core
 after_drop core object = with_view (with_delete_id core object.id) (closed core.view object.id)
+
+-- ---- ending an object when the caller says so
+
+-- whether ending this object writes its delete_id: the client made it
+abbrev pub is_told_end : Object → Bool
+is_told_end object = not (is_of_server object.id)
+
+-- wl_display and the registries are never ended by this call
+abbrev pub is_kept : Object → Entry → Bool
+is_kept object entry =
+    nat_eq object.id 1 || (same_iface entry.iface display || same_iface entry.iface registry)
+
+-- a refusal, or none
+abbrev pub end_at : Core → Object → Option Entry → Option SendError
+end_at core object None = Some refusals.Stale
+end_at core object (Some entry) =
+    if is_kept object entry then Some refusals.NotDroppable
+    else if is_told_end object && not (fits core.outbox delete_id_len 0) then Some refusals.Full
+    else None
+
+-- Why `end_object` is refused: S1, S2, S12, S9.
+abbrev pub end_refusal : Core → Object → Option SendError
+end_refusal core object =
+    if core.failed then Some refusals.Failed else end_at core object (live_row core.view object)
+
+-- The end after `end_object`: the object is closed, and its delete_id written if the client made
+-- it.
+abbrev pub after_end : Core → Object → Core
+after_end core object =
+    with_following (is_told_end object) object.id (with_view core (closed core.view object.id))
 
 -- ---- an error by the compositor
 

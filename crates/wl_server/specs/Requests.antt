@@ -1,5 +1,5 @@
 -- What a server reads, and what state that leaves.
-use Rattle.std.specs.Prelude.{ℕ, slice_get, Bool, false, ◌&&◌, not, nat_lt, nat_le, bytes_eq}
+use Rattle.std.specs.Prelude.{ℕ, slice_get, Bool, true, false, ◌&&◌, not, nat_lt, nat_le, bytes_eq}
 use Rattle.std.specs.Prelude.{if◌then◌else◌, List, [], ◌∷◌, codes, is_some, Option, Some, None}
 use Rattle.std.specs.declared.result.Result.{Result}
 use Rattle.std.specs.declared.result.Result.TheVariants.{Ok, Err}
@@ -15,10 +15,12 @@ use Rattle.wl_object_map.specs.Ranges.{is_of_server}
 use Rattle.wl_objects.specs.declared.error.Fault.{Fault}
 use Rattle.wl_objects.specs.declared.error.Fault.TheVariants as faults
 use Rattle.wl_objects.specs.declared.error.NextError.{NextError}
+use Rattle.wl_objects.specs.declared.error.NextError.TheVariants as errors
 use Rattle.wl_objects.specs.declared.argument.Named.TheVariants as named_as
 use Rattle.wl_objects.specs.Reading.{Reported}
 use Rattle.wl_objects.specs.Messages.{Received, NewObject, made, is_bind, after}
 use Rattle.wl_connection.specs.Core.{Core, with_view}
+use Rattle.wl_connection.specs.Outcomes.{unless_memory}
 use Rattle.wl_connection.specs.Receiving.{Found, found, reported, past_found, is_empty_list}
 use Rattle.wl_connection.specs.Roles.{Role, role_answer, role_after, IsReportNext}
 use Rattle.wl_connection.specs.Sending.{with_following, with_error_event, delete_id_len}
@@ -196,3 +198,15 @@ after_next state = role_after server_role state
 -- for a report that needs some. A request that opens an object has such a report.
 abbrev pub IsServerNext : State → Result (Option Report) NextError → Type 0
 IsServerNext state result = IsReportNext server_role state result
+
+-- The state that `next_unanswered` leaves: unchanged with a fault, and out of memory.
+abbrev pub unless_fault : {R : Type 0} → State → State → Result R NextError → State
+unless_fault before after (Err errors.Memory) = before
+unless_fault before after (Err (errors.Fault fault offset)) = before
+unless_fault before after result = after
+
+-- The state that `next_answering` leaves: that of `next` if a fault is answered, else that of
+-- `next_unanswered`.
+abbrev pub after_answering : {R : Type 0} → Bool → State → Result R NextError → State
+after_answering true before result = unless_memory before (after_next before) result
+after_answering false before result = unless_fault before (after_next before) result

@@ -2,7 +2,7 @@
 use Rattle.std.specs.Prelude.{◌≡◌, ℕ, suc, ◌≤◌, max, List, [], ◌∷◌, length, map, take}
 use Rattle.std.specs.List.{filter}
 use Rattle.wl_connection.specs.Core.{Core, max_globals}
-use Rattle.wl_connection.specs.ServerRange.{NoEventEndsMade}
+use Rattle.wl_connection.specs.ServerRange.{EventsMakeMade, NoEventEndsMade}
 use Rattle.wl_server.specs.declared.registry.RegistrySlot.{RegistrySlot}
 use Rattle.wl_server.specs.State.{Global, Registry}
 use Rattle.wl_server.specs.Announcing.{owed_in}
@@ -42,7 +42,8 @@ abbrev pub KeepsSettled : KeptRegistries → KeptRegistries → Type 0
 KeepsSettled before after = (globals : List Global) → owed_in globals (settled_in before) ≡ []
     → owed_in globals (settled_in after) ≡ []
 
--- What holds for a server between calls.
+-- What holds for a server between calls. (Because of the last, `lasting` still holds with tables
+-- that extend the server's.)
 pub record IsSound (core : Core) (globals : List Global) (kept : KeptRegistries) : Type 0 where
   pub few : length globals ≤ max_globals
   pub registries : HasRegistries core.view kept.list
@@ -50,3 +51,5 @@ pub record IsSound (core : Core) (globals : List Global) (kept : KeptRegistries)
   pub settled : owed_in globals (settled_in kept) ≡ []
   -- no event destroys any object that the server made
   pub lasting : NoEventEndsMade core.tables core.view
+  -- some event makes objects of the interface of each such object
+  pub by_some : EventsMakeMade core.tables core.view

@@ -241,6 +241,11 @@ core_told core (errors.Fault fault offset) =
     with_error_event core 1 (fault_code fault) (fault_message fault)
 core_told core why = core
 
+-- the same if faults are answered, else the end unchanged
+abbrev pub told_if : Bool → Core → NextError → Core
+told_if true core why = core_told core why
+told_if false core why = core
+
 -- the state that a read leaves, from the step at the front
 abbrev pub after_front : State → Result (Option Step) NextError → State
 after_front state (Ok None) = state

@@ -1,12 +1,12 @@
 //! What a server writes to its client's registries: wl_registry.global and global_remove.
-ghost use Rattle.std.specs.Prelude.{◌≡◌, ◌≤◌, ◌∷◌, [], false, true, IfErr, IfOk, length};
+ghost use Rattle.std.specs.Prelude.{◌≡◌, ◌≤◌, ◌↔◌, ◌∷◌, [], false, true, IfErr, IfOk, length};
 ghost use Rattle.wl_wire.specs.Spelling.{IsText};
 ghost use Rattle.wl_sigs.specs.Tables.{max_name_len};
 ghost use Rattle.wl_objects.specs.declared.error.SendError.TheVariants as refusals;
 ghost use Rattle.wl_connection.specs.Core.{IsOrdinary, max_globals};
 ghost use Rattle.wl_server.specs.Registries.{HasRegistries};
 ghost use Rattle.wl_server.specs.Announcing.{Fitting, Removal, Telling, after_announce, due_to};
-ghost use Rattle.wl_server.specs.Announcing.{name_at};
+ghost use Rattle.wl_server.specs.Announcing.{name_at, owed};
 ghost use Rattle.wl_server.specs.Tellings.{IsAnnounced, IsWritten};
 ghost use Rattle.wl_server.specs.Words.{AreWithdrawn};
 
@@ -21,10 +21,10 @@ use wl_sigs::event::wl_registry::{GLOBAL, GLOBAL_REMOVE};
 use wl_wire::Iface;
 
 /// How many events were written, and whether these were all; if not, the next one does not fit.
-#[derive(Clone, Copy)]
-pub(crate) struct Announced {
-    pub(crate) count: usize,
-    pub(crate) all: bool,
+#[derive(Clone, Copy, Debug, PartialEq, Eq)]
+pub struct Announced {
+    pub count: usize,
+    pub all: bool,
 }
 
 /// The name of an interface; empty for one outside the tables, which no global has.
@@ -123,14 +123,16 @@ pub(crate) fn announce_to<T: Table>(
 impl<'t, T: Table> Server<'t, T> {
     /// Writes the events that the open registries still need, to the registries in order of birth;
     /// to each first global_remove for withdrawn globals, then global for new ones, in order of
-    /// name. Stops at the first event that does not fit. Returns how many events were written; the
-    /// only refusal is S1. Never runs out of memory.
-    pub fn announce(&mut self) -> Result<usize, SendError>
+    /// name. Stops at the first event that does not fit. Returns how many events were written, and
+    /// whether these were all; the only refusal is S1. Never runs out of memory.
+    pub fn announce(&mut self) -> Result<Announced, SendError>
         // These are the open registries: all of them and no other object, in order of birth.
         ensures registries { HasRegistries self.old.core.view self.old.registries }
         ensures ok { IfOk result
-            (λ count. (self.old.core.failed ≡ false) × Fitting self.old count
-            × (self.new ≡ after_announce self.old count)) }
+            (λ told. (self.old.core.failed ≡ false) × Fitting self.old told.count
+            × (self.new ≡ after_announce self.old told.count)) }
+        ensures all { IfOk result
+            (λ told. (told.all ≡ true) ↔ (told.count ≡ length (owed self.old))) }
         ensures err { IfErr result
             (λ why. (why ≡ refusals.Failed) × (self.old.core.failed ≡ true)
             × (self.new ≡ self.old)) }
@@ -140,6 +142,6 @@ impl<'t, T: Table> Server<'t, T> {
         }
         let core = &mut self.end.core;
         let told = self.role.registries.announce(core, &self.role.globals);
-        Ok(told.count)
+        Ok(told)
     }
 }

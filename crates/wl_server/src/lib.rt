@@ -21,6 +21,7 @@ mod send;
 mod server;
 mod shown;
 
+pub use announce::Announced;
 pub use globals::GlobalError;
 pub use laws::{any_cut_reads, one_reading, own_messages_are_spelled, whole_messages_are_read};
 pub use report::{OwnedRequest, OwnedRequestWithEntry, Request, RequestWithEntry};

@@ -25,7 +25,7 @@ impl Outline {
             end.now.core.inbox.last_tokens self.now }
     {
         let Endpoint { core, args } = end;
-        let (body, tokens) = core.inbox.last();
+        let (body, tokens) = core.inbox.last_with_tokens();
         Request {
             target: self.target,
             opcode: self.opcode,

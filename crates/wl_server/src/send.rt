@@ -5,18 +5,20 @@ ghost use Rattle.wl_sigs.specs.Side.TheVariants.{Event as event_side};
 ghost use Rattle.wl_sigs.specs.Valid.{Valid};
 ghost use Rattle.wl_objects.specs.Writing.{given};
 ghost use Rattle.wl_connection.specs.Outcomes.{refusal_in};
-ghost use Rattle.wl_connection.specs.Sending.{IsSendAnswer, OpensNothing, after_send};
+ghost use Rattle.wl_connection.specs.Sending.{IsSendAnswer, OpensNothing, after_send, made_nothing};
+ghost use Rattle.wl_connection.specs.Sending.{numbers_of, send_answer};
 ghost use Rattle.wl_server.specs.State.{with_core};
 ghost use Rattle.wl_server.specs.Calls.{after_drop, after_error, drop_refusal, error_refusal};
-ghost use Rattle.wl_server.specs.Calls.{IsLiveOfServer, is_error_text};
+ghost use Rattle.wl_server.specs.Calls.{IsLiveOfServer, after_end, end_refusal, is_error_text};
 
 use crate::server::Server;
 use wl_connection::{Core, DELETE_ID_LEN};
-use wl_objects::{Arg, Object, SendError, Table};
+use wl_object_map::{DISPLAY_ID, Maker};
+use wl_objects::{Arg, DISPLAY, Object, REGISTRY, SendError, Table};
 use wl_sigs::Side;
 
 /// The longest text of an error in bytes.
-const MAX_ERROR_TEXT: usize = 40;
+const MAX_ERROR_TEXT: usize = 127;
 
 impl<'t, T: Table> Server<'t, T> {
     /// Writes an event with these arguments, in which `New` is the object that it makes, and
@@ -48,6 +50,25 @@ impl<'t, T: Table> Server<'t, T> {
         self.end.core.send(Side::Event, target, opcode, args)
     }
 
+    /// Writes an event whose arguments are numbers alone (int, uint, fixed), given as their words,
+    /// as `send` writes the same numbers. Any other event is refused with S5 at its first argument
+    /// that is no number. Allocates nothing.
+    pub fn send_words(
+        &mut self,
+        target: Object,
+        opcode: u16,
+        words: &[u32],
+    ) -> Result<(), SendError>
+        ensures answer { made_nothing result ≡ send_answer self.old.core event_side target opcode
+            (given (numbers_of self.old.core event_side target opcode words.now)) }
+        ensures ok { OnOk result (self.new ≡ with_core self.old
+            (after_send self.old.core event_side target opcode
+            (given (numbers_of self.old.core event_side target opcode words.now)))) }
+        ensures err { OnErr result (self.new ≡ self.old) }
+    {
+        self.end.core.send_words(Side::Event, target, opcode, words)
+    }
+
     /// Ends an object without an event, for example a callback that nobody waits for, and writes
     /// its delete_id. An object that the server made is refused with S12, since no event ends one.
     /// The refusals are tested in this order: S1, S2, S12, S9. Allocates nothing.
@@ -61,9 +82,24 @@ impl<'t, T: Table> Server<'t, T> {
         close_dropped(&mut self.end.core, object)
     }
 
+    /// Ends an object when the caller says so, whatever its interface: closes it, and writes its
+    /// delete_id if the client made it. For tables that mark no request as destroying, where the
+    /// caller knows what a request destroys and when. wl_display and registries are refused with
+    /// S12. The refusals are tested in this order: S1, S2, S12, S9. Allocates nothing.
+    ///
+    /// What is proved about two ends together does not cover this call: the client may have written
+    /// requests to the object, or requests that name it.
+    pub fn end_object(&mut self, object: Object) -> Result<(), SendError>
+        ensures answer { refusal_in result ≡ end_refusal self.old.core object }
+        ensures ok { OnOk result (self.new ≡ with_core self.old (after_end self.old.core object)) }
+        ensures err { OnErr result (self.new ≡ self.old) }
+    {
+        close_ended(&mut self.end.core, object)
+    }
+
     /// Ends the connection with an error about an object, for which there is always room. The
     /// server has failed afterwards. The refusals are tested in this order: S1, S2, and S5 if the
-    /// text has more than 40 bytes or a byte 0. Allocates nothing.
+    /// text has more than 127 bytes or a byte 0. Allocates nothing.
     pub fn post_error(&mut self, object: Object, code: u32, text: &[u8]) -> Result<(), SendError>
         ensures answer { refusal_in result ≡ error_refusal self.old.core object text.now }
         ensures ok { OnOk result
@@ -105,6 +141,29 @@ fn close_dropped<T: Table>(core: &mut Core<'_, T>, object: Object) -> Result<(),
         return Err(SendError::Full);
     }
     core.delete_object(object.id);
+    Ok(())
+}
+
+/// Ends an object of an end, whatever its interface.
+fn close_ended<T: Table>(core: &mut Core<'_, T>, object: Object) -> Result<(), SendError>
+    ensures answer { refusal_in result ≡ end_refusal core.old object }
+    ensures ok { OnOk result (core.new ≡ after_end core.old object) }
+    ensures err { OnErr result (core.new ≡ core.old) }
+{
+    if core.failed {
+        return Err(SendError::Failed);
+    }
+    let Some((iface, _)) = core.live(object) else {
+        return Err(SendError::Stale);
+    };
+    if object.id == DISPLAY_ID || iface == DISPLAY || iface == REGISTRY {
+        return Err(SendError::NotDroppable);
+    }
+    match Maker::of(object.id) {
+        Maker::Client if !core.fits(DELETE_ID_LEN, 0) => return Err(SendError::Full),
+        Maker::Client => core.delete_object(object.id),
+        Maker::Server => core.close(object.id),
+    }
     Ok(())
 }
 

@@ -1,13 +1,15 @@
 //! The server's end.
-ghost use Rattle.std.specs.Prelude.{◌≡◌, IfOk};
+ghost use Rattle.std.specs.Prelude.{◌≡◌, IfOk, OnErr, OnOk};
+ghost use Rattle.std.specs.Result.{is_err};
 ghost use Rattle.wl_message.specs.Arrived.{AreSizes};
-ghost use Rattle.wl_server.specs.State.{new_state};
+ghost use Rattle.wl_connection.specs.MoreTables.{Extend, has_first_server_object, with_tables};
+ghost use Rattle.wl_server.specs.State.{new_state, with_core};
 
 use crate::open_registries::OpenRegistries;
 use crate::role::ServerRole;
 use std::alloc::AllocError;
 use std::marker::Model;
-use wl_connection::{Core, Endpoint};
+use wl_connection::{Core, Endpoint, FirstServerObject};
 use wl_message::Sizes;
 use wl_objects::Table;
 use wl_sigs::Tables;
@@ -58,5 +60,26 @@ impl<'t, T: Table> Server<'t, T> {
                 registries,
             },
         })
+    }
+
+    /// Replaces the server's tables with these, which extend them, as the tables do that
+    /// `Tables::read_more` makes from the server's. Nothing else changes: the interface of each
+    /// object and each global keeps its index, and each message its opcode. So a global of a new
+    /// interface can be added and announced to a client that is connected.
+    ///
+    /// Refused if these tables have the first event by which the server makes an object: a server
+    /// has a table of its own range of ids from the start, or never.
+    ///
+    /// What is proved about two ends together does not cover this call: the client may not have
+    /// the new interfaces.
+    pub fn more_tables(&mut self, tables: &'t Tables) -> Result<(), FirstServerObject>
+        requires { Extend self.old.core.tables tables.now }
+        ensures refused { is_err result
+            ≡ has_first_server_object self.old.core.tables tables.now }
+        ensures ok { OnOk result
+            (self.new ≡ with_core self.old (with_tables self.old.core tables.now)) }
+        ensures err { OnErr result (self.new ≡ self.old) }
+    {
+        self.end.core.more_tables(tables)
     }
 }

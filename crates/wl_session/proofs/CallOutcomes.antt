@@ -24,11 +24,13 @@ use Rattle.wl_server.specs.declared.globals.GlobalError.{GlobalError}
 use Rattle.wl_server.specs.declared.globals.GlobalError.TheVariants as global_errors
 use Rattle.wl_server.specs.Calls.{ok_unless_refused, error_refusal, after_error}
 use Rattle.wl_server.specs.Announcing.{Fitting, after_announce}
+use Rattle.wl_server.specs.declared.announce.Announced.{Announced}
 use Rattle.wl_connection.proofs.ReceivedMessage.{some_report}
 use Rattle.theory_connection.specs.Pair.{PairState, with_server, ended_mark, after_post, Writes, Calls}
 use Rattle.std.specs.Prelude.{◌||◌}
 use Rattle.std.proofs.lemmas.Bool.{or_left}
 use Rattle.theory_connection.specs.Pair.{Adds, Announces, Nexts, accepted, refused, no_memory, no_memory_to_open, done}
+use Rattle.wl_session.specs.Meaning.{counted}
 use Rattle.theory_connection.specs.Pair.{added, announced, answered}
 
 -- ---- a write
@@ -119,13 +121,13 @@ adds {S = S} f refusal name before after now (Err why) (inr k) ok err =
 
 -- ---- announcing
 
-pub announces : (p : PairState) (now : server.State) (result : Result ℕ SendError)
-    → IfOk result (λ count. (p.server.core.failed ≡ false) × Fitting p.server count
-    × (now ≡ after_announce p.server count))
+pub announces : (p : PairState) (now : server.State) (result : Result Announced SendError)
+    → IfOk result (λ told. (p.server.core.failed ≡ false) × Fitting p.server told.count
+    × (now ≡ after_announce p.server told.count))
     → IfErr result (λ why. (why ≡ refusals.Failed) × (p.server.core.failed ≡ true) × (now ≡ p.server))
-    → Announces p result (with_server p now)
-announces p now (Ok count) ok err = subst (λ (s : server.State). Announces p (Ok count) (with_server p s)) (sym ok.2)
-    (announced ok.0 ok.1)
+    → Announces p (counted result) (with_server p now)
+announces p now (Ok told) ok err =
+    subst (λ (s : server.State). Announces p (Ok told.count) (with_server p s)) (sym ok.2) (announced ok.0 ok.1)
 announces p now (Err why) ok err =
     subst (λ (s : server.State). Announces p (Err why) (with_server p s)) (sym err.2)
     (subst (λ (r : SendError). Announces p (Err r) p) (sym err.0) (refused err.1))

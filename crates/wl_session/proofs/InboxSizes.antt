@@ -17,6 +17,7 @@ use Rattle.wl_connection.specs.Outcomes.{unless_memory}
 use Rattle.wl_connection.specs.Sending.{with_following, with_sent}
 use Rattle.wl_server.specs.State as server
 use Rattle.wl_server.specs.Requests as requests
+use Rattle.wl_server.specs.declared.announce.Announced.{Announced}
 use Rattle.wl_server.specs.Announcing.{Due, Fitting, with_dues, owed_opcode, values_of, after_announce, owed}
 use Rattle.wl_session.specs.Room.{HoldsInbox}
 
@@ -64,12 +65,13 @@ server_next_box state = next_server state state.core.failed
 pub holds : (bytes tokens : ℕ) (a b : Arrived) → AsLarge a b → HoldsInbox bytes tokens b → HoldsInbox bytes tokens a
 holds bytes tokens a b l h = record { bytes_fit = rw l.bytes h.bytes_fit; tokens_fit = rw l.tokens h.tokens_fit }
 
-pub announced_box : (before now : server.State) (result : Result ℕ SendError)
-    → IfOk result (λ count. (before.core.failed ≡ false) × Fitting before count × (now ≡ after_announce before count))
+pub announced_box : (before now : server.State) (result : Result Announced SendError)
+    → IfOk result (λ told. (before.core.failed ≡ false) × Fitting before told.count
+    × (now ≡ after_announce before told.count))
     → IfErr result (λ why. (why ≡ refusals.Failed) × (before.core.failed ≡ true) × (now ≡ before))
     → AsLarge now.core.inbox before.core.inbox
-announced_box before now (Ok count) ok err = subst (λ (s : server.State). AsLarge s.core.inbox before.core.inbox)
-    (sym ok.2) (announce_box before count)
+announced_box before now (Ok told) ok err = subst (λ (s : server.State). AsLarge s.core.inbox before.core.inbox)
+    (sym ok.2) (announce_box before told.count)
 announced_box before now (Err why) ok err = subst (λ (s : server.State). AsLarge s.core.inbox before.core.inbox)
     (sym err.2) (same_size before.core.inbox)
 

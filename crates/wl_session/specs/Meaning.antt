@@ -1,10 +1,14 @@
 -- The code's moves and replies, apart from where they lie in memory.
 use Rattle.std.specs.Prelude.{ℕ, List, map, length, Some, None}
+use Rattle.std.specs.declared.result.Result.{Result}
+use Rattle.std.specs.declared.result.Result.TheVariants.{Ok, Err}
 use Rattle.wl_wire.specs.Argument.{Int, Uint, Fixed, Str, Obj, New, Array, Fd, units}
 use Rattle.wl_objects.specs.Writing.{Given}
+use Rattle.wl_objects.specs.declared.error.SendError.{SendError}
 use Rattle.wl_connection.specs.Outcomes.{some_object}
 use Rattle.wl_client.specs.Seen as client
 use Rattle.wl_server.specs.Seen as server
+use Rattle.wl_server.specs.declared.announce.Announced.{Announced}
 use Rattle.theory_connection.specs.Pair as world
 use Rattle.wl_session.specs.declared.moves.SendArg.{SendArg}
 use Rattle.wl_session.specs.declared.moves.SendArg.TheVariants as args
@@ -51,6 +55,11 @@ moves_of list = map move_of list
 abbrev pub carried_of : Carried → world.CarryOutcome
 carried_of (carrying.Moved fed) = world.Moved fed
 carried_of carrying.Memory = world.Memory
+
+-- what announcing answers, by the number of events alone
+abbrev pub counted : Result Announced SendError → Result ℕ SendError
+counted (Ok told) = Ok told.count
+counted (Err why) = Err why
 
 abbrev pub reply_of : {A : Type 0} → Reply A → world.Reply
 reply_of (replies.ClientSend result) = world.ClientSend result

@@ -22,14 +22,13 @@ use wl_server::Server;
 impl<'t, T: Table> Pair<'t, T> {
     /// Whether both ends have the same objects under the same ids, and the client has destroyed
     /// none that it made. (A server's object that the client has destroyed stays at the client
-    /// until its id is used again.) If both ends are drained and no error was posted, the answer is
-    /// true.
+    /// until its id is used again.) If both ends are drained, the answer is true.
     pub fn agree(&self) -> bool
         ensures exact { IsTrue result ↔ Agree self.now.client.core.view self.now.server.core.view }
         // If the tables let the server make no object: the same rows, all live.
         ensures rows { NoEventMakes self.now.client.core self.now.server.core
             → IsTrue result ↔ HaveSameRows self.now.client.core.view self.now.server.core.view }
-        ensures drained { (world : World) → Stands self.now world → world.ended ≡ false
+        ensures drained { (world : World) → Stands self.now world
             → drained self.now → IsTrue result }
     {
         same_rows(&self.client, &self.server)

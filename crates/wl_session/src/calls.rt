@@ -1,5 +1,6 @@
 //! The calls of the two ends, as the pair makes them: what each does to both ends and to the
 //! recording.
+ghost use Rattle.std.specs.Prelude.{◌≡◌};
 ghost use Rattle.wl_objects.specs.Writing.{given};
 ghost use Rattle.wl_connection.specs.Outcomes.{some_object};
 ghost use Rattle.wl_client.specs.Seen as client_seen;
@@ -7,11 +8,12 @@ ghost use Rattle.wl_server.specs.Seen as server_seen;
 ghost use Rattle.theory_connection.specs.Pair.{Does, ClientSend, ClientBind, ServerSend};
 ghost use Rattle.theory_connection.specs.Pair.{ServerDrop, PostError, AddGlobal, Withdraw};
 ghost use Rattle.theory_connection.specs.Pair.{Announce, ClientNext, ServerNext};
+ghost use Rattle.wl_session.specs.Meaning.{counted};
 
 use crate::pair::Pair;
 use wl_client::OwnedIncoming;
 use wl_objects::{Arg, NextError, Object, SendError, Table};
-use wl_server::{GlobalError, OwnedRequest};
+use wl_server::{Announced, GlobalError, OwnedRequest};
 use wl_wire::Iface;
 
 impl<'t, T: Table> Pair<'t, T> {
@@ -89,7 +91,8 @@ impl<'t, T: Table> Pair<'t, T> {
     pub(crate) fn announce(&mut self) -> Result<usize, SendError>
         ensures { Does self.old Announce (Announce result) self.new }
     {
-        self.server.announce()
+        let told = self.server.announce();
+        counted(told)
     }
 
     pub(crate) fn client_next(&mut self) -> Result<Option<OwnedIncoming<T::Alloc>>, NextError>
@@ -102,5 +105,15 @@ impl<'t, T: Table> Pair<'t, T> {
         ensures { Does self.old ServerNext (ServerNext (server_seen.report_in result)) self.new }
     {
         self.server.next_owned()
+    }
+}
+
+/// What announcing answers, by the number of events alone.
+fn counted(told: Result<Announced, SendError>) -> Result<usize, SendError>
+    ensures { result ≡ counted told }
+{
+    match told {
+        Ok(told) => Ok(told.count),
+        Err(why) => Err(why),
     }
 }

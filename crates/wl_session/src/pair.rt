@@ -9,7 +9,7 @@ ghost use Rattle.wl_check.specs.Session.{IsLawful, session_of};
 ghost use Rattle.theory_connection.specs.World.{World, opening_world};
 ghost use Rattle.theory_connection.specs.Pair.{new_pair, drained};
 ghost use Rattle.theory_connection.specs.Stands.{Stands};
-ghost use Rattle.theory_recording.specs.Linked.{Linked, pair_limit, up_to};
+ghost use Rattle.theory_recording.specs.Linked.{Linked, pair_limit};
 ghost use Rattle.wl_session.specs.Room.{client_count, object_count};
 
 use crate::agreeing::object_count;
@@ -122,13 +122,13 @@ impl<'t, T: Table> Pair<'t, T> {
 
     /// What was carried, piece by piece.
     ///
-    /// It is lawful up to the first error that was posted, whatever was done with the pair: `check`
-    /// of it says so, if it has memory.
+    /// It is lawful to its end, whatever was done with the pair: `check` of it says so, if it has
+    /// memory.
     pub fn recording(&self) -> &Recording<T::Alloc>
         ensures lends { result.now ≡ self.now.recording }
         ensures lawful { (world : World) → Linked self.now world
             → IsLawful self.now.server.core.tables
-            (session_of (pair_limit self.now) (up_to self.now.ended_at result.now)) }
+            (session_of (pair_limit self.now) result.now) }
     {
         &self.recording
     }

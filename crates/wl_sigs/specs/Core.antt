@@ -1,10 +1,10 @@
--- Made by tools/dev/core-files. The core interfaces of wayland.xml, at these versions, in
+-- Made by scripts/core_files.py. The core interfaces of wayland.xml, at these versions, in
 -- this order, without the data transfer interfaces. For each message: its name, the version
 -- of its interface that introduced it, the kinds of its arguments, and what it destroys.
-use Rattle.std.specs.Prelude.{List, [], ◌∷◌, codes, Some}
+use Rattle.std.specs.Prelude.{List, [], ◌∷◌, codes, map, Some}
 use Rattle.wl_wire.specs.declared.kind.Iface.{Iface}
 use Rattle.wl_sigs.specs.Destroys.TheVariants.{Nothing, Target}
-use Rattle.wl_sigs.specs.Tables.{Interface}
+use Rattle.wl_sigs.specs.Tables.{Interface, MessageSignature}
 use Rattle.wl_sigs.specs.Fixed.{message, int, uint, fixed, string, array, fd, object}
 use Rattle.wl_sigs.specs.Fixed.{object_or_null, new, callback, wl_display, wl_registry, wl_callback}
 use Rattle.wl_sigs.specs.Fixed.{wl_fixes}
@@ -317,5 +317,44 @@ core_tables =
     wl_subsurface ∷
     wl_shell ∷
     wl_shell_surface ∷
+    wl_fixes ∷
+    []
+
+-- ---- for a server whose caller ends objects itself, and sends events of any version
+
+abbrev unended_request : MessageSignature → MessageSignature
+unended_request request = record request { destroys = Nothing }
+
+abbrev first_event : MessageSignature → MessageSignature
+first_event event = record event { since = 1 }
+
+-- no request destroys an object, and every event is there from version 1 on
+abbrev unended : Interface → Interface
+unended i = record i {
+  requests = map unended_request i.requests;
+  events = map first_event i.events;
+}
+
+-- The same interfaces in this form, except the four that all tables have.
+unfoldable pub unended_tables : List Interface
+unended_tables =
+    wl_display ∷
+    wl_registry ∷
+    wl_callback ∷
+    unended wl_compositor ∷
+    unended wl_shm ∷
+    unended wl_shm_pool ∷
+    unended wl_buffer ∷
+    unended wl_surface ∷
+    unended wl_region ∷
+    unended wl_seat ∷
+    unended wl_pointer ∷
+    unended wl_keyboard ∷
+    unended wl_touch ∷
+    unended wl_output ∷
+    unended wl_subcompositor ∷
+    unended wl_subsurface ∷
+    unended wl_shell ∷
+    unended wl_shell_surface ∷
     wl_fixes ∷
     []

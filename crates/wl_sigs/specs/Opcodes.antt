@@ -2,7 +2,7 @@
 use Rattle.std.specs.Prelude.{ℕ, ◌+◌, List, [], ◌∷◌, codes, map}
 use Rattle.wl_sigs.specs.Side.{Side}
 use Rattle.wl_sigs.specs.Side.TheVariants.{Request, Event}
--- Made by core-files from core.xml, down to the next mark.
+-- Made by scripts/core_files.py from core.xml, down to the next mark.
 use Rattle.wl_sigs.specs.declared.request.wl_display.TheConstants as request_wl_display
 use Rattle.wl_sigs.specs.declared.request.wl_registry.TheConstants as request_wl_registry
 use Rattle.wl_sigs.specs.declared.request.wl_compositor.TheConstants as request_wl_compositor
@@ -61,7 +61,7 @@ opcodes_from n (m ∷ ms) = at_opcode n m.name ∷ opcodes_from (n + 1) ms
 abbrev pub opcodes_in : List Interface → Side → List Opcodes
 opcodes_in tables side = map (λ i. in_interface i.name (opcodes_from 0 (messages_of side i))) tables
 
--- Made by core-files from core.xml, down to the next mark.
+-- Made by scripts/core_files.py from core.xml, down to the next mark.
 
 -- each constant, by its module's name and its own, both in lower case
 abbrev pub opcodes : Side → List Opcodes

@@ -71,7 +71,7 @@ const ANY_OBJECT: Kind = Obj {
     iface: None,
 };
 
-// Made by core-files from core.xml, down to the next mark.
+// Made by scripts/core_files.py from core.xml, down to the next mark.
 
 const WL_REGISTRY: Iface = Iface(1);
 
@@ -308,6 +308,274 @@ pub(crate) const CORE: [CoreInterface; 19] = [
         version: 1,
         requests: &[
             message!(b"destroy", 1, [], destroys),
+            message!(b"set_position", 1, [Int, Int]),
+            message!(b"place_above", 1, [object!(WL_SURFACE)]),
+            message!(b"place_below", 1, [object!(WL_SURFACE)]),
+            message!(b"set_sync", 1, []),
+            message!(b"set_desync", 1, []),
+        ],
+        events: &[],
+    },
+    CoreInterface {
+        name: b"wl_shell",
+        version: 1,
+        requests: &[message!(
+            b"get_shell_surface",
+            1,
+            [new!(WL_SHELL_SURFACE), object!(WL_SURFACE)]
+        )],
+        events: &[],
+    },
+    CoreInterface {
+        name: b"wl_shell_surface",
+        version: 1,
+        requests: &[
+            message!(b"pong", 1, [Uint]),
+            message!(b"move", 1, [object!(WL_SEAT), Uint]),
+            message!(b"resize", 1, [object!(WL_SEAT), Uint, Uint]),
+            message!(b"set_toplevel", 1, []),
+            message!(b"set_transient", 1, [object!(WL_SURFACE), Int, Int, Uint]),
+            message!(
+                b"set_fullscreen",
+                1,
+                [Uint, Uint, object_or_null!(WL_OUTPUT)]
+            ),
+            message!(
+                b"set_popup",
+                1,
+                [object!(WL_SEAT), Uint, object!(WL_SURFACE), Int, Int, Uint]
+            ),
+            message!(b"set_maximized", 1, [object_or_null!(WL_OUTPUT)]),
+            message!(b"set_title", 1, [STRING]),
+            message!(b"set_class", 1, [STRING]),
+        ],
+        events: &[
+            message!(b"ping", 1, [Uint]),
+            message!(b"configure", 1, [Uint, Int, Int]),
+            message!(b"popup_done", 1, []),
+        ],
+    },
+    CoreInterface {
+        name: b"wl_fixes",
+        version: 1,
+        requests: &[
+            message!(b"destroy", 1, [], destroys),
+            message!(b"destroy_registry", 1, [object!(WL_REGISTRY)], destroys 0),
+        ],
+        events: &[],
+    },
+];
+
+/// The same where no request destroys and every event is there from version 1 on, except the
+/// four that all tables have.
+pub(crate) const UNENDED: [CoreInterface; 19] = [
+    CoreInterface {
+        name: b"wl_display",
+        version: 1,
+        requests: &[
+            message!(b"sync", 1, [new!(WL_CALLBACK)]),
+            message!(b"get_registry", 1, [new!(WL_REGISTRY)]),
+        ],
+        events: &[
+            message!(b"error", 1, [ANY_OBJECT, Uint, STRING]),
+            message!(b"delete_id", 1, [Uint]),
+        ],
+    },
+    CoreInterface {
+        name: b"wl_registry",
+        version: 1,
+        requests: &[message!(b"bind", 1, [Uint, New(None)])],
+        events: &[
+            message!(b"global", 1, [Uint, STRING, Uint]),
+            message!(b"global_remove", 1, [Uint]),
+        ],
+    },
+    CoreInterface {
+        name: b"wl_callback",
+        version: 1,
+        requests: &[],
+        events: &[message!(b"done", 1, [Uint], destroys)],
+    },
+    CoreInterface {
+        name: b"wl_compositor",
+        version: 6,
+        requests: &[
+            message!(b"create_surface", 1, [new!(WL_SURFACE)]),
+            message!(b"create_region", 1, [new!(WL_REGION)]),
+        ],
+        events: &[],
+    },
+    CoreInterface {
+        name: b"wl_shm",
+        version: 2,
+        requests: &[
+            message!(b"create_pool", 1, [new!(WL_SHM_POOL), Fd, Int]),
+            message!(b"release", 2, []),
+        ],
+        events: &[message!(b"format", 1, [Uint])],
+    },
+    CoreInterface {
+        name: b"wl_shm_pool",
+        version: 2,
+        requests: &[
+            message!(
+                b"create_buffer",
+                1,
+                [new!(WL_BUFFER), Int, Int, Int, Int, Uint]
+            ),
+            message!(b"destroy", 1, []),
+            message!(b"resize", 1, [Int]),
+        ],
+        events: &[],
+    },
+    CoreInterface {
+        name: b"wl_buffer",
+        version: 1,
+        requests: &[message!(b"destroy", 1, [])],
+        events: &[message!(b"release", 1, [])],
+    },
+    CoreInterface {
+        name: b"wl_surface",
+        version: 6,
+        requests: &[
+            message!(b"destroy", 1, []),
+            message!(b"attach", 1, [object_or_null!(WL_BUFFER), Int, Int]),
+            message!(b"damage", 1, [Int, Int, Int, Int]),
+            message!(b"frame", 1, [new!(WL_CALLBACK)]),
+            message!(b"set_opaque_region", 1, [object_or_null!(WL_REGION)]),
+            message!(b"set_input_region", 1, [object_or_null!(WL_REGION)]),
+            message!(b"commit", 1, []),
+            message!(b"set_buffer_transform", 2, [Int]),
+            message!(b"set_buffer_scale", 3, [Int]),
+            message!(b"damage_buffer", 4, [Int, Int, Int, Int]),
+            message!(b"offset", 5, [Int, Int]),
+        ],
+        events: &[
+            message!(b"enter", 1, [object!(WL_OUTPUT)]),
+            message!(b"leave", 1, [object!(WL_OUTPUT)]),
+            message!(b"preferred_buffer_scale", 1, [Int]),
+            message!(b"preferred_buffer_transform", 1, [Uint]),
+        ],
+    },
+    CoreInterface {
+        name: b"wl_region",
+        version: 1,
+        requests: &[
+            message!(b"destroy", 1, []),
+            message!(b"add", 1, [Int, Int, Int, Int]),
+            message!(b"subtract", 1, [Int, Int, Int, Int]),
+        ],
+        events: &[],
+    },
+    CoreInterface {
+        name: b"wl_seat",
+        version: 9,
+        requests: &[
+            message!(b"get_pointer", 1, [new!(WL_POINTER)]),
+            message!(b"get_keyboard", 1, [new!(WL_KEYBOARD)]),
+            message!(b"get_touch", 1, [new!(WL_TOUCH)]),
+            message!(b"release", 5, []),
+        ],
+        events: &[
+            message!(b"capabilities", 1, [Uint]),
+            message!(b"name", 1, [STRING]),
+        ],
+    },
+    CoreInterface {
+        name: b"wl_pointer",
+        version: 9,
+        requests: &[
+            message!(
+                b"set_cursor",
+                1,
+                [Uint, object_or_null!(WL_SURFACE), Int, Int]
+            ),
+            message!(b"release", 3, []),
+        ],
+        events: &[
+            message!(b"enter", 1, [Uint, object!(WL_SURFACE), Fixed, Fixed]),
+            message!(b"leave", 1, [Uint, object!(WL_SURFACE)]),
+            message!(b"motion", 1, [Uint, Fixed, Fixed]),
+            message!(b"button", 1, [Uint, Uint, Uint, Uint]),
+            message!(b"axis", 1, [Uint, Uint, Fixed]),
+            message!(b"frame", 1, []),
+            message!(b"axis_source", 1, [Uint]),
+            message!(b"axis_stop", 1, [Uint, Uint]),
+            message!(b"axis_discrete", 1, [Uint, Int]),
+            message!(b"axis_value120", 1, [Uint, Int]),
+            message!(b"axis_relative_direction", 1, [Uint, Uint]),
+        ],
+    },
+    CoreInterface {
+        name: b"wl_keyboard",
+        version: 9,
+        requests: &[message!(b"release", 3, [])],
+        events: &[
+            message!(b"keymap", 1, [Uint, Fd, Uint]),
+            message!(b"enter", 1, [Uint, object!(WL_SURFACE), Array]),
+            message!(b"leave", 1, [Uint, object!(WL_SURFACE)]),
+            message!(b"key", 1, [Uint, Uint, Uint, Uint]),
+            message!(b"modifiers", 1, [Uint, Uint, Uint, Uint, Uint]),
+            message!(b"repeat_info", 1, [Int, Int]),
+        ],
+    },
+    CoreInterface {
+        name: b"wl_touch",
+        version: 9,
+        requests: &[message!(b"release", 3, [])],
+        events: &[
+            message!(
+                b"down",
+                1,
+                [Uint, Uint, object!(WL_SURFACE), Int, Fixed, Fixed]
+            ),
+            message!(b"up", 1, [Uint, Uint, Int]),
+            message!(b"motion", 1, [Uint, Int, Fixed, Fixed]),
+            message!(b"frame", 1, []),
+            message!(b"cancel", 1, []),
+            message!(b"shape", 1, [Int, Fixed, Fixed]),
+            message!(b"orientation", 1, [Int, Fixed]),
+        ],
+    },
+    CoreInterface {
+        name: b"wl_output",
+        version: 4,
+        requests: &[message!(b"release", 3, [])],
+        events: &[
+            message!(
+                b"geometry",
+                1,
+                [Int, Int, Int, Int, Int, STRING, STRING, Int]
+            ),
+            message!(b"mode", 1, [Uint, Int, Int, Int]),
+            message!(b"done", 1, []),
+            message!(b"scale", 1, [Int]),
+            message!(b"name", 1, [STRING]),
+            message!(b"description", 1, [STRING]),
+        ],
+    },
+    CoreInterface {
+        name: b"wl_subcompositor",
+        version: 1,
+        requests: &[
+            message!(b"destroy", 1, []),
+            message!(
+                b"get_subsurface",
+                1,
+                [
+                    new!(WL_SUBSURFACE),
+                    object!(WL_SURFACE),
+                    object!(WL_SURFACE)
+                ]
+            ),
+        ],
+        events: &[],
+    },
+    CoreInterface {
+        name: b"wl_subsurface",
+        version: 1,
+        requests: &[
+            message!(b"destroy", 1, []),
             message!(b"set_position", 1, [Int, Int]),
             message!(b"place_above", 1, [object!(WL_SURFACE)]),
             message!(b"place_below", 1, [object!(WL_SURFACE)]),

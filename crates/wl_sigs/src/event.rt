@@ -1,4 +1,4 @@
-// Made by tools/dev/core-files.
+// Made by scripts/core_files.py.
 //! The opcodes of the core interfaces' events, which a server writes.
 //!
 //! `event::wl_callback::DONE` is the opcode of wl_callback.done in the core tables. Each

@@ -58,6 +58,15 @@ impl<T: Copy, const N: usize> Front<T, N> {
         items[..slice.len()].copy_from_slice(slice);
         Self::of(items, slice.len())
     }
+
+    pub(crate) fn copy(&self) -> Self
+        ensures { result ≡ self.now }
+    {
+        Front {
+            len: self.len,
+            items: self.items,
+        }
+    }
 }
 
 impl<T: Debug, const N: usize> Debug for Front<T, N> {

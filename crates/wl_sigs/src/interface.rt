@@ -186,7 +186,7 @@ impl<A: Allocator + Clone + Drop> StoredInterface<A> {
         ensures { IfOk result (λ i. i ≡ self.now) }
     {
         Ok(StoredInterface {
-            name: Name::from_slice(alloc, self.name())?,
+            name: self.name.copy(alloc)?,
             hash: self.hash,
             version: self.version,
             requests: copies_of(alloc, self.requests.as_slice())?,
@@ -210,7 +210,7 @@ impl<A: Allocator + Clone + Drop> StoredInterface<A> {
             return self.copy(alloc);
         };
         Ok(StoredInterface {
-            name: Name::from_slice(alloc, self.name())?,
+            name: self.name.copy(alloc)?,
             hash: self.hash,
             version: more.version,
             requests: grown_signatures(

@@ -70,6 +70,16 @@ impl<A: Allocator + Clone + Drop> Kinds<A> {
         Ok(Kinds::Few(Front::from_slice(Kind::Int, kinds)))
     }
 
+    /// A copy, which allocates only if there are many.
+    pub(crate) fn copy(&self, alloc: &A) -> Result<Self, AllocError>
+        ensures { IfOk result (λ kept. kinds_listed kept ≡ kinds_listed self.now) }
+    {
+        match self {
+            Kinds::Few(kinds) => Ok(Kinds::Few(kinds.copy())),
+            Kinds::Many(kinds) => Kinds::from_slice(alloc, kinds.as_slice()),
+        }
+    }
+
     /// The kinds of the arguments of a text's message, with the indices of the interfaces that they
     /// name.
     pub(crate) fn placed<'n>(

@@ -44,6 +44,16 @@ impl<A: Allocator + Clone + Drop> Name<A> {
         }
         Ok(Name::Short(Front::from_slice(0, name)))
     }
+
+    /// A copy, which allocates only if the name is long.
+    pub(crate) fn copy(&self, alloc: &A) -> Result<Self, AllocError>
+        ensures { IfOk result (λ kept. name_bytes kept ≡ name_bytes self.now) }
+    {
+        match self {
+            Name::Short(bytes) => Ok(Name::Short(bytes.copy())),
+            Name::Long(bytes) => Name::from_slice(alloc, bytes.as_slice()),
+        }
+    }
 }
 
 impl<A: Allocator> Debug for Name<A> {

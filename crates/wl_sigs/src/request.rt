@@ -1,4 +1,4 @@
-// Made by tools/dev/core-files.
+// Made by scripts/core_files.py.
 //! The opcodes of the core interfaces' requests, which a client writes.
 //!
 //! `request::wl_surface::COMMIT` is the opcode of wl_surface.commit in the core tables. Each

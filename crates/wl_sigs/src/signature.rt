@@ -153,9 +153,9 @@ impl<A: Allocator + Clone + Drop> Signature<A> {
         ensures { IfOk result (λ s. s ≡ self.now) }
     {
         Ok(Signature {
-            name: Name::from_slice(alloc, self.name())?,
+            name: self.name.copy(alloc)?,
             since: self.since,
-            kinds: Kinds::from_slice(alloc, self.kinds())?,
+            kinds: self.kinds.copy(alloc)?,
             destroys: self.destroys,
             has_new_object: self.has_new_object,
             descriptors: self.descriptors,

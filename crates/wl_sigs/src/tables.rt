@@ -2,7 +2,7 @@
 ghost use Rattle.std.specs.Prelude.{◌≡◌, ◌⊎◌, ◌↔◌, ℕ, [], true, Err, Some, None, IfOk, map};
 ghost use Rattle.std.specs.Prelude.{option_copied};
 ghost use Rattle.std.specs.Prelude.{option_map, position, bytes_eq, length, IfSome, ◌<◌};
-ghost use Rattle.wl_sigs.specs.Core.{core_tables};
+ghost use Rattle.wl_sigs.specs.Core.{core_tables, unended_tables};
 ghost use Rattle.wl_sigs.specs.ByName.{opcode_of};
 ghost use Rattle.wl_sigs.specs.Tables.{HasServerObjects, MessageSignature, interface_at};
 ghost use Rattle.wl_sigs.specs.Tables.{signature_at, place_of};
@@ -19,7 +19,7 @@ ghost use Rattle.wl_sigs.specs.Outcome.{outcome};
 ghost use Rattle.wl_text.specs.declared.fault.TableFault.TheVariants.{Memory};
 
 use crate::added::{Known, added_broken};
-use crate::core_interfaces::{CORE, CoreInterface};
+use crate::core_interfaces::{CORE, CoreInterface, UNENDED};
 use crate::interface::StoredInterface;
 use crate::signature::Signature;
 use std::alloc::{AllocError, Allocator, Global};
@@ -169,6 +169,17 @@ impl<A: Allocator + Clone + Drop> Tables<A> {
         ensures valid { IfOk result (λ tables. Valid tables) }
     {
         Self::of(alloc, &CORE)
+    }
+
+    /// The core interfaces where no request destroys an object, except those of wl_fixes, and where
+    /// every event is there from version 1 on. They are for a server whose caller ends objects
+    /// itself, with `Server::end_object`, and judges the versions of events. The only error is out
+    /// of memory.
+    pub fn core_unended(alloc: A) -> Result<Self, AllocError>
+        ensures holds { IfOk result (λ tables. tables ≡ unended_tables) }
+        ensures valid { IfOk result (λ tables. Valid tables) }
+    {
+        Self::of(alloc, &UNENDED)
     }
 
     /// These tables extended by a text, and followed by the interfaces that it declares.

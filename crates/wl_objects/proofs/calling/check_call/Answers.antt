@@ -1,4 +1,4 @@
-use Rattle.std.proofs.Common.{◌≤◌, length, sym, arith}
+use Rattle.std.proofs.Common.{arith}
 use Rattle.wl_objects.proofs.CheckedCalls.{measured-fits, measured-len, few}
 use Rattle.wl_objects.proofs.calling.check_call.Goals as goal
 
@@ -12,6 +12,5 @@ returns-clause-fits g c = measured-fits c.args.limit c.kinds.result.now c.args.a
 
 pub returns-clause-few : goal.returns-clause-few
 returns-clause-few g c =
-    let kinds : length c.in-Some-message.signature.now.kinds ≤ 20 =
-    c.in-Some-message.ensures.valid.small.arguments _ _ _ _ (sym c.in-Some-message.ensures.answer) in
+    let kinds = c.in_ok-entry.ensures.valid.small.arguments _ _ _ _ c.in_ok-entry.ensures.message in
     few c.kinds.result.now c.args.args.now (rw c.kinds.ensures kinds) c.in_ok-len.ensures.measured.right

@@ -4,10 +4,11 @@ use Rattle.wl_objects.specs.Messages.{opens}
 use Rattle.wl_message.specs.Outgoing.{Outgoing}
 use Rattle.wl_connection.specs.Core.{Core, past, with_view}
 use Rattle.wl_connection.specs.Sending.{delete_id_len, fits}
+use Rattle.wl_connection.specs.ServerRange.{IsMadeBySome, NoEventEnds}
 use Rattle.wl_server.specs.Steps.{core_by, core_without, pending_in, registries_by, registries_without}
 use Rattle.wl_server.proofs.AfterRequest.{applied-is, applied-left}
 use Rattle.wl_server.proofs.Closings.{registries_opened, row_opened}
-use Rattle.wl_server.proofs.LastingObjects.{lasting_step}
+use Rattle.wl_server.proofs.LastingObjects.{kept_step}
 use Rattle.wl_server.proofs.Registries.{births_left, has_now}
 use Rattle.wl_server.proofs.role.ServerRoleAllocRole.apply.Goals as goal
 
@@ -79,7 +80,8 @@ returns-in-Some g c =
         );
         settled = c.close_object.ensures.settled kept.globals.items
             (opened.settled kept.globals.items c.requires.sound.settled);
-        lasting = lasting_step core c.close_object.new.core step now opened.fresh c.requires.sound.lasting;
+        lasting = kept_step NoEventEnds core c.close_object.new.core step now opened.fresh c.requires.sound.lasting;
+        by_some = kept_step IsMadeBySome core c.close_object.new.core step now opened.fresh c.requires.sound.by_some;
       };
     }
 
@@ -108,6 +110,7 @@ returns-in_default g c =
             c.requires.ahead.can_apply now left opened.fresh c.requires.sound.registries;
         past = omega (arith, opened.past, ap (λ (k : Core). k.view.client.births) c.pass.ensures);
         settled = opened.settled kept.globals.items c.requires.sound.settled;
-        lasting = lasting_step core c.pass.new.self step now opened.fresh c.requires.sound.lasting;
+        lasting = kept_step NoEventEnds core c.pass.new.self step now opened.fresh c.requires.sound.lasting;
+        by_some = kept_step IsMadeBySome core c.pass.new.self step now opened.fresh c.requires.sound.by_some;
       };
     }

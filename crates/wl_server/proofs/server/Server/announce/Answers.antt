@@ -1,12 +1,14 @@
-use Rattle.std.proofs.Common.{List, sym, subst, ap, ◌∙◌, arith}
+use Rattle.std.proofs.Common.{◌≡◌, true, List, length, sym, subst, ap, ◌∙◌, arith}
+use Rattle.std.specs.Prelude.{◌↔◌}
 use Rattle.wl_connection.specs.Core.{Core, IsOrdinary}
+use Rattle.wl_connection.specs.ServerRange.{IsMadeBySome, NoEventEnds}
 use Rattle.wl_server.specs.State.{Global, State}
 use Rattle.wl_server.specs.Registries.{HasRegistries}
-use Rattle.wl_server.specs.Announcing.{Fitting, after_announce, owed_in}
+use Rattle.wl_server.specs.Announcing.{Fitting, after_announce, owed, owed_in}
 use Rattle.wl_server.specs.Slots.{settled_in}
 use Rattle.wl_server.specs.Tellings.{IsAnnounced}
-use Rattle.wl_server.proofs.LastingObjects.{lasting_told}
-use Rattle.wl_server.proofs.TellingGoesOn.{finished}
+use Rattle.wl_server.proofs.LastingObjects.{kept_told}
+use Rattle.wl_server.proofs.TellingGoesOn.{all-told, finished}
 use Rattle.wl_server.proofs.Registries.{has_told, past_told}
 use Rattle.wl_server.proofs.server.Server.announce.Goals as goal
 
@@ -29,7 +31,8 @@ invariant_of-self g c =
           (omega (arith, c.announce-told.ensures.past, c.self.invariant.past));
       settled = ap (λ (gs : List Global). owed_in gs (settled_in left)) (sym c.deref.ensures.value)
           ∙ c.announce-told.ensures.settled;
-      lasting = lasting_told core registries _ _ now left.list told c.self.invariant.lasting;
+      lasting = kept_told NoEventEnds core registries _ _ now left.list told c.self.invariant.lasting;
+      by_some = kept_told IsMadeBySome core registries _ _ now left.list told c.self.invariant.by_some;
     }
 
 pub returns : goal.returns
@@ -48,8 +51,9 @@ returns g c =
     subst (λ (gs : List Global). IsAnnounced state.core state.registries (owed_in gs state.registries)
     c.announce-told.result c.announce-told.new.core c.announce-told.new.self.list)
     c.deref.ensures.value c.announce-told.ensures.told in
-    let f = finished state c.announce-told.result c.announce-told.new.core
-    c.announce-told.new.self.list ordinary told in
+    let reply = c.announce-told.result in
+    let f = finished state reply c.announce-told.new.core c.announce-told.new.self.list ordinary told in
+    let all = all-told state reply c.announce-told.new.core c.announce-told.new.self.list told in
     record {
       registries = subst (λ (s : State). HasRegistries s.core.view s.registries) c.self.view_is
           c.self.invariant.registries;
@@ -59,5 +63,6 @@ returns g c =
         subst (λ (s : State). Fitting s c.announce-told.result.count) c.self.view_is f.0,
         f.1 ∙ ap (λ (s : State). after_announce s c.announce-told.result.count) c.self.view_is,
       );
+      all = subst (λ (s : State). (reply.all ≡ true) ↔ (reply.count ≡ length (owed s))) c.self.view_is all;
       err = tt;
     }

@@ -7,10 +7,11 @@ use Rattle.wl_object_map.specs.declared.object.Object.{Object}
 use Rattle.wl_object_map.specs.ObjectsLaws.{births-closed}
 use Rattle.wl_connection.specs.Core.{Core}
 use Rattle.wl_connection.specs.Outcomes.{refusal_in}
+use Rattle.wl_connection.specs.ServerRange.{IsMadeBySome, NoEventEnds}
 use Rattle.wl_server.specs.Calls.{after_drop, drop_refusal}
 use Rattle.wl_server.specs.State.{Registry}
 use Rattle.wl_server.specs.Registries.{HasRegistries}
-use Rattle.wl_server.proofs.LastingObjects.{lasting_drop}
+use Rattle.wl_server.proofs.LastingObjects.{kept_drop}
 use Rattle.wl_server.proofs.Registries.{has_dropped}
 use Rattle.wl_server.proofs.server.Server.drop_object.Goals as goal
 
@@ -40,6 +41,8 @@ invariant_of-self g c =
       past = past_by c.self.inside.role.registries.past c.args.object c.close_dropped.result c.self.inside.end.core
           c.close_dropped.new.core e.ok e.err c.self.invariant.past;
       settled = c.self.invariant.settled;
-      lasting = lasting_drop c.self.inside.end.core c.close_dropped.new.core c.args.object c.close_dropped.result e.ok e.err
-          c.self.invariant.lasting;
+      lasting = kept_drop NoEventEnds c.self.inside.end.core c.close_dropped.new.core c.args.object
+          c.close_dropped.result e.ok e.err c.self.invariant.lasting;
+      by_some = kept_drop IsMadeBySome c.self.inside.end.core c.close_dropped.new.core c.args.object
+          c.close_dropped.result e.ok e.err c.self.invariant.by_some;
     }

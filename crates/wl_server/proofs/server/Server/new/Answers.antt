@@ -2,7 +2,7 @@ use Rattle.std.proofs.Common.{rules, sym, ap, subst, ◌∙◌, arith, []}
 use Rattle.wl_object_map.specs.Objects.{Objects}
 use Rattle.wl_sigs.specs.Rules.{has_server_objects}
 use Rattle.wl_connection.specs.Core.{Core}
-use Rattle.wl_connection.specs.ServerRange.{NoEventEnds, NoEventEndsMade}
+use Rattle.wl_connection.specs.ServerRange.{EventsMakeMade, IsMadeBySome, NoEventEnds, NoEventEndsMade}
 use Rattle.wl_connection.proofs.ServerRange.{made_opening}
 use Rattle.wl_server.specs.Announcing.{owed_in}
 use Rattle.wl_server.specs.Registries.{HasRegistries}
@@ -24,4 +24,6 @@ invariant_of-result g c =
       settled = ap (owed_in c.new-globals.result.items) c.new-registries.ensures.settled;
       lasting = subst (NoEventEndsMade c.new-2.result.core.tables) (sym view)
           (made_opening (NoEventEnds c.new-2.result.core.tables) range);
+      by_some = subst (EventsMakeMade c.new-2.result.core.tables) (sym view)
+          (made_opening (IsMadeBySome c.new-2.result.core.tables) range);
     }

@@ -8,7 +8,7 @@ use Rattle.wl_object_map.specs.Objects.{ObjectsAreSound}
 use Rattle.wl_connection.specs.Core.{Core}
 use Rattle.wl_connection.specs.Sending.{after_send}
 use Rattle.wl_server.specs.Registries.{HasRegistries}
-use Rattle.wl_server.proofs.LastingObjects.{lasting_send}
+use Rattle.wl_server.proofs.LastingObjects.{by_some_send, lasting_send}
 use Rattle.wl_server.proofs.Registries.{has_sent, past_sent}
 use Rattle.wl_server.proofs.server.Server.send.Goals as goal
 
@@ -39,4 +39,6 @@ invariant_of-self g c =
       settled = c.self.invariant.settled;
       lasting = lasting_send core now c.args.target c.args.opcode c.args.args.now c.send.result e.ok e.err e.valid e.sound
           c.self.invariant.lasting;
+      by_some = by_some_send core now c.args.target c.args.opcode c.args.args.now c.send.result e.ok e.err e.valid
+          c.self.invariant.by_some;
     }
