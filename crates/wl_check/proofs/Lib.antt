@@ -15,6 +15,7 @@ pub mod EachOnce
 pub mod MergedOrder
 pub mod LongerRecording
 pub mod PiecesOfCarry
+pub mod Undeserved
 pub mod SessionByMessage
 pub mod SessionByPiece
 pub mod OneListOfPieces
@@ -24,3 +25,4 @@ pub mod PrintedSoFar
 pub mod Undone
 pub mod Versions
 pub mod ReadyPiece
+pub mod LinesJudged

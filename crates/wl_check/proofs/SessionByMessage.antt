@@ -29,6 +29,8 @@ use Rattle.wl_check.specs.Places.{IsKnownBehind}
 use Rattle.wl_check.specs.Rules.{judged_front}
 use Rattle.wl_check.specs.Seen.{known_in, size_of, taken_of_direction, tally_after, tally_in}
 use Rattle.wl_check.specs.Session.{Session, Judged, messages}
+use Rattle.wl_check.specs.Deserved.{first_with, undeserved_id, TellsUndeserved}
+use Rattle.wl_check.proofs.Undeserved.{undeserved_next}
 use Rattle.wl_check.proofs.MessagesOfStream.{next_within, step}
 use Rattle.wl_check.proofs.Examined.{at_next, ends_is, found_is, passed_next}
 use Rattle.wl_check.proofs.LongerRecording.{size_least}
@@ -101,6 +103,7 @@ judged_broken {A} limit tables s c n f rest fault h is n_is =
         is = next_is limit tables s c f rest (Err fault) h is;
         passed = open_passed tables s c.count c.status h.going h.judged.status;
       };
+      undeserved = h.judged.undeserved;
       within = h.judged.within;
       few = h.judged.few;
       small_to_server = h.judged.small_to_server;
@@ -119,6 +122,8 @@ pub record Goes {A : Type 0} (tables : List Interface) (c n : SessionState A) (f
   pub few_to_server : n.progress.known.taken_to_server < c.progress.known.taken_to_server + 2 ^ 64
   pub few_to_client : n.progress.known.taken_to_client < c.progress.known.taken_to_client + 2 ^ 64
   pub count : n.count ≡ c.count + 1
+  pub undeserved : n.undeserved
+      ≡ first_with c.undeserved (c.count + 1) (undeserved_id tables (known_in c.progress.known) e)
 
 few_step : {A : Type 0} (c n : SessionState A) (f : FramedMessage) (d : Direction) → f.direction ≡ d
     → n.progress.to_server ≡ tally_after ToServer f c.progress.to_server
@@ -168,6 +173,9 @@ judged_so limit tables s c n f rest call e h is good g status =
     record {
       at = subst (λ (j : ℕ). IsAt tables s j n.progress) (sym k) at;
       status = subst (λ (j : ℕ). StatusIs tables s j n.status) (sym k) status;
+      undeserved = subst (λ (j : ℕ). TellsUndeserved tables s j n.undeserved) (sym k)
+          (undeserved_next tables s c.count call e (known_in c.progress.known) c.undeserved n.undeserved m
+          g.changes_are h.judged.at.known_is g.undeserved h.judged.undeserved);
       within = omega (arith, k, below);
       few = omega (arith, k, few);
       small_to_server = small.0;

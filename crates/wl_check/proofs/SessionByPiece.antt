@@ -2,7 +2,7 @@
 use Rattle.std.proofs.Common.{◌≡◌, ℕ, zero, suc, ◌+◌, ◌^◌, ◌<◌, ◌≤◌, Bool, true, false, cond, Some}
 use Rattle.std.proofs.Common.{List, [], ◌-◌, ◌∷◌, ◌++◌, slice_get, length, take, drop, map, refl}
 use Rattle.std.proofs.Common.{sym, ap, ◌∙◌, arith, subst, append-nil, length-append}
-use Rattle.std.specs.Prelude.{OnOk}
+use Rattle.std.specs.Prelude.{OnOk, Option, None}
 use Rattle.std.specs.declared.result.Result.{Result}
 use Rattle.std.specs.declared.result.Result.TheVariants.{Ok, Err}
 use Rattle.std.proofs.lemmas.List.{drop-append-le, take-append-le, take_all}
@@ -25,6 +25,8 @@ use Rattle.wl_check.specs.SessionState.{IsTallied, IsAt, is_going, IsEnd, IsFaul
 use Rattle.wl_check.specs.SessionState.{IsJudged, IsUnread, CutFollows, IsLeftOfStream, AllJudged, IsStream}
 use Rattle.wl_check.specs.SessionState.{JudgedAlong, AfterPieces}
 use Rattle.wl_check.specs.Session.{ArePassed}
+use Rattle.wl_check.specs.declared.deserved.UndeservedDelete.{UndeservedDelete}
+use Rattle.wl_check.specs.Deserved.{AllDeserved, TellsUndeserved, undeserved_at, undeserved_id}
 use Rattle.wl_check.specs.Merged.{Cutting, cut, cutting, framed, same_direction, stream_of}
 use Rattle.wl_check.specs.Merged.{piece_tokens, completed, merged, merged_within}
 use Rattle.wl_check.specs.Places.{known}
@@ -140,11 +142,42 @@ status_more tables s t k (Broken frame fault) b h i =
       passed = passed_more tables s t k b h i.passed;
     }
 
+-- ---- delete_ids that are not deserved
+
+undeserved_same : (tables : List Interface) (s t : Session) (k : ℕ) → Begins tables s t → k < length s.frames
+    → undeserved_at tables s k ≡ undeserved_at tables t k
+undeserved_same tables s t k b h =
+    let l = length_messages tables s in
+    let knows = known_more tables s t k b (omega (arith, h)) in
+    let does : changes_at tables (messages tables t) (suc k) ≡ changes_at tables (messages tables s) (suc k) =
+    ap (λ (m : List Judged). changes_at tables m (suc k)) b.judged
+    ∙ changes_at_same tables (messages tables s) b.later (suc k) (omega (arith, l, h)) in
+    λ i. undeserved_id tables (knows i) (sym does i)
+
+deserved_more : (tables : List Interface) (s t : Session) (k : ℕ) → Begins tables s t → k ≤ length s.frames
+    → AllDeserved tables s k → AllDeserved tables t k
+deserved_more tables s t k b h a j below =
+    sym (undeserved_same tables s t j b (omega (arith, h, below))) ∙ a j below
+
+undeserved_more : (tables : List Interface) (s t : Session) (k : ℕ) (u : Option UndeservedDelete)
+    → Begins tables s t → k ≤ length s.frames → TellsUndeserved tables s k u → TellsUndeserved tables t k u
+undeserved_more tables s t k None b h a = deserved_more tables s t k b h a
+undeserved_more tables s t k (Some u) b h a =
+    let below = a.below in
+    record {
+      place = a.place;
+      below = a.below;
+      number_is = a.number_is;
+      takes_back = sym (undeserved_same tables s t a.place b (omega (arith, h, below))) ∙ a.takes_back;
+      first = deserved_more tables s t a.place b (omega (arith, h, below)) a.first;
+    }
+
 judged_more : {A : Type 0} (tables : List Interface) (s t : Session) (c : SessionState A)
     → Begins tables s t → IsJudged tables s c → IsJudged tables t c
 judged_more tables s t c b j = record {
   at = at_more tables s t c.count c.progress b j.within j.at;
   status = status_more tables s t c.count c.status b j.within j.status;
+  undeserved = undeserved_more tables s t c.count c.undeserved b j.within j.undeserved;
   within = (let w = j.within in let l = ap (λ (f : List FramedMessage). length f) b.frames
       in let a = length-append s.frames b.more in omega (arith, w, l, a));
   few = j.few;
@@ -367,6 +400,8 @@ none_judged limit tables s f bytes len tokens bytes2 len2 tokens2 =
         at = subst (λ (k : ℕ). IsAt tables t k c.progress) (sym n)
             (at_first tables t c.progress f.known f.to_server f.to_client f.taken_to_server f.taken_to_client);
         status = subst (λ (x : SessionStatus). StatusIs tables t c.count x) (sym f.status)
+            (λ j below. absurd (omega (arith, below, n)));
+        undeserved = subst (TellsUndeserved tables t c.count) (sym f.undeserved)
             (λ j below. absurd (omega (arith, below, n)));
         within = omega (arith, n);
         few = omega (arith, n);

@@ -2,7 +2,7 @@
 -- what an id names after it.
 use Rattle.std.specs.Prelude.{◌≡◌, ℕ, ◌+◌, ◌-◌, Bool, false, not, ◌&&◌, ◌||◌, nat_eq, nat_le}
 use Rattle.std.specs.Prelude.{nat_lt, is_some, if◌then◌else◌, List, [], ◌∷◌, ◌++◌, drop, take}
-use Rattle.std.specs.Prelude.{Option, Some, None}
+use Rattle.std.specs.Prelude.{length, Option, Some, None}
 use Rattle.std.specs.Option.{option_map_or}
 use Rattle.std.specs.declared.result.Result.{Result}
 use Rattle.std.specs.declared.result.Result.TheVariants.{Ok, Err}
@@ -184,10 +184,12 @@ abbrev pub TellsAhead : {A : Type 0} → Follower A → Direction → Option Fol
 TellsAhead f direction None = size_ahead f direction ≡ None
 TellsAhead f direction (Some m) = IsFollowed f direction m
 
--- the bytes of a direction after a message; after one with a bad size nothing is followed
+-- The bytes of a direction after a message. Its own stay in memory until the next bytes come. After
+-- one with a bad size nothing is followed.
 abbrev pub bytes_behind : Bool → ℕ → FollowedBytes → FollowedBytes
 bytes_behind good size b = record {
   waiting = if good then drop size b.waiting else [];
+  kept = if good then b.kept else 0;
   index = b.index + 1;
   end = b.end + size;
   is_lost = not good;
@@ -214,9 +216,13 @@ pub record WentPast {A : Type 0} (direction : Direction) (before after : Followe
   pub tables : after.tables.now ≡ before.tables.now
   pub limit : after.limit ≡ before.limit
 
--- bytes of a direction appended to those that wait
+-- Bytes of a direction appended to those that wait. After that, no byte of a message that was
+-- passed over is in memory.
 abbrev pub with_bytes : List ℕ → FollowedBytes → FollowedBytes
-with_bytes bytes b = record b { waiting = if b.is_lost then b.waiting else b.waiting ++ bytes }
+with_bytes bytes b = record b {
+  waiting = if b.is_lost then b.waiting else b.waiting ++ bytes;
+  kept = if b.is_lost then b.kept else length (b.waiting ++ bytes);
+}
 
 -- Bytes of a direction came.
 pub record WasFed {A : Type 0} (direction : Direction) (bytes : List ℕ)

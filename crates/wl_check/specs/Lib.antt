@@ -4,6 +4,7 @@ pub mod Changes
 pub mod Places
 pub mod Rules
 pub mod Session
+pub mod Deserved
 pub mod Seen
 pub mod Trace
 pub mod SessionState
@@ -15,3 +16,4 @@ pub mod Passing
 pub mod Inspected
 pub mod FollowedBytes
 pub mod Following
+pub mod LinesJudged

@@ -16,6 +16,7 @@ use Rattle.wl_recording.specs.declared.piece.Direction.{Direction}
 use Rattle.wl_recording.specs.declared.piece.Direction.TheVariants.{ToServer, ToClient}
 use Rattle.wl_check.specs.declared.changes.MessageChanges.{MessageChanges}
 use Rattle.wl_check.specs.Changes.{beginning, changes_nothing}
+use Rattle.wl_check.specs.Deserved.{undeserved_id}
 use Rattle.wl_check.specs.Places.{KnownAtPlace, known}
 use Rattle.wl_check.specs.Rules.{judged_front, reader_by}
 use Rattle.wl_check.specs.Seen.{changes_in}
@@ -170,3 +171,7 @@ abbrev pub new_server_id : ℕ → ℕ → NewId
 new_server_id count id =
     let k = record (known_behind []) { server_used = count } in
     (reader_by sample_tables k ToClient).new_server_id id
+
+-- the id that a delete_id after them takes back, if it is not deserved
+abbrev pub taken_back : List MessageChanges → ℕ → Option ℕ
+taken_back done id = undeserved_id sample_tables (known_behind done) (did_delete id)

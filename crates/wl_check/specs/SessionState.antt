@@ -1,6 +1,6 @@
 -- How far a session was judged, message by message and piece by piece.
 use Rattle.std.specs.Prelude.{◌≡◌, ℕ, ◌+◌, ◌*◌, ◌^◌, ◌<◌, ◌≤◌, Bool, true, false, suc, List}
-use Rattle.std.specs.Prelude.{◌++◌, map, length, drop, take, slice_get, Some}
+use Rattle.std.specs.Prelude.{◌++◌, map, length, drop, take, slice_get, Some, None}
 use Rattle.std.specs.declared.result.Result.TheVariants.{Ok, Err}
 use Rattle.wl_sigs.specs.Tables.{Interface}
 use Rattle.wl_message.specs.Cut.{is_size}
@@ -19,6 +19,7 @@ use Rattle.wl_check.specs.declared.progress.Progress.{Progress}
 use Rattle.wl_check.specs.declared.progress.Tally.{Tally}
 use Rattle.wl_check.specs.declared.scanning.Scanner.{Scanner}
 use Rattle.wl_check.specs.Changes.{Call}
+use Rattle.wl_check.specs.Deserved.{TellsUndeserved}
 use Rattle.wl_check.specs.Held.{Held}
 use Rattle.wl_check.specs.Merged.{Cutting, cutting, cut, framed, merged, same_direction}
 use Rattle.wl_check.specs.Merged.{stream_of, piece_tokens}
@@ -88,6 +89,7 @@ pub record IsJudged {A : Type 0} (tables : List Interface) (s : Session)
     : Type 0 where
   pub at : IsAt tables s c.count c.progress
   pub status : StatusIs tables s c.count c.status
+  pub undeserved : TellsUndeserved tables s c.count c.undeserved
   pub within : c.count ≤ length s.frames
   pub few : c.count * 8 ≤ c.progress.to_server.end + c.progress.to_client.end
   pub small_to_server : c.progress.to_server.end < 2 ^ 64
@@ -102,6 +104,7 @@ pub record IsUnread {A : Type 0} (c : SessionState A) : Type 0 where
   pub taken_to_client : c.progress.known.taken_to_client ≡ 0
   pub count : c.count ≡ 0
   pub status : c.status ≡ Open
+  pub undeserved : c.undeserved ≡ None
 
 -- This frame is the session's next, and these are the bytes of its direction from there on.
 pub record Comes {A : Type 0} (limit : ℕ) (tables : List Interface) (s : Session)
@@ -217,6 +220,7 @@ numbers_in c = record {
   to_client = c.progress.to_client;
   count = c.count;
   status = c.status;
+  undeserved = c.undeserved;
 }
 
 -- the state with what is held, and the numbers, replaced by these
@@ -235,4 +239,5 @@ gone_back held n c = record c {
   };
   count = n.count;
   status = n.status;
+  undeserved = n.undeserved;
 }

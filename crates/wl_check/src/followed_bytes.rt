@@ -22,13 +22,14 @@ pub(crate) struct FollowedStream<A: Allocator = Global> {
 }
 
 impl<A: Allocator> Model for FollowedStream<A> {
-    ghost use Rattle.std.specs.Prelude.{drop};
+    ghost use Rattle.std.specs.Prelude.{drop, length};
     ghost use Rattle.wl_check.specs.FollowedBytes.{FollowedBytes};
 
     ghost Value = { FollowedBytes };
 
     ghost view = { λ s. record {
       waiting = drop s.gone s.bytes;
+      kept = length s.bytes;
       index = s.index;
       end = s.end;
       is_lost = s.is_lost;
@@ -80,9 +81,10 @@ impl<A: Allocator> FollowedStream<A> {
             return Ok(());
         }
         let gone = self.gone.min(self.bytes.len());
+        self.bytes.append(bytes)?;
         self.bytes.keep_from(gone);
         self.gone = 0;
-        self.bytes.append(bytes)
+        Ok(())
     }
 
     /// Passes over the next message, which has this size, or over all bytes if the size is bad.

@@ -99,6 +99,7 @@ pub(crate) fn empty_stream<A: Allocator>(alloc: A) -> Stream<A>
 
 /// Reads up to the end of the next piece of a text, and appends its bytes to those that wait in its
 /// direction.
+#[inline(always)]
 pub(crate) fn append_next<A: Allocator>(
     reader: &mut PieceReader<'_>,
     to_server: &mut WaitingBytes<A>,

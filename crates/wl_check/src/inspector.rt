@@ -4,6 +4,7 @@ ghost use Rattle.wl_recording.specs.Piece.{Piece};
 ghost use Rattle.wl_sigs.specs.Tables.{Interface};
 ghost use Rattle.wl_check.specs.SessionState.{AfterPieces};
 
+use crate::deserved::UndeservedDelete;
 use crate::frames::LentPiece;
 use crate::overwritten::UndoList;
 use crate::scanning::Scanner;
@@ -92,6 +93,7 @@ impl<'t, A: Allocator + Clone> Inspector<'t, A> {
 }
 
 impl<'t, A: Allocator> Inspector<'t, A> {
+    ghost use Rattle.wl_check.specs.Deserved.{TellsUndeserved};
     ghost use Rattle.wl_check.specs.Inspected.{printed, HasPassed};
     ghost use Rattle.wl_check.specs.Session.{messages, session_of, IsVerdictOf};
     ghost use Rattle.wl_check.specs.Trace.{lasting};
@@ -111,6 +113,16 @@ impl<'t, A: Allocator> Inspector<'t, A> {
             → result ≡ lasting (messages tables (session_of limit ps)) }
     {
         self.scanner.state.count
+    }
+
+    /// The first judged delete_id that nothing asked for. If there is one, a request that breaks a
+    /// rule after it may be the server's fault.
+    pub fn undeserved(&self) -> Option<UndeservedDelete>
+        ensures { (limit : ℕ) (tables : List Interface) (ps : List Piece)
+            → HasPassed limit tables ps self.now → TellsUndeserved tables (session_of limit ps)
+            (lasting (messages tables (session_of limit ps))) result }
+    {
+        self.scanner.state.undeserved
     }
 
     /// The verdict on the session of the pieces so far.

@@ -128,7 +128,7 @@ impl<A: Allocator> KnownState<A> {
     }
 
     /// The object held with this id.
-    fn object(&self, id: u32) -> Option<Entry>
+    pub(crate) fn object(&self, id: u32) -> Option<Entry>
         ensures { result ≡ (known_in self.now).object id }
     {
         self.held.object(id)

@@ -1,12 +1,14 @@
 //! Laws of sessions. Each is the contract of a function that does nothing: it says in words about
 //! places what the definitions compute.
 ghost use Rattle.std.specs.Prelude.{◌≡◌, ◌↔◌, ◌<◌, ◌≤◌, ◌+◌, ◌++◌, ℕ, List, Some, true, false};
+ghost use Rattle.std.specs.Prelude.{suc, None};
 ghost use Rattle.std.specs.Prelude.{length, drop, map};
 ghost use Rattle.wl_sigs.specs.Tables.{Interface};
 ghost use Rattle.wl_message.specs.Cut.{messages_in_stream, rest_of};
 ghost use Rattle.wl_object_map.specs.Ranges.{first_server_id, is_of_server};
 ghost use Rattle.wl_check.specs.Merged.{cut, stream_of};
-ghost use Rattle.wl_check.specs.Places.{holder, is_ending, used, server_used};
+ghost use Rattle.wl_check.specs.Deserved.{Deserved, undeserved_at};
+ghost use Rattle.wl_check.specs.Places.{holder, is_ending, known, used, server_used};
 ghost use Rattle.wl_check.specs.Places.{advertised_version};
 ghost use Rattle.wl_check.specs.Session.{IsVerdictOf, AreWithin, Session, changes_at, examined};
 ghost use Rattle.wl_check.specs.Session.{messages, session_of};
@@ -91,6 +93,15 @@ pub fn one_event_advertises_a_version()
         → (version ≤ advertised_version (changes_at tables (messages tables session)) place name
         iface)
         ↔ WasAdvertised (changes_at tables (messages tables session)) place name iface version }
+{}
+
+/// Each delete_id is deserved or not: it is if its id names an object that is ending, or one that
+/// an event of its interface ends.
+pub fn a_delete_id_is_deserved()
+    ensures { (tables : List Interface) (session : Session) (k : ℕ)
+        → (undeserved_at tables session k ≡ None)
+        ↔ ((id : ℕ) → (changes_at tables (messages tables session) (suc k)).deleted ≡ Some id
+        → Deserved tables (known (changes_at tables (messages tables session)) (suc k)) id) }
 {}
 
 /// A message is within the bytes of its direction; if its size is bad, its header is.

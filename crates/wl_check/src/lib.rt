@@ -7,6 +7,7 @@
 
 mod changes;
 mod checking;
+mod deserved;
 mod followed_bytes;
 mod following;
 mod frames;
@@ -15,6 +16,7 @@ mod inspector;
 mod judging;
 mod known;
 pub mod laws;
+mod line_judge;
 mod overwritten;
 mod progress;
 pub mod samples;
@@ -25,7 +27,9 @@ mod verdict;
 
 pub use changes::{AdvertisedGlobal, MessageChanges};
 pub use checking::{check, check_text};
+pub use deserved::UndeservedDelete;
 pub use following::{Followed, Follower, NO_INTERFACE};
 pub use inspector::Inspector;
+pub use line_judge::LineJudge;
 pub use tracing::{trace, trace_text};
 pub use verdict::{Verdict, write_verdict};

@@ -11,7 +11,8 @@ ghost use Rattle.wl_check.specs.Samples.{a_buffer, a_mode, an_offer, buffer_plac
 ghost use Rattle.wl_check.specs.Samples.{did_delete, did_destroy, did_make, did_nothing, first_id};
 ghost use Rattle.wl_check.specs.Samples.{its_destruction, line_behind, mode, named_behind};
 ghost use Rattle.wl_check.specs.Samples.{new_server_id, offer_place, own_buffer, spelled_message};
-ghost use Rattle.wl_check.specs.Samples.{with_device, with_params};
+ghost use Rattle.wl_check.specs.Samples.{taken_back, with_device, with_params};
+ghost use Rattle.wl_sigs.specs.Fixed.{callback};
 
 /// The bytes of an event that makes an offer, of the request that destroys it, and of an event that
 /// shows it; then an event with the same bytes makes the next offer, with the same id.
@@ -103,6 +104,23 @@ pub fn buffers_made_both_ways()
     ensures kept { named_behind (with_params ++ own_buffer ∷ a_buffer ∷ did_destroy ToServer 4
         ∷ its_destruction ∷ did_delete 4 ∷ did_delete first_id ∷ []) first_id
         ≡ Some (record { birth = 4; iface = buffer_place; version = 1; state = Zombie }) }
+{}
+
+/// A delete_id of a live buffer, of the live offer of a server, of wl_display, and of an id without
+/// an object: the id that it takes back undeserved. One of a destroyed buffer, of an ended offer,
+/// and of a callback, which an event ends: none.
+pub fn delete_ids_that_nothing_asked_for()
+    ensures live { taken_back (with_params ++ own_buffer ∷ []) 4 ≡ Some 4 }
+    ensures of_server { taken_back (with_device 3 ++ an_offer ∷ []) first_id ≡ Some first_id }
+    ensures display { taken_back [] 1 ≡ Some 1 }
+    ensures without_object { taken_back [] 2 ≡ Some 2 }
+    ensures freed { taken_back
+        (with_params ++ own_buffer ∷ did_destroy ToServer 4 ∷ did_delete 4 ∷ []) 4
+        ≡ Some 4 }
+    ensures destroyed { taken_back (with_params ++ own_buffer ∷ did_destroy ToServer 4 ∷ []) 4
+        ≡ None }
+    ensures ended { taken_back (with_device 3 ++ an_offer ∷ its_destruction ∷ []) first_id ≡ None }
+    ensures by_event { taken_back (did_make ToServer 2 callback 1 ∷ []) 2 ≡ None }
 {}
 
 /// F6: an id below the server's range, 0, one that is neither used nor next, and that of an open

@@ -185,6 +185,7 @@ fn judge_piece<A: Allocator + Clone>(
 
 /// The same if the piece's bytes were already appended to those that wait. Nothing is restored, and
 /// the room of judged bytes is kept for the next piece.
+#[inline(always)]
 fn judge_waiting<A: Allocator + Clone>(
     state: &mut SessionState<A>,
     stream: &mut Stream<A>,
@@ -291,7 +292,8 @@ impl<A: Allocator + Clone> Scanner<A> {
 
     /// Judges the messages that a piece completes, whose bytes were appended to the stream of its
     /// direction, and writes the wanted output for them.
-    fn judge_appended(
+    #[inline(always)]
+    pub(crate) fn judge_appended(
         &mut self,
         piece: &Appended,
         protocol: &Protocol<'_>,

@@ -9,6 +9,7 @@ ghost use Rattle.wl_check.specs.SessionState.{gone_back, numbers_in, IsJudged, O
 ghost use Rattle.wl_check.specs.Printed.{PrintsOn};
 ghost use Rattle.wl_check.specs.Session.{Session};
 
+use crate::deserved::{UndeservedDelete, note_undeserved, undeserved_id};
 use crate::frames::{FramedMessage, size_in_front};
 use crate::judging::judge;
 use crate::overwritten::UndoList;
@@ -46,6 +47,8 @@ pub(crate) struct SessionState<A: Allocator = Global> {
     /// How many such messages there are.
     pub count: u64,
     pub status: SessionStatus,
+    /// The first delete_id among them that is not deserved.
+    pub undeserved: Option<UndeservedDelete>,
 }
 
 /// The tables and the limit by which messages are judged.
@@ -84,6 +87,7 @@ pub(crate) struct Numbers {
     to_client: Tally,
     count: u64,
     status: SessionStatus,
+    undeserved: Option<UndeservedDelete>,
 }
 
 impl<A: Allocator + Clone> SessionState<A> {
@@ -96,6 +100,7 @@ impl<A: Allocator + Clone> SessionState<A> {
             progress: Progress::new(alloc, tables)?,
             count: 0,
             status: SessionStatus::Open,
+            undeserved: None,
         })
     }
 
@@ -185,8 +190,11 @@ impl<A: Allocator + Clone> SessionState<A> {
             }
         };
         let place = self.count + 1;
+        let known = &self.progress.known;
+        let taken_back = undeserved_id(protocol.tables, known, &changes);
         self.progress.advance(place, frame, &changes, undo)?;
         self.count = place;
+        note_undeserved(&mut self.undeserved, place, taken_back);
         if changes.is_error {
             self.status = SessionStatus::Ended;
         }
@@ -223,6 +231,7 @@ impl<A: Allocator> SessionState<A> {
             to_client: *to_client,
             count: self.count,
             status: self.status,
+            undeserved: self.undeserved,
         }
     }
 
@@ -241,5 +250,6 @@ impl<A: Allocator> SessionState<A> {
         self.progress.to_client = numbers.to_client;
         self.count = numbers.count;
         self.status = numbers.status;
+        self.undeserved = numbers.undeserved;
     }
 }

@@ -45,6 +45,7 @@ pub fn read_piece<A: Allocator>(alloc: A, line: &[u8]) -> Result<Option<Passed<A
 
 /// Appends the bytes of a line's piece to those of its direction, if the line is a piece. If it is
 /// not, nothing is appended or allocated; without memory, nothing is appended.
+#[inline(always)]
 pub fn append_piece<A: Allocator>(
     line: &[u8],
     to_server: &mut Vec<u8, A>,

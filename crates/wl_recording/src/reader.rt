@@ -66,6 +66,7 @@ impl<'a> PieceReader<'a> {
     /// `BadLine` is returned at the first line that a recording cannot have, and `Memory` only at a
     /// line that is a piece: any other line allocates nothing. Either passes over the line, and
     /// leaves the bytes of both directions unchanged.
+    #[inline(always)]
     pub fn append_next<A: Allocator>(
         &mut self,
         to_server: &mut Vec<u8, A>,

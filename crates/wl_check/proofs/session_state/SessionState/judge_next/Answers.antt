@@ -1,9 +1,10 @@
-use Rattle.std.proofs.Common.{◌*◌, ◌^◌, ◌<◌, ◌≤◌, refl, sym, ◌∙◌, arith}
+use Rattle.std.proofs.Common.{◌+◌, ◌*◌, ◌^◌, ◌<◌, ◌≤◌, refl, sym, ap, ◌∙◌, arith}
 use Rattle.std.proofs.Math.Logic.{∥∥₁_elim}
 use Rattle.std.specs.Coded.{le_prop}
 use Rattle.std.specs.declared.result.Result.TheVariants.{Ok}
 use Rattle.wl_message.specs.Cut.{is_size}
 use Rattle.wl_recording.specs.declared.piece.Direction.TheVariants.{ToServer, ToClient}
+use Rattle.wl_check.specs.Deserved.{first_with}
 use Rattle.wl_check.specs.Rules.{judged_front}
 use Rattle.wl_check.specs.Seen.{known_in}
 use Rattle.wl_check.proofs.SessionByMessage.{count_few, few_judged, judged_broken, judged_end, judged_on}
@@ -123,6 +124,8 @@ returns-then-changes-clause-judged g c s h =
       few_to_server = a.few_to_server;
       few_to_client = a.few_to_client;
       count = refl;
+      undeserved = c.note_undeserved.ensures
+          ∙ ap (first_with c.args.self.now.undeserved (c.args.self.now.count + 1)) c.undeserved_id-taken_back.ensures;
     })
     c.if-changes.true refl
 
@@ -164,6 +167,8 @@ returns-else-changes-clause-judged g c s h =
       few_to_server = a.few_to_server;
       few_to_client = a.few_to_client;
       count = refl;
+      undeserved = c.note_undeserved.ensures
+          ∙ ap (first_with c.args.self.now.undeserved (c.args.self.now.count + 1)) c.undeserved_id-taken_back.ensures;
     })
     c.if-changes.false refl
 
