@@ -1,6 +1,7 @@
 -- The command line of the program, and what its words ask for.
 use Rattle.std.specs.Prelude.{◌≡◌, ◌≢◌, ◌⊎◌, ◌<◌, ◌^◌, ℕ, List, [], ◌∷◌, Option, Some, None, String}
-use Rattle.std.specs.Prelude.{codes, map, true, pos, string_bytes, IsErrAnd, Vec}
+use Rattle.std.specs.Prelude.{Bool, codes, map, true, false, pos, string_bytes, IsErrAnd, Vec}
+use Rattle.std.specs.declared.alloc.Global.{Global}
 use Rattle.std.specs.declared.result.Result.{Result}
 use Rattle.std.specs.declared.result.Result.TheVariants.{Ok, Err}
 use Rattle.std.specs.Cow.{cow_str_bytes}
@@ -9,7 +10,7 @@ use Rattle.clap.specs.Words.{App, IsAmong, Row, Rule, Shape, Text, all_of, fault
 use Rattle.clap.specs.Words.{kind_of}
 use Rattle.clap.specs.Words.{new_app, new_rule, one_of, subcommand_of, with_rule, with_subcommand}
 use Rattle.clap.specs.Simple.{on_top}
-use Rattle.clap.specs.declared.builder.action.ArgAction.TheVariants.{Append}
+use Rattle.clap.specs.declared.builder.action.ArgAction.TheVariants.{Append, SetTrue}
 use Rattle.clap.specs.declared.builder.value_parser.ValueParser.TheVariants as parser
 use Rattle.clap.specs.declared.error.Error.{Error}
 use Rattle.clap.specs.declared.error.kind.ErrorKind.{ErrorKind}
@@ -17,7 +18,7 @@ use Rattle.clap.specs.declared.error.kind.ErrorKind.TheVariants.{DisplayHelp, Di
 use Rattle.clap.specs.declared.error.kind.ErrorKind.TheVariants.{OutOfMemory}
 use Rattle.wl_message.specs.declared.limit.Limit.{Limit}
 use Rattle.program_arguments.specs.declared.job.Job.{Job}
-use Rattle.program_arguments.specs.declared.job.Job.TheVariants.{Trace, Check, Demo, Socket}
+use Rattle.program_arguments.specs.declared.job.Job.TheVariants.{Trace, Check, Stream, Demo, Socket}
 use Rattle.program_arguments.specs.declared.job.Stop.{Stop}
 
 -- `--tables FILE`, which is optional
@@ -35,6 +36,13 @@ limit_argument = record (new_rule (codes "limit")) {
   value_names = 1;
   defaults = codes "4096" ∷ [];
   parser = Some (parser.Signed (pos 4096) (pos 65532));
+}
+
+-- `--stream`, which has no value
+abbrev pub stream_argument : Rule
+stream_argument = record (new_rule (codes "stream")) {
+  long = Some (codes "stream");
+  action = Some SetTrue;
 }
 
 -- the argument that names a recording: one word, which is required
@@ -57,7 +65,13 @@ piece_argument = record (new_rule (codes "piece")) {
 -- a command that reads a recording
 abbrev pub recording_command : Text → App
 recording_command name =
-    with_rule (with_rule (with_rule (new_app name) tables_argument) limit_argument) file_argument
+    with_rule (with_rule (with_rule (with_rule (new_app name) tables_argument) limit_argument)
+    stream_argument) file_argument
+
+-- the name of the command that reads a recording and prints its lines, or only the verdict
+abbrev pub reading_name : Bool → Text
+reading_name true = codes "trace"
+reading_name false = codes "check"
 
 -- the commands `trace`, `check`, `demo` and `socket`
 abbrev pub trace_command : App
@@ -121,17 +135,34 @@ NamesFiles arguments tables file =
     (given_for (codes "tables") arguments ≡ map string_bytes tables.items)
     × (first_of (codes "FILE") arguments ≡ Some (string_bytes file))
 
+-- whether `--stream` was given
+abbrev pub IsStreamed : List Row → Bool → Type 0
+IsStreamed arguments true = first_of (codes "stream") arguments ≡ Some (codes "true")
+IsStreamed arguments false = first_of (codes "stream") arguments ≢ Some (codes "true")
+
 -- What a command and its arguments ask for. A file or a path has the name of the word that was
 -- given for it, unchanged; a number is the one that was given, and a limit has that number.
 abbrev pub IsGiven : Text → List Row → Job → Type 0
 IsGiven name arguments (Trace tables limit file) =
     (name ≡ codes "trace") × NamesFiles arguments tables file × IsLimitOf arguments (Some limit)
+    × IsStreamed arguments false
 IsGiven name arguments (Check tables limit file) =
     (name ≡ codes "check") × NamesFiles arguments tables file × IsLimitOf arguments (Some limit)
+    × IsStreamed arguments false
+IsGiven name arguments (Stream prints_lines tables limit file) =
+    (name ≡ reading_name prints_lines) × NamesFiles arguments tables file
+    × IsLimitOf arguments (Some limit) × IsStreamed arguments true
 IsGiven name arguments (Demo piece) =
     (name ≡ codes "demo") × IsNumber (codes "piece") arguments (Some piece)
 IsGiven name arguments (Socket path) =
     (name ≡ codes "socket") × (first_of (codes "PATH") arguments ≡ Some (string_bytes path))
+
+-- the job of a command that reads a recording
+abbrev pub IsReading : Bool → Bool → Vec (String Global) Global → Limit → String Global → Job
+    → Type 0
+IsReading prints_lines true tables limit file job = job ≡ Stream prints_lines tables limit file
+IsReading true false tables limit file job = job ≡ Trace tables limit file
+IsReading false false tables limit file job = job ≡ Check tables limit file
 
 -- the job that a command and its arguments ask for, or none if they ask for none
 abbrev pub IsJobFor : Text → List Row → Option Job → Type 0

@@ -8,10 +8,12 @@ ghost use Rattle.std.specs.Cow.{cow_str_bytes};
 ghost use Rattle.program_arguments.specs.Asking.{Asks, AsksHelp, HasFault, IsAnswer, IsJobFor};
 ghost use Rattle.program_arguments.specs.Asking.{IsLimitOf};
 ghost use Rattle.program_arguments.specs.Asking.{IsNumber, IsOutOfMemory, NamesJob, NamesNone};
+ghost use Rattle.program_arguments.specs.Asking.{IsReading, IsStreamed, reading_name};
 ghost use Rattle.program_arguments.specs.Asking.{Says, Stops, StopsFor, StopsWith, check_command};
 ghost use Rattle.program_arguments.specs.Asking.{command_line, demo_command, file_argument};
 ghost use Rattle.program_arguments.specs.Asking.{given_for, limit_argument, path_argument};
 ghost use Rattle.program_arguments.specs.Asking.{piece_argument, recording_command};
+ghost use Rattle.program_arguments.specs.Asking.{stream_argument};
 ghost use Rattle.program_arguments.specs.Asking.{socket_command, tables_argument, texts_of};
 ghost use Rattle.program_arguments.specs.Asking.{trace_command};
 
@@ -50,6 +52,14 @@ pub enum Job {
     /// Print whether the recording in the file of this name is lawful, with the same tables and
     /// limit.
     Check {
+        tables: Vec<String>,
+        limit: Limit,
+        file: String,
+    },
+    /// Print the same as `Trace` (if `prints_lines`) or `Check` of a recording of any length, which
+    /// is judged while it is read. The name `-` is that of standard input.
+    Stream {
+        prints_lines: bool,
         tables: Vec<String>,
         limit: Limit,
         file: String,
@@ -132,6 +142,7 @@ fn of_recording<'a>(alloc: Global, name: &'a str, about: &'a str) -> Result<Comm
         .about(about)
         .arg(tables(alloc))?
         .arg(limit(alloc))?
+        .arg(stream(alloc))?
         .arg(file(alloc))
 }
 
@@ -174,6 +185,17 @@ fn limit<'a>(alloc: Global) -> Arg<'a>
         .value_parser(clap::value_parser!(u32).range(4096..=65532))
         .default_value(USUAL_LIMIT)
         .help("The most bytes of a message, a multiple of 4 from 4096 to 65532")
+}
+
+/// The switch for a recording of any length.
+fn stream<'a>(alloc: Global) -> Arg<'a>
+    ensures rule { rule_of result ≡ stream_argument }
+    ensures local { result.global ≡ false }
+{
+    Arg::new(alloc, "stream")
+        .long("stream")
+        .action(ArgAction::SetTrue)
+        .help("Judge a recording of any length while it is read; FILE may be - for standard input")
 }
 
 /// The argument that names a recording.
@@ -263,33 +285,74 @@ fn limit_of(matches: &ArgMatches<'_>) -> Option<Limit>
     }
 }
 
+/// Whether a command was given `--stream`.
+fn is_streamed(matches: &ArgMatches<'_>) -> bool
+    ensures { IsStreamed (rows_of (found_of matches.now)) result }
+{
+    match matches.get_str("stream") {
+        Some(word) => word == "true",
+        None => false,
+    }
+}
+
+/// The job of a command that reads a recording.
+fn reading_job(
+    prints_lines: bool,
+    is_streamed: bool,
+    tables: Vec<String>,
+    limit: Limit,
+    file: String,
+) -> Job
+    ensures { IsReading prints_lines is_streamed tables limit file result }
+{
+    if is_streamed {
+        return Job::Stream {
+            prints_lines,
+            tables,
+            limit,
+            file,
+        };
+    }
+    if prints_lines {
+        Job::Trace {
+            tables,
+            limit,
+            file,
+        }
+    } else {
+        Job::Check {
+            tables,
+            limit,
+            file,
+        }
+    }
+}
+
+/// The job that a command asks for that reads a recording, or none.
+fn reading(
+    alloc: Global,
+    given: &ArgMatches<'_>,
+    prints_lines: bool,
+) -> Result<Option<Job>, AllocError>
+    ensures { IfOk result (IsJobFor (reading_name prints_lines) (rows_of (found_of given.now))) }
+{
+    let Some(limit) = limit_of(given) else {
+        return Ok(None);
+    };
+    let Some(file) = word_of(alloc, given, "FILE")? else {
+        return Ok(None);
+    };
+    let tables = words_of(alloc, given, "tables")?;
+    Ok(Some(reading_job(prints_lines, is_streamed(given), tables, limit, file)))
+}
+
 /// The job that a command with this name asks for with its arguments, or none.
 fn named(alloc: Global, name: &str, given: &ArgMatches<'_>) -> Result<Option<Job>, AllocError>
     ensures { IfOk result (IsJobFor name.now (rows_of (found_of given.now))) }
 {
     match name {
-        "trace" => {
-            let Some(limit) = limit_of(given) else {
-                return Ok(None);
-            };
-            let tables = words_of(alloc, given, "tables")?;
-            Ok(word_of(alloc, given, "FILE")?.map(|file| Job::Trace {
-                tables,
-                limit,
-                file,
-            }))
-        }
-        "check" => {
-            let Some(limit) = limit_of(given) else {
-                return Ok(None);
-            };
-            let tables = words_of(alloc, given, "tables")?;
-            Ok(word_of(alloc, given, "FILE")?.map(|file| Job::Check {
-                tables,
-                limit,
-                file,
-            }))
-        }
+        "trace" => reading(alloc, given, true),
+        "check" => reading(alloc, given, false),
         "demo" => Ok(number_of(given, "piece").map(|piece| Job::Demo { piece })),
         "socket" => Ok(word_of(alloc, given, "PATH")?.map(|path| Job::Socket { path })),
         _ => Ok(None),

@@ -1,4 +1,4 @@
 mod FileLines
-mod Fronts
 mod Opening
+mod StreamEnds
 mod Texts

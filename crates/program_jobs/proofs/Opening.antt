@@ -7,7 +7,7 @@ use Rattle.std.specs.IoError.{error_kind}
 use Rattle.std.specs.declared.io.Error.{Error}
 use Rattle.std.proofs.lemmas.List.{get_or-map, length-map, map-append, map_more}
 use Rattle.program_jobs.specs.declared.failure.Failure.{Failure}
-use Rattle.program_jobs.specs.declared.failure.Failure.TheVariants.{CannotRead, TooLong, BadLine}
+use Rattle.program_jobs.specs.declared.failure.Failure.TheVariants.{CannotRead, TooLong, LongRecording, BadLine}
 use Rattle.program_jobs.specs.declared.failure.Failure.TheVariants.{BadTablesLine, BreaksRule}
 use Rattle.program_jobs.specs.declared.failure.Failure.TheVariants.{CannotWrite, SocketFailed}
 use Rattle.program_jobs.specs.declared.failure.Failure.TheVariants.{Memory}
@@ -53,6 +53,7 @@ fails_for calls names k word name why (CannotRead named) lt at is gives said = (
 )
 fails_for calls names k word name why Memory lt at is gives said = tt
 fails_for calls names k word name why TooLong lt at is gives said = absurd said
+fails_for calls names k word name why LongRecording lt at is gives said = absurd said
 fails_for calls names k word name why (BadLine line) lt at is gives said = absurd said
 fails_for calls names k word name why (BadTablesLine file line) lt at is gives said = absurd said
 fails_for calls names k word name why (BreaksRule file line rule) lt at is gives said = absurd said

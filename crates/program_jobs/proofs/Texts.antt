@@ -19,7 +19,7 @@ use Rattle.wl_sigs.specs.Tables.{Interface}
 use Rattle.wl_sigs.specs.Core.{core_tables}
 use Rattle.wl_sigs.specs.Outcome.{outcome}
 use Rattle.program_jobs.specs.declared.failure.Failure.{Failure}
-use Rattle.program_jobs.specs.declared.failure.Failure.TheVariants.{CannotRead, TooLong, BadLine}
+use Rattle.program_jobs.specs.declared.failure.Failure.TheVariants.{CannotRead, TooLong, LongRecording, BadLine}
 use Rattle.program_jobs.specs.declared.failure.Failure.TheVariants.{BadTablesLine, BreaksRule}
 use Rattle.program_jobs.specs.declared.failure.Failure.TheVariants.{CannotWrite, SocketFailed}
 use Rattle.program_jobs.specs.declared.failure.Failure.TheVariants.{Memory}
@@ -73,18 +73,21 @@ gives_none given sources texts core text r (faults.BadTable line rule) (BreaksRu
 gives_none given sources texts core text r fault Memory read c t is exact said = tt
 gives_none given sources texts core text r (faults.BadLine line) (CannotRead name) read c t is exact said = absurd said
 gives_none given sources texts core text r (faults.BadLine line) TooLong read c t is exact said = absurd said
+gives_none given sources texts core text r (faults.BadLine line) LongRecording read c t is exact said = absurd said
 gives_none given sources texts core text r (faults.BadLine line) (BadLine n) read c t is exact said = absurd said
 gives_none given sources texts core text r (faults.BadLine line) (BreaksRule file own named) read c t is exact said = absurd said
 gives_none given sources texts core text r (faults.BadLine line) CannotWrite read c t is exact said = absurd said
 gives_none given sources texts core text r (faults.BadLine line) SocketFailed read c t is exact said = absurd said
 gives_none given sources texts core text r (faults.BadTable line rule) (CannotRead name) read c t is exact said = absurd said
 gives_none given sources texts core text r (faults.BadTable line rule) TooLong read c t is exact said = absurd said
+gives_none given sources texts core text r (faults.BadTable line rule) LongRecording read c t is exact said = absurd said
 gives_none given sources texts core text r (faults.BadTable line rule) (BadLine n) read c t is exact said = absurd said
 gives_none given sources texts core text r (faults.BadTable line rule) (BadTablesLine file own) read c t is exact said = absurd said
 gives_none given sources texts core text r (faults.BadTable line rule) CannotWrite read c t is exact said = absurd said
 gives_none given sources texts core text r (faults.BadTable line rule) SocketFailed read c t is exact said = absurd said
 gives_none given sources texts core text r faults.Memory (CannotRead name) read c t is exact said = absurd said
 gives_none given sources texts core text r faults.Memory TooLong read c t is exact said = absurd said
+gives_none given sources texts core text r faults.Memory LongRecording read c t is exact said = absurd said
 gives_none given sources texts core text r faults.Memory (BadLine n) read c t is exact said = absurd said
 gives_none given sources texts core text r faults.Memory (BadTablesLine file own) read c t is exact said = absurd said
 gives_none given sources texts core text r faults.Memory (BreaksRule file own named) read c t is exact said = absurd said
@@ -96,6 +99,7 @@ pub unread : (given : List (List ℕ)) (sources : List Source) (source : Source)
     → Contains sources source → IsReadFailure source.name source.known why → IsTablesRefusal given sources why
 unread given sources source (CannotRead name) one is = (source, one, sym is)
 unread given sources source TooLong one is = (source, one, is)
+unread given sources source LongRecording one is = absurd is
 unread given sources source Memory one is = tt
 unread given sources source (BadLine n) one is = absurd is
 unread given sources source (BadTablesLine file own) one is = absurd is

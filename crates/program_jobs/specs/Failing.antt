@@ -15,10 +15,13 @@ use Rattle.wl_text.specs.declared.fault.TableFault.{TableFault}
 use Rattle.wl_text.specs.declared.fault.TableFault.TheVariants as faults
 use Rattle.program_socket.specs.declared.error.SocketError.{SocketError}
 use Rattle.program_socket.specs.declared.error.SocketError.TheVariants as sockets
+use Rattle.program_stream.specs.declared.error.StreamError.{StreamError}
+use Rattle.program_stream.specs.declared.error.StreamError.TheVariants as streams
 use Rattle.program_jobs.specs.Texts.{NamedText, said_line}
 use Rattle.program_jobs.specs.declared.failure.Failure.{Failure}
 use Rattle.program_jobs.specs.declared.failure.Failure.TheVariants.{CannotRead, TooLong, BadLine}
-use Rattle.program_jobs.specs.declared.failure.Failure.TheVariants.{BadTablesLine, BreaksRule}
+use Rattle.program_jobs.specs.declared.failure.Failure.TheVariants.{LongRecording, BadTablesLine}
+use Rattle.program_jobs.specs.declared.failure.Failure.TheVariants.{BreaksRule}
 use Rattle.program_jobs.specs.declared.failure.Failure.TheVariants.{CannotWrite, SocketFailed}
 use Rattle.program_jobs.specs.declared.failure.Failure.TheVariants.{Memory}
 
@@ -51,6 +54,7 @@ IsSocketFailure kind SocketFailed = kind ≢ OutOfMemory
 IsSocketFailure kind Memory = kind ≡ OutOfMemory
 IsSocketFailure kind (CannotRead name) = ⊥
 IsSocketFailure kind TooLong = ⊥
+IsSocketFailure kind LongRecording = ⊥
 IsSocketFailure kind (BadLine line) = ⊥
 IsSocketFailure kind (BadTablesLine file line) = ⊥
 IsSocketFailure kind (BreaksRule file line rule) = ⊥
@@ -68,6 +72,7 @@ abbrev pub status_of : Failure → ℕ
 status_of Memory = 4
 status_of (CannotRead name) = 3
 status_of TooLong = 3
+status_of LongRecording = 3
 status_of (BadLine line) = 3
 status_of (BadTablesLine file line) = 3
 status_of (BreaksRule file line rule) = 3
@@ -78,6 +83,8 @@ status_of SocketFailed = 3
 abbrev pub failure_text : Failure → List ℕ
 failure_text (CannotRead name) = codes "cannot read " ++ name.now
 failure_text TooLong = codes "file too long"
+failure_text LongRecording =
+    codes "file too long\nwaywire: " ++ codes "for a recording of any length, see --stream"
 failure_text (BadLine line) = codes "line " ++ decimal line ++ codes ": bad line"
 failure_text (BadTablesLine None line) = codes "tables line " ++ decimal line ++ codes ": bad line"
 failure_text (BadTablesLine (Some file) line) =
@@ -99,6 +106,7 @@ failure_line failure = codes "waywire: " ++ failure_text failure ++ codes "\n"
 abbrev pub IsReadFailure : List ℕ → Option (List ℕ) → Failure → Type 0
 IsReadFailure file known (CannotRead name) = name.now ≡ file
 IsReadFailure file known TooLong = IfSome known (λ all. 16777216 < length all)
+IsReadFailure file known LongRecording = ⊥
 IsReadFailure file known Memory = Unit {0}
 IsReadFailure file known (BadLine line) = ⊥
 IsReadFailure file known (BadTablesLine other line) = ⊥
@@ -106,12 +114,33 @@ IsReadFailure file known (BreaksRule other line rule) = ⊥
 IsReadFailure file known CannotWrite = ⊥
 IsReadFailure file known SocketFailed = ⊥
 
+-- a failure to read the recording of this name
+abbrev pub IsRecordingFailure : List ℕ → Option (List ℕ) → Failure → Type 0
+IsRecordingFailure file known (CannotRead name) = name.now ≡ file
+IsRecordingFailure file known LongRecording = IfSome known (λ all. 16777216 < length all)
+IsRecordingFailure file known Memory = Unit {0}
+IsRecordingFailure file known TooLong = ⊥
+IsRecordingFailure file known (BadLine line) = ⊥
+IsRecordingFailure file known (BadTablesLine other line) = ⊥
+IsRecordingFailure file known (BreaksRule other line rule) = ⊥
+IsRecordingFailure file known CannotWrite = ⊥
+IsRecordingFailure file known SocketFailed = ⊥
+
+-- why a stream ends early
+abbrev pub IsStreamFailure : List ℕ → StreamError → Failure → Type 0
+IsStreamFailure file streams.CannotRead (CannotRead name) = name.now ≡ file
+IsStreamFailure file (streams.BadLine line) (BadLine n) = n ≡ line
+IsStreamFailure file streams.CannotWrite CannotWrite = Unit {0}
+IsStreamFailure file streams.Memory Memory = Unit {0}
+IsStreamFailure file _ _ = ⊥
+
 -- why a text that was read has no output
 abbrev pub IsRefusal : List ℕ → Failure → Type 0
 IsRefusal text (BadLine n) = IsFirstBad text n
 IsRefusal text Memory = Unit {0}
 IsRefusal text (CannotRead name) = ⊥
 IsRefusal text TooLong = ⊥
+IsRefusal text LongRecording = ⊥
 IsRefusal text (BadTablesLine file line) = ⊥
 IsRefusal text (BreaksRule file line rule) = ⊥
 IsRefusal text CannotWrite = ⊥

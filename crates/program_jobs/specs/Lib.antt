@@ -5,4 +5,3 @@ pub mod FileLines
 pub mod Failing
 pub mod Output
 pub mod Running
-pub mod Writing

@@ -15,21 +15,23 @@ use Rattle.program_arguments.specs.declared.job.Stop.{Stop}
 use Rattle.program_arguments.specs.Asking.{Asks, Stops, texts_of}
 use Rattle.program_jobs.specs.declared.failure.Failure.{Failure}
 use Rattle.program_jobs.specs.declared.failure.Failure.TheVariants.{CannotRead, TooLong, BadLine}
-use Rattle.program_jobs.specs.declared.failure.Failure.TheVariants.{BadTablesLine, BreaksRule}
+use Rattle.program_jobs.specs.declared.failure.Failure.TheVariants.{LongRecording, BadTablesLine}
+use Rattle.program_jobs.specs.declared.failure.Failure.TheVariants.{BreaksRule}
 use Rattle.program_jobs.specs.declared.failure.Failure.TheVariants.{CannotWrite, SocketFailed}
 use Rattle.program_jobs.specs.declared.failure.Failure.TheVariants.{Memory}
 use Rattle.program_jobs.specs.Failing.{IsSocketFailure, failure_line, status_of}
 use Rattle.program_jobs.specs.declared.tables.TablesFile.{TablesFile}
-use Rattle.program_jobs.specs.Output.{Acted, BindsSocket, NamesFile, NamesPath, ReadsFile}
+use Rattle.program_jobs.specs.Output.{Acted, BindsSocket, NamesFile, NamesPath, ReadsFile, Streams}
 use Rattle.program_jobs.specs.Output.{tables_named}
 use Rattle.program_jobs.specs.Texts.{Source, sources_of}
-use Rattle.program_jobs.specs.Writing.{AppendsFront}
+use Rattle.program_stream.specs.Writing.{AppendsFront}
 
 -- why a file cannot be opened
 abbrev pub IsOpenFailure : List ℕ → ErrorKind → Failure → Type 0
 IsOpenFailure name kind (CannotRead named) = (kind ≢ OutOfMemory) × (named.now ≡ name)
 IsOpenFailure name kind Memory = kind ≡ OutOfMemory
 IsOpenFailure name kind TooLong = ⊥
+IsOpenFailure name kind LongRecording = ⊥
 IsOpenFailure name kind (BadLine line) = ⊥
 IsOpenFailure name kind (BadTablesLine file line) = ⊥
 IsOpenFailure name kind (BreaksRule file line rule) = ⊥
@@ -61,6 +63,7 @@ FailsForOne calls names (CannotRead name) =
     × ((why : Error) × calls name.now (Err why) × (error_kind why ≢ OutOfMemory))
 FailsForOne calls names Memory = Unit {0}
 FailsForOne calls names TooLong = ⊥
+FailsForOne calls names LongRecording = ⊥
 FailsForOne calls names (BadLine line) = ⊥
 FailsForOne calls names (BadTablesLine file line) = ⊥
 FailsForOne calls names (BreaksRule file line rule) = ⊥
@@ -82,54 +85,68 @@ pub data OpensFile {R O E : Type 0} (remaining : R → Option (List ℕ))
       → OpensFile remaining contents said opens job sources name out out' err err' status
 
 -- The files that the words name are found and opened, and the job is done with them and the
--- recording; or the failure to find or open one is reported, and nothing is printed.
+-- recording, which may be opened in another way; or the failure to find or open one is reported,
+-- and nothing is printed.
 pub data OpensFiles {A M R O E : Type 0} (remaining : R → Option (List ℕ))
     (contents : O → Option (List ℕ)) (said : E → Option (List ℕ))
     (finds : List ℕ → Result (Vec (String A) M) Error → Type 0)
-    (opens : List ℕ → Result R Error → Type 0) (job : Job) (words : List (List ℕ))
+    (opens records : List ℕ → Result R Error → Type 0) (job : Job) (words : List (List ℕ))
     (name : List ℕ) (out out' : O) (err err' : E) (status : ℕ) : Type 0 where
   over : (names : List (List ℕ)) (files : List (TablesFile R))
       → Finds finds words names → AreOpened opens names files
-      → OpensFile remaining contents said opens job (sources_of remaining files) name out out' err
+      → OpensFile remaining contents said records job (sources_of remaining files) name out out' err
       err' status
-      → OpensFiles remaining contents said finds opens job words name out out' err err' status
+      → OpensFiles remaining contents said finds opens records job words name out out' err err'
+      status
   not_found : (failure : Failure) → FailsForOne finds words failure → status ≡ status_of failure
       → out' ≡ out → AppendsFront (said err) (said err') (failure_line failure)
-      → OpensFiles remaining contents said finds opens job words name out out' err err' status
+      → OpensFiles remaining contents said finds opens records job words name out out' err err'
+      status
   not_opened : (names : List (List ℕ)) (failure : Failure) → Finds finds words names
       → FailsForOne opens names failure → status ≡ status_of failure
       → out' ≡ out → AppendsFront (said err) (said err') (failure_line failure)
-      → OpensFiles remaining contents said finds opens job words name out out' err err' status
+      → OpensFiles remaining contents said finds opens records job words name out out' err err'
+      status
 
 -- A job that names files is done with exactly the readers that opening these files gave; the table
--- files are opened first. If one cannot be opened, nothing is printed, and the failure's line goes
--- to standard error; the status is 4 for out of memory, else 3. A job with a socket is done with
--- the one that was bound to its path; if it could not be bound, the same holds. The status is 0
--- only if the path of that socket was removed. A job with neither is done with empty files.
+-- files are opened first. The recording of a stream is opened in its own way, in which a name may
+-- stand for standard input. If one cannot be opened, nothing is printed, and the failure's line
+-- goes to standard error; the status is 4 for out of memory, else 3. A job with a socket is done
+-- with the one that was bound to its path; if it could not be bound, the same holds. The status is
+-- 0 only if the path of that socket was removed. A job with neither is done with empty files.
 pub data Opened {A M R S O E : Type 0} (remaining : R → Option (List ℕ))
     (contents : O → Option (List ℕ)) (said : E → Option (List ℕ))
     (finds : List ℕ → Result (Vec (String A) M) Error → Type 0)
-    (opens : List ℕ → Result R Error → Type 0) (binds : List ℕ → Result S Error → Type 0)
-    (removes : S → Result ⊤ Error → Type 0)
+    (opens streams : List ℕ → Result R Error → Type 0)
+    (binds : List ℕ → Result S Error → Type 0) (removes : S → Result ⊤ Error → Type 0)
     (job : Job) (out out' : O) (err err' : E) (status : ℕ) : Type 0 where
-  files : (name : List ℕ) → NamesFile job name
-      → OpensFiles remaining contents said finds opens job (tables_named job) name out out' err err'
+  files : (name : List ℕ) → ReadsFile job → NamesFile job name
+      → OpensFiles remaining contents said finds opens opens job (tables_named job) name out out'
+      err err' status
+      → Opened remaining contents said finds opens streams binds removes job out out' err err'
       status
-      → Opened remaining contents said finds opens binds removes job out out' err err' status
+  stream : (name : List ℕ) → Streams job → NamesFile job name
+      → OpensFiles remaining contents said finds opens streams job (tables_named job) name out out'
+      err err' status
+      → Opened remaining contents said finds opens streams binds removes job out out' err err'
+      status
   bound : (path : List ℕ) (socket : S) (sources : List Source) (known : Option (List ℕ))
       → NamesPath job path → binds path (Ok socket)
       → (status ≡ 0 → removes socket (Ok tt))
       → Acted contents said job sources known out out' err err' status
-      → Opened remaining contents said finds opens binds removes job out out' err err' status
+      → Opened remaining contents said finds opens streams binds removes job out out' err err'
+      status
   not_bound : (path : List ℕ) (why : Error) (failure : Failure)
       → NamesPath job path → binds path (Err why)
       → IsSocketFailure (error_kind why) failure → status ≡ status_of failure
       → out' ≡ out → AppendsFront (said err) (said err') (failure_line failure)
-      → Opened remaining contents said finds opens binds removes job out out' err err' status
+      → Opened remaining contents said finds opens streams binds removes job out out' err err'
+      status
   alone : (sources : List Source) (known : Option (List ℕ))
-      → (ReadsFile job → ⊥) → (BindsSocket job → ⊥)
+      → (ReadsFile job → ⊥) → (Streams job → ⊥) → (BindsSocket job → ⊥)
       → Acted contents said job sources known out out' err err' status
-      → Opened remaining contents said finds opens binds removes job out out' err err' status
+      → Opened remaining contents said finds opens streams binds removes job out out' err err'
+      status
 
 -- Help is printed and no error is written, unless the output did not take it, or not all of it. For
 -- anything else nothing is printed, the status is that of the stop, and its text (or the line for
@@ -169,17 +186,21 @@ pub data Unread {E : Type 0} (said : E → Option (List ℕ)) (kind : ErrorKind)
 pub data RunsWords {A M R S O E : Type 0} (words : Result (Vec (String A) M) Error)
     (remaining : R → Option (List ℕ)) (contents : O → Option (List ℕ))
     (said : E → Option (List ℕ)) (finds : List ℕ → Result (Vec (String A) M) Error → Type 0)
-    (opens : List ℕ → Result R Error → Type 0)
+    (opens streams : List ℕ → Result R Error → Type 0)
     (binds : List ℕ → Result S Error → Type 0) (removes : S → Result ⊤ Error → Type 0)
     (out out' : O) (err err' : E) (status : ℕ)
     : Type 0 where
   did : (list : Vec (String A) M) (job : Job) → words ≡ Ok list → Asks (texts_of list.items) job
-      → Opened remaining contents said finds opens binds removes job out out' err err' status
-      → RunsWords words remaining contents said finds opens binds removes out out' err err' status
+      → Opened remaining contents said finds opens streams binds removes job out out' err err'
+      status
+      → RunsWords words remaining contents said finds opens streams binds removes out out' err err'
+      status
   stopped : (list : Vec (String A) M) (stop : Stop)
       → words ≡ Ok list → Stops (texts_of list.items) stop
       → StopTold contents said stop out out' err err' status
-      → RunsWords words remaining contents said finds opens binds removes out out' err err' status
+      → RunsWords words remaining contents said finds opens streams binds removes out out' err err'
+      status
   not_read : (why : Error) → words ≡ Err why
       → Unread said (error_kind why) err err' status → out' ≡ out
-      → RunsWords words remaining contents said finds opens binds removes out out' err err' status
+      → RunsWords words remaining contents said finds opens streams binds removes out out' err err'
+      status

@@ -1,19 +1,20 @@
 //! Doing a job with any reader and writers.
 ghost use Rattle.std.specs.Prelude.{◌≡◌, ◌≤◌, ◌⊎◌, ℕ, IfOk, IfErr, IsErr, Option, Some, List, ◌≢◌};
 ghost use Rattle.program_arguments.specs.declared.job.Job.{Job};
-ghost use Rattle.program_jobs.specs.Failing.{IsReadFailure, IsRefusal};
+ghost use Rattle.program_jobs.specs.Failing.{IsReadFailure, IsRecordingFailure, IsRefusal};
 ghost use Rattle.program_jobs.specs.Output.{Acted, IsChecked, IsDone, IsHinted, IsRefused};
-ghost use Rattle.program_jobs.specs.Output.{IsTraced, ReadsFile};
+ghost use Rattle.program_jobs.specs.Output.{IsTraced, ReadsFile, Streams};
 ghost use Rattle.program_jobs.specs.Texts.{IsFileRead, Source, sources_of};
 ghost use Rattle.wl_recording.specs.Text.{IsFirstBad};
 
 use crate::failure::Failure;
 use crate::hint::hint_on;
+use crate::streaming::{Stream, judge};
 use crate::tables::{TablesFile, load_tables};
 use crate::verdict::{status_of, write_broken};
-use crate::writing::{write_through, write_whole};
 use program_arguments::{Job, status};
 use program_demo::demo;
+use program_stream::{write_through, write_whole};
 use std::alloc::{Allocator, Global};
 use std::io::{ErrorKind, Read, Write};
 use wl_check::{check_text, trace_text, write_verdict};
@@ -59,6 +60,22 @@ pub(crate) fn contents<'a, A: Allocator, R: Read>(
             ErrorKind::OutOfMemory => Err(Failure::Memory),
             _ => Err(Failure::CannotRead(name)),
         },
+    }
+}
+
+/// The whole of a recording that is no stream.
+fn recording<'a, A: Allocator, R: Read>(
+    alloc: A,
+    name: &'a str,
+    file: &mut R,
+) -> Result<Vec<u8, A>, Failure<'a>>
+    ensures whole { IfOk result (λ bytes. IsFileRead (R.remaining file.old) bytes.items) }
+    ensures refused { IfErr result (IsRecordingFailure name.entry.now (R.remaining file.old)) }
+{
+    match contents(alloc, name, file) {
+        Ok(bytes) => Ok(bytes),
+        Err(Failure::TooLong) => Err(Failure::LongRecording),
+        Err(failure) => Err(failure),
     }
 }
 
@@ -115,6 +132,7 @@ fn output<'a, 'b, A: Allocator, T: Read + Drop, R: Read>(
     tables: Vec<TablesFile<'b, T>>,
     file: &mut R,
 ) -> Result<Printed<&'a A>, Failure<'b>>
+    requires { Streams job.now → ⊥ }
     ensures done { IfOk result (λ o. IsDone job.now (sources_of T.remaining tables.entry.items)
         (R.remaining file.old) o.text.items o.hint.items o.status) }
     ensures refused { IfErr result (IsRefused job.now (sources_of T.remaining tables.entry.items)
@@ -129,7 +147,7 @@ fn output<'a, 'b, A: Allocator, T: Read + Drop, R: Read>(
             file: name,
         } => {
             let tables = load_tables(alloc, global, names.as_slice(), tables)?;
-            let text = contents(alloc, name.as_str(), file)?;
+            let text = recording(alloc, name.as_str(), file)?;
             traced(alloc, &tables, *limit, &text)
         }
         Job::Check {
@@ -138,7 +156,7 @@ fn output<'a, 'b, A: Allocator, T: Read + Drop, R: Read>(
             file: name,
         } => {
             let tables = load_tables(alloc, global, names.as_slice(), tables)?;
-            let text = contents(alloc, name.as_str(), file)?;
+            let text = recording(alloc, name.as_str(), file)?;
             checked(alloc, &tables, *limit, &text)
         }
         Job::Demo { piece } => {
@@ -149,7 +167,7 @@ fn output<'a, 'b, A: Allocator, T: Read + Drop, R: Read>(
                 status: status::SUCCESS,
             })
         }
-        Job::Socket { .. } => Err(Failure::SocketFailed),
+        Job::Socket { .. } | Job::Stream { .. } => Err(Failure::SocketFailed),
     }
 }
 
@@ -196,9 +214,10 @@ pub(crate) fn finish<A: Allocator, O: Write, E: Write>(
 /// Does the job and returns the exit status: 0 or 1 if `out` has taken the whole output (1 if a
 /// rule is broken); else the status of a `Failure`, whose line goes to `err`.
 ///
-/// Nothing is written to `out` before the whole output is complete. `tables` are the files with the
-/// job's table texts, and `file` has its recording, if it reads these; at most 16,777,217 bytes of
-/// each are read, the tables first. The signature tables are allocated in the global memory.
+/// Nothing is written to `out` before the whole output is complete, except for the lines of a
+/// stream. `tables` are the files with the job's table texts, and `file` has its recording, if it
+/// reads these, the tables first. At most 16,777,217 bytes of each are read, and a stream to its
+/// end. The signature tables are allocated in the global memory.
 pub fn act<A: Allocator, T: Read + Drop, R: Read, O: Write, E: Write>(
     alloc: A,
     global: Global,
@@ -209,18 +228,38 @@ pub fn act<A: Allocator, T: Read + Drop, R: Read, O: Write, E: Write>(
 ) -> u8
     // The output was written whole, and at most a hint to `err` (0 for a lawful session or a
     // demonstration, 1 for a broken session); or no output was written; or writing it failed, and
-    // only a front part was written. In the last two cases the failure's line went to `err`.
+    // only a front part was written. In the last two cases the failure's line went to `err`. Of a
+    // stream that ended early, the lines of the session so far were written.
     ensures acted { Acted O.contents E.contents job.now
         (sources_of T.remaining tables.entry.items) (R.remaining file.old) writers.old.out
         writers.new.out writers.old.err writers.new.err result }
-    // A recording with a bad line is refused, if the job reads one.
+    // A recording with a bad line is refused, if the job reads one. A stream may have printed the
+    // lines before it.
     ensures bad { (text : List ℕ) (n : ℕ) → R.remaining file.old ≡ Some text → IsFirstBad text n
         → ReadsFile job.now
         → ((result ≡ 3) ⊎ (result ≡ 4))
         × (O.contents writers.new.out ≡ O.contents writers.old.out) }
-    ensures unwritten { result ≡ 4
+    ensures bad_stream { (text : List ℕ) (n : ℕ) → R.remaining file.old ≡ Some text
+        → IsFirstBad text n → Streams job.now → (result ≡ 3) ⊎ (result ≡ 4) }
+    ensures unwritten { (Streams job.now → ⊥) → result ≡ 4
         → O.contents writers.new.out ≡ O.contents writers.old.out }
     ensures statuses { (result ≤ 4) × (result ≢ 2) }
 {
-    finish(output(&alloc, global, job, tables, file), writers)
+    match job {
+        Job::Stream {
+            prints_lines,
+            tables: names,
+            limit,
+            file: name,
+        } => {
+            let stream = Stream {
+                prints_lines: *prints_lines,
+                names: names.as_slice(),
+                limit: *limit,
+                name: name.as_str(),
+            };
+            judge(&alloc, global, &stream, tables, file, writers)
+        }
+        _ => finish(output(&alloc, global, job, tables, file), writers),
+    }
 }

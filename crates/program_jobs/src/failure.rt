@@ -6,17 +6,20 @@ ghost use Rattle.std.specs.IoError.{error_kind};
 ghost use Rattle.program_jobs.specs.Failing.{IsSocketFailure, failure_line, failure_text};
 ghost use Rattle.program_jobs.specs.Failing.{status_of};
 ghost use Rattle.program_jobs.specs.Failing.{recording_failure, socket_failure};
-ghost use Rattle.program_jobs.specs.Writing.{AppendsFront};
+ghost use Rattle.program_stream.specs.Writing.{AppendsFront};
 
-use crate::writing::{write_three, write_whole};
 use itoa::Buffer;
 use program_arguments::status;
 use program_socket::SocketError;
+use program_stream::{write_three, write_whole};
 use std::alloc::{AllocError, AllocFailed};
 use std::fmt::{self, Display, Formatter};
 use std::io::{self, ErrorKind, Write};
 use thiserror::Error;
 use wl_recording::RecordingError;
+
+/// The second line for a recording that is too long.
+const SEE_STREAM: &str = "for a recording of any length, see --stream";
 
 /// Why a job has no output. Standard error gets its text after `waywire: `.
 #[derive(Clone, Copy, Debug, PartialEq, Eq, Error)]
@@ -27,6 +30,9 @@ pub enum Failure<'a> {
     /// The file has more than 16,777,216 bytes.
     #[error("file too long")]
     TooLong,
+    /// So has that of a recording, which may have any length as a stream.
+    #[error("file too long\nwaywire: for a recording of any length, see --stream")]
+    LongRecording,
     /// This line cannot be in a recording. Lines are counted from 1.
     #[error("line {0}: bad line")]
     BadLine(usize),
@@ -102,6 +108,14 @@ impl Failure<'_> {
         match self {
             Failure::CannotRead(name) => LineParts("cannot read ", name, "", "", "", ""),
             Failure::TooLong => LineParts("file too long", "", "", "", "", ""),
+            Failure::LongRecording => LineParts(
+                "file too long\nwaywire: ",
+                SEE_STREAM,
+                "",
+                "",
+                "",
+                "",
+            ),
             Failure::BadLine(n) => LineParts("line ", line.format(*n), ": bad line", "", "", ""),
             Failure::BadTablesLine { file, line: n } => match file {
                 None => LineParts("tables line ", line.format(*n), ": bad line", "", "", ""),

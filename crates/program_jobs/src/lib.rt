@@ -1,7 +1,8 @@
 //! The jobs of the command `waywire`: what each prints, and a run of the whole program.
 //!
-//! A job works with any reader and any writers. Its output is complete before any of it is written.
-//! `program_arguments` says which job the words of a command line ask for.
+//! A job works with any reader and any writers. Its output is complete before any of it is written,
+//! except for the lines of a stream. `program_arguments` says which job the words of a command line
+//! ask for.
 #![tactic(auto)]
 
 mod acting;
@@ -11,9 +12,9 @@ mod hint;
 pub mod laws;
 mod running;
 mod socket;
+mod streaming;
 mod tables;
 mod verdict;
-mod writing;
 
 pub use acting::{Writers, act};
 pub use failure::Failure;

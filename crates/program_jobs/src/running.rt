@@ -13,8 +13,8 @@ use crate::acting::{Writers, act, finish};
 use crate::failure::Failure;
 use crate::socket::{BoundSocket, run_over_socket};
 use crate::tables::TablesFile;
-use crate::writing::{write_through, write_whole};
 use program_arguments::{Job, Stop, job_of, status};
+use program_stream::{write_through, write_whole};
 use std::alloc::Global;
 use std::io::{self, Eprint, ErrorKind, Read, Write};
 use std::process::{ExitCode, Termination};
@@ -38,14 +38,15 @@ impl Termination for ExitStatus {
 
 /// Does what the words of a command line ask for; the first word is the program's name.
 ///
-/// `finder` returns the names of the files with the table texts that a word names. `opener` opens
-/// the files that a job reads, all of them before one is read. `binder` binds the socket of a job
-/// that needs one. Help and the version are printed like a job's output.
-pub fn run<R, L, F, S, B, O, E>(
+/// `finder` returns the names of the files with the table texts that a word names. `openers` opens
+/// what a job reads, all of it before any is read: the first the files, the second the recording of
+/// a stream. `binder` binds the socket of a job that needs one. Help and the version are printed
+/// like a job's output.
+pub fn run<R, L, F, G, S, B, O, E>(
     alloc: Global,
     words: io::Result<Vec<String>>,
     finder: L,
-    opener: F,
+    openers: (F, G),
     binder: B,
     writers: &mut Writers<O, E>,
 ) -> ExitStatus
@@ -53,20 +54,23 @@ where
     R: Read + Drop,
     L: Fn(&str) -> io::Result<Vec<String>>,
     F: Fn(&str) -> io::Result<R>,
+    G: Fn(&str) -> io::Result<R>,
     S: BoundSocket,
     B: FnOnce(&str) -> io::Result<S>,
     O: Write,
     E: Write,
     requires finds { L.IsAlwaysCallable finder }
-    requires opens { F.IsAlwaysCallable opener }
+    requires opens { F.IsAlwaysCallable openers.0 }
+    requires streams { G.IsAlwaysCallable openers.1 }
     requires binds { B.IsAlwaysCallable binder }
     ensures { RunsWords words R.remaining O.contents E.contents (FnReturnsAt L.Fn finder)
-        (FnReturnsAt F.Fn opener) (FnOnceReturnsAt B.FnOnce binder) S.removes
-        writers.old.out writers.new.out writers.old.err writers.new.err result.status }
+        (FnReturnsAt F.Fn openers.0) (FnReturnsAt G.Fn openers.1) (FnOnceReturnsAt B.FnOnce binder)
+        S.removes writers.old.out writers.new.out writers.old.err writers.new.err
+        result.status }
 {
     let status = match words {
         Ok(words) => match job_of(alloc, words.as_slice()) {
-            Ok(job) => run_job(alloc, &job, finder, opener, binder, writers),
+            Ok(job) => run_job(alloc, &job, finder, openers, binder, writers),
             Err(stop) => report_stop(&stop, writers),
         },
         Err(error) => not_read(&error, &mut writers.err),
@@ -115,11 +119,11 @@ fn open_failure<'a>(name: &'a str, error: &io::Error) -> Failure<'a>
 }
 
 /// Opens what the job reads, or binds its socket, does it, and returns the status.
-fn run_job<R, L, F, S, B, O, E>(
+fn run_job<R, L, F, G, S, B, O, E>(
     alloc: Global,
     job: &Job,
     finder: L,
-    opener: F,
+    openers: (F, G),
     binder: B,
     writers: &mut Writers<O, E>,
 ) -> u8
@@ -127,28 +131,29 @@ where
     R: Read + Drop,
     L: Fn(&str) -> io::Result<Vec<String>>,
     F: Fn(&str) -> io::Result<R>,
+    G: Fn(&str) -> io::Result<R>,
     S: BoundSocket,
     B: FnOnce(&str) -> io::Result<S>,
     O: Write,
     E: Write,
     requires finds { L.IsAlwaysCallable finder }
-    requires opens { F.IsAlwaysCallable opener }
+    requires opens { F.IsAlwaysCallable openers.0 }
+    requires streams { G.IsAlwaysCallable openers.1 }
     requires binds { B.IsAlwaysCallable binder }
     ensures { Opened R.remaining O.contents E.contents (FnReturnsAt L.Fn finder)
-        (FnReturnsAt F.Fn opener) (FnOnceReturnsAt B.FnOnce binder) S.removes job.now
-        writers.old.out writers.new.out writers.old.err writers.new.err result }
+        (FnReturnsAt F.Fn openers.0) (FnReturnsAt G.Fn openers.1) (FnOnceReturnsAt B.FnOnce binder)
+        S.removes job.now writers.old.out writers.new.out writers.old.err writers.new.err result }
 {
+    let (opener, streamer) = (&openers.0, &openers.1);
     match job {
-        Job::Trace {
-            tables,
-            limit: _limit,
-            file: name,
+        Job::Trace { tables, file, .. } | Job::Check { tables, file, .. } => {
+            let names = (tables, file);
+            run_over_files(alloc, job, names, &finder, (opener, opener), writers)
         }
-        | Job::Check {
-            tables,
-            limit: _limit,
-            file: name,
-        } => run_over_files(alloc, job, (tables, name), &finder, &opener, writers),
+        Job::Stream { tables, file, .. } => {
+            let names = (tables, file);
+            run_over_files(alloc, job, names, &finder, (opener, streamer), writers)
+        }
         Job::Demo { .. } => {
             let none: Vec<TablesFile<'_, io::Empty>> = Vec::new(alloc);
             act(alloc, alloc, job, none, &mut io::empty(), writers)
@@ -160,33 +165,36 @@ where
     }
 }
 
-/// Finds the table texts that these words name, does the job with them and the recording, and
-/// returns the status.
-fn run_over_files<R, L, F, O, E>(
+/// Finds the table texts that these words name, opens them, does the job with them and with the
+/// recording that `recorder` opens, and returns the status.
+fn run_over_files<R, L, F, G, O, E>(
     alloc: Global,
     job: &Job,
     names: (&Vec<String>, &String),
     finder: &L,
-    opener: &F,
+    openers: (&F, &G),
     writers: &mut Writers<O, E>,
 ) -> u8
 where
     R: Read + Drop,
     L: Fn(&str) -> io::Result<Vec<String>>,
     F: Fn(&str) -> io::Result<R>,
+    G: Fn(&str) -> io::Result<R>,
     O: Write,
     E: Write,
     requires finds { L.IsAlwaysCallable finder.now }
-    requires opens { F.IsAlwaysCallable opener.now }
+    requires opens { F.IsAlwaysCallable openers.0.now }
+    requires records { G.IsAlwaysCallable openers.1.now }
     ensures { OpensFiles R.remaining O.contents E.contents (FnReturnsAt L.Fn finder.now)
-        (FnReturnsAt F.Fn opener.now) job.now (map string_bytes names.entry.0.now.items)
-        (string_bytes names.entry.1.now) writers.old.out writers.new.out writers.old.err
-        writers.new.err result }
+        (FnReturnsAt F.Fn openers.entry.0.now) (FnReturnsAt G.Fn openers.entry.1.now) job.now
+        (map string_bytes names.entry.0.now.items) (string_bytes names.entry.1.now)
+        writers.old.out writers.new.out writers.old.err writers.new.err result }
 {
     let (tables, name) = names;
+    let (opener, recorder) = openers;
     match all_found(alloc, tables.as_slice(), finder) {
         Ok(found) => match all_opened(alloc, found.as_slice(), opener) {
-            Ok(files) => run_over_file(alloc, job, files, name, opener, writers),
+            Ok(files) => run_over_file(alloc, job, files, name, recorder, writers),
             Err(failure) => failure.report(&mut writers.err),
         },
         Err(failure) => failure.report(&mut writers.err),

@@ -1,7 +1,7 @@
 use Rattle.std.proofs.Common.{ℕ, List, rules, refl, subst}
 use Rattle.std.specs.Io.KnownBytes.{Appends}
 use Rattle.program_jobs.specs.Output.{IsHinted, printed, refused, not_taken}
-use Rattle.program_jobs.specs.Writing.{AppendsFront}
+use Rattle.program_stream.specs.Writing.{AppendsFront}
 use Rattle.program_jobs.proofs.acting.finish.Goals as goal
 
 -- the output was written whole

@@ -3,14 +3,14 @@ use Rattle.std.specs.Prelude.{◌≡◌, ◌⊎◌, IsErr, Result, Ok, Err, map,
 use Rattle.std.proofs.lemmas.Result.{IfErr-weaker}
 use Rattle.program_arguments.specs.declared.job.Job.{Job}
 use Rattle.program_jobs.specs.declared.failure.Failure.{Failure}
-use Rattle.program_jobs.specs.declared.failure.Failure.TheVariants.{CannotRead, TooLong, BadLine}
+use Rattle.program_jobs.specs.declared.failure.Failure.TheVariants.{CannotRead, TooLong, LongRecording, BadLine}
 use Rattle.program_jobs.specs.declared.failure.Failure.TheVariants.{BadTablesLine, BreaksRule}
 use Rattle.program_jobs.specs.declared.failure.Failure.TheVariants.{CannotWrite, SocketFailed}
 use Rattle.program_jobs.specs.declared.failure.Failure.TheVariants.{Memory}
 use Rattle.program_jobs.specs.Output.{BindsSocket, IsDone, IsRefused, IsSocketRefusal, NamesFile}
-use Rattle.program_jobs.specs.Output.{NamesPath, ReadsFile, tables_named}
+use Rattle.program_jobs.specs.Output.{NamesPath, ReadsFile, Streams, tables_named}
 use Rattle.program_jobs.specs.Texts.{Source}
-use Rattle.program_jobs.specs.Running.{files, bound, not_bound, alone}
+use Rattle.program_jobs.specs.Running.{files, stream, bound, not_bound, alone}
 use Rattle.program_jobs.proofs.running.run_job.Goals as goal
 
 -- a session over a socket that prints nothing gives the job's reason
@@ -20,6 +20,7 @@ socket_refused job sources known SocketFailed binds is = binds
 socket_refused job sources known Memory binds is = tt
 socket_refused job sources known (CannotRead name) binds is = absurd is
 socket_refused job sources known TooLong binds is = absurd is
+socket_refused job sources known LongRecording binds is = absurd is
 socket_refused job sources known (BadLine n) binds is = absurd is
 socket_refused job sources known (BadTablesLine file n) binds is = absurd is
 socket_refused job sources known (BreaksRule file n rule) binds is = absurd is
@@ -37,20 +38,34 @@ removed_where_fine (Err why) status removed other is refused fine = elim (refuse
 -- a demonstration reads no file and binds no socket
 pub returns-in-Demo : goal.returns-in-Demo
 returns-in-Demo g c = alone _ _ (λ reads. subst (λ (job : Job). ReadsFile job) c.in-Demo.is reads)
+    (λ streams. subst (λ (job : Job). Streams job) c.in-Demo.is streams)
     (λ binds. subst (λ (job : Job). BindsSocket job) c.in-Demo.is binds) c.act.ensures.acted
 
 -- a trace or a check reads the files that it names
 pub returns-in-Trace : goal.returns-in-Trace
 returns-in-Trace g c =
-    let names : NamesFile c.args.job.now (string_bytes c.in-Trace.name) = elim c.in-Trace.is [
-      | inl e ↦ subst (λ (job : Job). NamesFile job (string_bytes c.in-Trace.name)) (sym e.1) refl
-      | inr e ↦ subst (λ (job : Job). NamesFile job (string_bytes c.in-Trace.name)) (sym e.1) refl
+    let reads : ReadsFile c.args.job.now = elim c.in-Trace.is [
+      | inl e ↦ subst (λ (job : Job). ReadsFile job) (sym e.1) tt
+      | inr e ↦ subst (λ (job : Job). ReadsFile job) (sym e.1) tt
+    ] in
+    let names : NamesFile c.args.job.now (string_bytes c.in-Trace.file) = elim c.in-Trace.is [
+      | inl e ↦ subst (λ (job : Job). NamesFile job (string_bytes c.in-Trace.file)) (sym e.1) refl
+      | inr e ↦ subst (λ (job : Job). NamesFile job (string_bytes c.in-Trace.file)) (sym e.1) refl
     ] in
     let words : map string_bytes c.in-Trace.tables.items ≡ tables_named c.args.job.now = elim c.in-Trace.is [
       | inl e ↦ subst (λ (job : Job). map string_bytes c.in-Trace.tables.items ≡ tables_named job) (sym e.1) refl
       | inr e ↦ subst (λ (job : Job). map string_bytes c.in-Trace.tables.items ≡ tables_named job) (sym e.1) refl
     ] in
-    files (string_bytes c.in-Trace.name) names (rw words at c.run_over_files.ensures)
+    files (string_bytes c.in-Trace.file) reads names (rw words at c.run_over_files-in-Trace.ensures)
+
+-- so does a stream
+pub returns-in-Stream : goal.returns-in-Stream
+returns-in-Stream g c =
+    let streams = subst (λ (job : Job). Streams job) (sym c.in-Stream.is) tt in
+    let names = subst (λ (job : Job). NamesFile job (string_bytes c.in-Stream.file)) (sym c.in-Stream.is) refl in
+    let words = subst (λ (job : Job). map string_bytes c.in-Stream.tables.items ≡ tables_named job)
+    (sym c.in-Stream.is) refl in
+    stream (string_bytes c.in-Stream.file) streams names (rw words at c.run_over_files.ensures)
 
 -- a socket job plays its session over the socket that was bound
 pub returns-in-Ok : goal.returns-in-Ok

@@ -8,7 +8,7 @@ pub returns-in-Ok-all_opened : goal.returns-in-Ok-all_opened
 returns-in-Ok-all_opened g c =
     let finds = subst (λ (words : List (String Global)). Finds (FnReturnsAt g.L.Fn c.args.finder.now)
     (map string_bytes words) (map string_bytes c.in-Ok.found.items)) c.as_slice.ensures.value c.in-Ok.ensures.found in
-    let opened = subst (λ (names : List (String Global)). AreOpened (FnReturnsAt g.F.Fn c.args.opener.now)
+    let opened = subst (λ (names : List (String Global)). AreOpened (FnReturnsAt g.F.Fn c.args.openers.0.now)
     (map string_bytes names) c.in-Ok-all_opened.files.items) c.as_slice-in-Ok.ensures.value
     c.in-Ok-all_opened.ensures.opened in
     over (map string_bytes c.in-Ok.found.items) c.in-Ok-all_opened.files.items finds opened c.run_over_file.ensures
@@ -17,7 +17,7 @@ pub returns-in-Ok : goal.returns-in-Ok
 returns-in-Ok g c =
     let finds = subst (λ (words : List (String Global)). Finds (FnReturnsAt g.L.Fn c.args.finder.now)
     (map string_bytes words) (map string_bytes c.in-Ok.found.items)) c.as_slice.ensures.value c.in-Ok.ensures.found in
-    let fails = subst (λ (names : List (String Global)). FailsForOne (FnReturnsAt g.F.Fn c.args.opener.now)
+    let fails = subst (λ (names : List (String Global)). FailsForOne (FnReturnsAt g.F.Fn c.args.openers.0.now)
     (map string_bytes names) c.in-Err-all_opened.failure) c.as_slice-in-Ok.ensures.value
     c.in-Err-all_opened.ensures.refused in
     not_opened (map string_bytes c.in-Ok.found.items) c.in-Err-all_opened.failure finds fails c.report.ensures.status

@@ -1,10 +1,10 @@
 use Rattle.std.proofs.Common.{◌++◌, ℕ, List, codes, subst}
 use Rattle.program_jobs.specs.Failing.{failure_text}
-use Rattle.program_jobs.specs.Writing.{AppendsFront}
+use Rattle.program_stream.specs.Writing.{AppendsFront}
 use Rattle.std.specs.Io.KnownBytes.{Appends}
 use Rattle.std.proofs.lemmas.Result.{IfOk-weaker}
 use Rattle.std.proofs.KnownBytes.{Appends-trans}
-use Rattle.program_jobs.proofs.Fronts.{front_first, front_more, line_is}
+use Rattle.program_stream.proofs.Fronts.{front_first, front_more, line_is}
 use Rattle.program_jobs.proofs.failure.Failure.write_line.Goals as goal
 
 abbrev begins : List ℕ

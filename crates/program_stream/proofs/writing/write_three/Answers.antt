@@ -2,9 +2,9 @@ use Rattle.std.proofs.Common.{◌++◌, subst}
 use Rattle.std.specs.Io.KnownBytes.{Appends}
 use Rattle.std.proofs.lemmas.Result.{IfOk-weaker}
 use Rattle.std.proofs.KnownBytes.{Appends-trans}
-use Rattle.program_jobs.specs.Writing.{AppendsFront}
-use Rattle.program_jobs.proofs.Fronts.{front_first, front_more}
-use Rattle.program_jobs.proofs.writing.write_three.Goals as goal
+use Rattle.program_stream.specs.Writing.{AppendsFront}
+use Rattle.program_stream.proofs.Fronts.{front_first, front_more}
+use Rattle.program_stream.proofs.writing.write_three.Goals as goal
 
 pub returns-in_err-write_whole-clause-front : goal.returns-in_err-write_whole-clause-front
 returns-in_err-write_whole-clause-front g c =

@@ -1,5 +1,5 @@
-use Rattle.program_jobs.proofs.Fronts.{front_whole}
-use Rattle.program_jobs.proofs.writing.write_through.Goals as goal
+use Rattle.program_stream.proofs.Fronts.{front_whole}
+use Rattle.program_stream.proofs.writing.write_through.Goals as goal
 use Rattle.std.proofs.KnownBytes.{Appends-kept}
 
 pub returns-clause-front : goal.returns-clause-front

@@ -1,6 +1,6 @@
 use Rattle.std.proofs.Common.{◌≤◌, length, take}
 use Rattle.std.specs.Io.KnownBytes.{Appends}
-use Rattle.program_jobs.proofs.writing.write_whole.Given as goal
+use Rattle.program_stream.proofs.writing.write_whole.Given as goal
 
 -- the bytes that the writer took so far were appended
 abbrev pub invariant-writes : goal.invariant-writes

@@ -1,6 +1,6 @@
-use Rattle.program_jobs.proofs.Fronts.{wrote_more, wrote_none}
-use Rattle.program_jobs.proofs.writing.write_whole.Goals.{in-Ok, in-Err+else-ne}
-use Rattle.program_jobs.proofs.writing.write_whole.Goals as goal
+use Rattle.program_stream.proofs.Fronts.{wrote_more, wrote_none}
+use Rattle.program_stream.proofs.writing.write_whole.Goals.{in-Ok, in-Err+else-ne}
+use Rattle.program_stream.proofs.writing.write_whole.Goals as goal
 
 pub writes-preserved : goal.writes-preserved
 writes-preserved g c = elim c.match-write.branch [

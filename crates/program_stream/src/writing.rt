@@ -1,13 +1,13 @@
 //! Writing bytes, all of them or until the writer fails.
 ghost use Rattle.std.specs.Prelude.{OnOk, ◌++◌};
 ghost use Rattle.std.specs.Io.KnownBytes.{Appends};
-ghost use Rattle.program_jobs.specs.Writing.{AppendsFront};
+ghost use Rattle.program_stream.specs.Writing.{AppendsFront};
 
 use std::io::{self, ErrorKind, Write};
 
 /// Writes all the bytes. If a write fails or takes nothing, only a front part of them was written.
 /// An interrupted write is repeated.
-pub(crate) fn write_whole<O: Write>(out: &mut O, bytes: &[u8]) -> io::Result<()>
+pub fn write_whole<O: Write>(out: &mut O, bytes: &[u8]) -> io::Result<()>
     ensures whole { OnOk result (Appends (O.contents out.old) (O.contents out.new) bytes.now) }
     ensures front { AppendsFront (O.contents out.old) (O.contents out.new) bytes.now }
 {
@@ -30,12 +30,7 @@ pub(crate) fn write_whole<O: Write>(out: &mut O, bytes: &[u8]) -> io::Result<()>
 }
 
 /// Writes three texts, one after another. If that fails, only a front part of them was written.
-pub(crate) fn write_three<O: Write>(
-    out: &mut O,
-    first: &str,
-    second: &str,
-    third: &str,
-) -> io::Result<()>
+pub fn write_three<O: Write>(out: &mut O, first: &str, second: &str, third: &str) -> io::Result<()>
     ensures whole { OnOk result (Appends (O.contents out.old) (O.contents out.new)
         (first.now ++ (second.now ++ third.now))) }
     ensures front { AppendsFront (O.contents out.old) (O.contents out.new)
@@ -48,7 +43,7 @@ pub(crate) fn write_three<O: Write>(
 
 /// Writes all the bytes and flushes the writer. If that fails, only a front part of them was
 /// written.
-pub(crate) fn write_through<O: Write>(out: &mut O, bytes: &[u8]) -> io::Result<()>
+pub fn write_through<O: Write>(out: &mut O, bytes: &[u8]) -> io::Result<()>
     ensures whole { OnOk result (Appends (O.contents out.old) (O.contents out.new) bytes.now) }
     ensures front { AppendsFront (O.contents out.old) (O.contents out.new) bytes.now }
 {

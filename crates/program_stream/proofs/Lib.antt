@@ -1,0 +1,4 @@
+pub mod Fronts
+mod Judged
+mod ReadLines
+mod Written
