@@ -1,0 +1,9 @@
+pub mod AcceptedRequest
+pub mod AnnouncedGlobals
+pub mod Blame
+pub mod FollowsServer
+pub mod ReadByServer
+pub mod Samples
+pub mod ServerCalls
+pub mod ServerRun
+pub mod WrittenByServer
