@@ -138,9 +138,10 @@ void waywire_socket_close(int socket, waywire_end *end);
 typedef struct waywire_connection waywire_connection;
 
 /* Connects a client to a compositor, as waywire_socket_connect. The tables may be freed afterwards.
- * `sizes` may be null: then the outbox holds 65,536 bytes and 64 tokens, and the inbox 16,384 bytes and 256
- * tokens, for which a connection allocates about 150 KB. With queues of 4,096 bytes it is 30 KB; then a callback
- * has room for 2,048 bytes, and 16 KB that came at once take four reads more. The caller closes the connection.
+ * `sizes` may be null. Then a client's outbox holds 65,536 bytes and its inbox 16,384, for which a connection
+ * allocates about 150 KB. Those of a server hold 4,096 bytes each: 33 KB. Both have 64 tokens for the outbox and
+ * 256 for the inbox. A call that finds the outbox full sends what waits, so the outbox bounds what can be written
+ * only while the socket takes no more. The caller closes the connection.
  * Returns null with errno: as waywire_socket_connect; ENOMEM; EINVAL if no end has these sizes, if
  * the outbox cannot hold every message, or if the inbox has fewer tokens than
  * WAYWIRE_SOCKET_DESCRIPTORS and those of a message (48). */
@@ -196,8 +197,8 @@ void waywire_connection_set_limits(waywire_connection *connection, size_t object
  * that object, and its interface has a destructor without arguments. If the event itself was for an
  * object that the client has destroyed, no callback gets what it made, which is then destroyed even
  * if something listens to its interface.
- * A callback may send, dispatch, and make any call below. What its pointers point to is valid until a
- * call that may change the end, as waywire_report says. In the report, `user` is the object's data
+ * A callback may send, dispatch, and make any call below. What its pointers point to is valid until it
+ * dispatches, as waywire_report says. In the report, `user` is the object's data
  * (null for WAYWIRE_ERROR), and `replaced_user` is null. */
 typedef bool waywire_dispatcher(const void *calls, void *data, const waywire_report *report);
 
@@ -246,9 +247,9 @@ void waywire_connection_forget(waywire_connection *connection, waywire_object ob
  * kernel), ENOBUFS and ETOOMANYREFS (the kernel had no room to send): nothing is lost, and the next call tries
  * again. With any other errno it has ended: waywire_connection_failure says why.
  *
- * What callbacks write is sent by the next call. At a server, half of the outbox is free before each message, so
- * a callback has room for what it writes; nothing is read from a client that does not read. At a client, a
- * callback can get WAYWIRE_FULL. */
+ * What callbacks write is sent by the next call, or at once if the outbox is full. A callback gets WAYWIRE_FULL if
+ * the socket, too, takes no more. At a server, half of the outbox is free before each message, and nothing is read
+ * from a client that does not read. */
 int waywire_connection_dispatch(waywire_connection *connection, int milliseconds);
 
 /* Dispatches until the compositor has read all that the client has written, by wl_display.sync.

@@ -6,13 +6,13 @@
  *
  *  1. Send.   waywire_end_send writes a request at a client and an event at a server. A client's requests
  *             are also written by waywire_client_bind and _bind_unannounced, a server's events by
- *             waywire_server_announce, _drop_object and _post_error. They wait in the end's outbox.
+ *             waywire_server_announce, _drop_object, _end_object and _post_error. They wait in the end's outbox.
  *  2. Take.   `take` moves what waits into the caller's memory: write it to the socket. Or write to the socket
  *             from where `peek` points, and call `sent` with the number of bytes written.
  *  3. Feed.   `feed` moves what came from the socket, split anywhere, into the end's inbox. Or read from the
  *             socket to where `space` points, and call `received` with the number of bytes read.
- *  4. Next.   `next` reads one message and writes its report, which is valid until the next call that may
- *             change the end. Repeat it until the report says WAYWIRE_NOTHING.
+ *  4. Next.   `next` reads one message and writes its report, which stays valid while you write the answer.
+ *             Repeat it until the report says WAYWIRE_NOTHING.
  *
  * Ends.  waywire_client_new makes a waywire_client, and waywire_server_new a waywire_server. Both are structs with
  * one member, `end`: a call waywire_end_.. takes that pointer and serves both, so a program writes its loop once.
@@ -42,7 +42,7 @@
  * Threads.  Nothing is bound to the thread that made it. Tables never change: any threads may use them at
  * once, and make and free ends and inspectors with them. Only one call at a time may use an end, on any
  * thread: the caller orders these calls, for example by a lock, or by joining the thread that made the last
- * one. Any thread may read what an end's pointers point to, until the next call that may change the end.
+ * one. Any thread may read what a report points to, as long as the report is valid.
  * Different ends may be used at once. All of this holds for inspectors too. No call may be made from a signal
  * handler, nor from the child of a `fork` in a process with threads.
  *
@@ -126,8 +126,8 @@ typedef enum waywire_status {
 	/* Why no tables are read from a text. */
 	WAYWIRE_BAD_LINE = 71,       /* a line has none of the forms of such a text */
 	WAYWIRE_BAD_TABLE = 72,      /* a line breaks a rule of tables */
-	WAYWIRE_FIRST_SERVER_OBJECT = 73 /* waywire_client_more_tables: the text has an event by which the
-	                              * server makes an object, and the client's tables have none */
+	WAYWIRE_FIRST_SERVER_OBJECT = 73 /* waywire_end_more_tables: the text has an event by which the
+	                              * server makes an object, and the end's tables have none */
 } waywire_status;
 
 /* Whether a status says that a message which came was at fault. */
@@ -317,7 +317,7 @@ typedef struct waywire_sizes {
 #define WAYWIRE_MAX_ARGS 20
 
 /* The most bytes of a text that waywire_server_post_error writes, without the ending NUL. */
-#define WAYWIRE_MAX_ERROR_TEXT 40
+#define WAYWIRE_MAX_ERROR_TEXT 127
 
 /* The kinds of reports, and the fields that each uses; the others are 0. */
 typedef enum waywire_report_kind {
@@ -332,12 +332,15 @@ typedef enum waywire_report_kind {
 	                        * WAYWIRE_DEAD_OBJECT if target is the object with this id, and
 	                        * WAYWIRE_NULL_OBJECT if the id is 0 or unknown. The client has failed */
 	WAYWIRE_FAULT = 6      /* the status says which: place, spelling, and `offset`, the byte of the
-	                        * stream at which the message begins. The end has failed */
+	                        * stream at which the message begins. The end has failed, except after
+	                        * waywire_server_next_unanswered, which also gives id, opcode and text */
 } waywire_report_kind;
 
-/* What `next` read. It points into the end, and is valid until the next call that may change the end, which is any
- * call except waywire_client_made and those that take a `const waywire_end *`. You may still pass its pointers to
- * that call, for example the interface of a `global` to `bind`. Strings end with a NUL that their length does not
+/* What `next` read. It points into the end, and is valid until the end is freed, and until its next call of `next`,
+ * `feed`, `received`, `take_waiting_tokens`, waywire_server_next_unanswered or waywire_client_more_tables; those of
+ * waywire-socket.h that receive or dispatch make such calls. Every other call leaves what it points to as it is: so
+ * a callback may send while it reads a string, and pass its pointers on, for example the interface of a `global` to
+ * `bind`. Strings end with a NUL that their length does not
  * count. Only the first `arg_count` of `args` are written. `tokens` has the tokens of all descriptors of the
  * message in order, whatever the report's kind: the caller closes or keeps the descriptors. The tokens of a
  * WAYWIRE_MESSAGE are in its `args` too; close each descriptor only once. */
@@ -379,6 +382,11 @@ typedef struct waywire_tables waywire_tables;
 /* Makes the tables of the core protocol (wayland.xml without data transfer). They take some 19 KB: make
  * them once, for all ends of all threads. The caller frees them. WAYWIRE_NO_MEMORY. */
 waywire_status waywire_tables_core(waywire_tables **tables);
+
+/* Makes the same tables for a server whose caller ends objects itself, with waywire_server_end_object, and judges
+ * which events an object's version has: no request destroys an object, except those of wl_fixes, and every event is
+ * there from version 1 on. WAYWIRE_NO_MEMORY. */
+waywire_status waywire_tables_core_unended(waywire_tables **tables);
 
 /* Frees tables: their memory is freed now, or with the last end or inspector made with them. The caller must not
  * use them afterwards, nor names that came from them. Null is allowed. */
@@ -573,9 +581,21 @@ size_t waywire_end_object_count(const waywire_end *end);
  * All of it takes time linear in the number of ids that were ever used. WAYWIRE_NOT_FOUND if there is none. */
 waywire_status waywire_end_object_after(const waywire_end *end, uint32_t id, waywire_object *object);
 
-/* The tables of an end: those with which it was made, or those of waywire_client_more_tables. They are valid
- * until that call, or until the end is freed; the caller does not free them. Null for a null end. */
+/* The tables of an end: those with which it was made, or those of waywire_end_more_tables. They are valid until
+ * that call, or until the end is freed; the caller does not free them. Null for a null end. */
 const waywire_tables *waywire_end_tables(const waywire_end *end);
+
+/* Reads a text and appends it to the end's own tables, as waywire_tables_read does and with its statuses, and gives
+ * the end the resulting tables. Interfaces keep their indices and messages their opcodes, so objects and globals do
+ * not change. WAYWIRE_FIRST_SERVER_OBJECT if the text has an event by which the server makes an object (`N`), and
+ * the end's tables have none: such an end has no table for those objects. Reports become invalid, as with any call
+ * that may change an end. The end's old tables are freed when nothing else uses them; names that came from them are
+ * then invalid.
+ * A client does not remember a global that was announced before its interface was in the tables:
+ * waywire_client_bind_unannounced binds it. A server can add globals of the new interfaces.
+ * What is proved about two ends together does not cover this call: it holds for ends that keep their tables. */
+waywire_status waywire_end_more_tables(waywire_end *end, const void *text, size_t length, size_t *line,
+	uint32_t *rule);
 
 /* Whether the end has failed. It fails for good when `next` reads a message at fault, and in
  * `take_waiting_tokens`; a client also when `next` reads wl_display.error, and a server in `post_error`. A
@@ -589,6 +609,17 @@ waywire_amounts waywire_end_in_room(const waywire_end *end);
 /* The free bytes and tokens of the outbox, which has waywire_sizes.out_bytes and out_tokens; also at a failed end.
  * A wl_display.error takes no room: it has its own. This takes constant time, however much waits. */
 waywire_amounts waywire_end_out_room(const waywire_end *end);
+
+/* Calls `make_room` with `data` when the outbox has no room for what a call writes, before the call returns
+ * WAYWIRE_FULL. It may peek at what waits and say that it was `sent`, take it, or ask for the room. If it returns
+ * true, there is more room than before, and the call tries again. Null, with which an end begins, calls nothing. */
+void waywire_end_on_full(waywire_end *end, bool (*make_room)(void *data), void *data);
+
+/* How often calls have written to the outbox, or have changed a server's globals or announced them; refused calls
+ * may be counted. `next` is not counted: it writes a delete_id of 12 bytes at most. A program that reads many
+ * messages asks for room, and announces, only when this has changed, and after a request that makes an object,
+ * which can be a registry. */
+uint64_t waywire_end_writes(const waywire_end *end);
 
 /* Whether nothing waits in the inbox or the outbox. */
 bool waywire_end_is_drained(const waywire_end *end);
@@ -657,6 +688,13 @@ waywire_status waywire_end_take_waiting_tokens(waywire_end *end, uint32_t *token
 waywire_status waywire_end_send(waywire_end *end, waywire_object target, uint16_t opcode,
 	const waywire_arg *args, size_t arg_count, waywire_object *made, size_t *index);
 
+/* Writes a message whose arguments are numbers alone (int, uint, fixed), or that has none, as waywire_end_send
+ * writes the same numbers, in fewer steps. Each number is a word: an int or a fixed number in 256ths is cast to
+ * uint32_t. The other arguments, the statuses and their order are those of waywire_end_send. Any other message is
+ * refused with WAYWIRE_WRONG_ARGS at its first argument that is no number. `words` may be null if there are none. */
+waywire_status waywire_end_send_words(waywire_end *end, waywire_object target, uint16_t opcode,
+	const uint32_t *words, size_t word_count, size_t *index);
+
 /* Reads the next message if it is whole: a client an event, a server a request. If it is not, `report` says
  * WAYWIRE_NOTHING. waywire_report says how long the report is valid.
  * An event by which the server makes an object opens it. If a live object had its id, that object is gone: the
@@ -698,14 +736,7 @@ waywire_status waywire_client_bind(waywire_client client, waywire_object registr
 waywire_status waywire_client_bind_unannounced(waywire_client client, waywire_object registry, uint32_t name,
 	const char *interface, uint32_t version, waywire_object *bound);
 
-/* Reads a text and appends it to the client's own tables, as waywire_tables_read does and with its statuses, and
- * gives the client the resulting tables. Interfaces keep their indices and messages their opcodes, so objects and
- * globals do not change. A global that was announced before its interface was in the tables stays forgotten:
- * waywire_client_bind_unannounced binds it. WAYWIRE_FIRST_SERVER_OBJECT if the text has an event by which the
- * server makes an object (`N`), and the client's tables have none: such a client has no table for those objects.
- * Reports become invalid, as with any call that may change an end. The client's old tables are freed when nothing
- * else uses them; names that came from them are then invalid.
- * What is proved about two ends together does not cover this call: it holds for ends that keep their tables. */
+/* The older name of waywire_end_more_tables, for a client alone. */
 waywire_status waywire_client_more_tables(waywire_client client, const void *text, size_t length,
 	size_t *line, uint32_t *rule);
 
@@ -736,20 +767,34 @@ waywire_status waywire_server_add_global(waywire_server server, uint16_t interfa
 waywire_status waywire_server_withdraw(waywire_server server, uint32_t name);
 
 /* Writes wl_registry.global and global_remove to each open registry for the globals that were added and withdrawn
- * since it was last informed, and stops when an event does not fit. `count`, which may be null, gets the number of
- * events written. Call it after a request has made a registry, after a change of the globals, and after a `take` if
- * not all had fitted. If events do not fit, the next call continues at the registry where this one stopped. It skips
- * registries that are known to need no event, and takes constant time if these are all. The others are those made
- * since it last wrote everything or, after a change of the globals, all registries. Then its time is linear in
- * the events that it writes, in the globals that were ever added, and in these registries. For each of these it
- * looks at the globals 64 at a time, and one by one only if the registry needs an event for one of the 64.
- * WAYWIRE_FAILED. */
-waywire_status waywire_server_announce(waywire_server server, size_t *count);
+ * since it was last informed, and stops when an event does not fit. `count` gets the number of events written, and
+ * `all` whether these were all; both may be null. Call it after a request has made a registry, after a change of the
+ * globals, and after a `take` if not all had fitted. If events do not fit, the next call continues at the registry
+ * where this one stopped. It skips registries that are known to need no event, and takes constant time if these are
+ * all. The others are those made since it last wrote everything or, after a change of the globals, all registries.
+ * Then its time is linear in the events that it writes, in the globals that were ever added, and in these
+ * registries. For each of these it looks at the globals 64 at a time, and one by one only if the registry needs an
+ * event for one of the 64. WAYWIRE_FAILED. */
+waywire_status waywire_server_announce(waywire_server server, size_t *count, bool *all);
 
 /* Ends an object without the event that would destroy it, for example a callback that nobody waits for, and
  * writes its delete_id.
  * WAYWIRE_FAILED, WAYWIRE_STALE, WAYWIRE_NOT_DROPPABLE, WAYWIRE_FULL. */
 waywire_status waywire_server_drop_object(waywire_server server, waywire_object object);
+
+/* Ends an object when the caller says so, whatever its interface, and writes its delete_id if the client made it.
+ * WAYWIRE_NOT_DROPPABLE if it is wl_display or a registry. What is proved about two ends together does not cover this call: only the caller knows that the
+ * client sends no more requests that name the object.
+ * WAYWIRE_FAILED, WAYWIRE_STALE, WAYWIRE_NOT_DROPPABLE, WAYWIRE_FULL. */
+waywire_status waywire_server_end_object(waywire_server server, waywire_object object);
+
+/* Reads the next request as waywire_end_next does, but answers no fault: nothing changes, and the caller ends the
+ * connection with waywire_server_post_error, in its own words and about an object of its choice. Until then the same
+ * fault is returned again, except WAYWIRE_FAULT_MISSING_DESCRIPTOR, which ends if the descriptor comes. The report of
+ * a fault also has the id of the message's target as `id`, its opcode, and as `text` the bytes of the message, header
+ * included, which waywire_tables_decode reads; with WAYWIRE_FAULT_BAD_SIZE, those of the header. What is proved about
+ * two ends together does not cover this call. The statuses are those of waywire_end_next. */
+waywire_status waywire_server_next_unanswered(waywire_server server, waywire_report *report);
 
 /* Ends the connection with wl_display.error about an object. The text ends with a NUL. Its first
  * WAYWIRE_MAX_ERROR_TEXT bytes are written, or up to 3 fewer so that no UTF-8 character is cut. The outbox always
@@ -814,6 +859,13 @@ waywire_status waywire_inspector_judgement(const waywire_inspector *inspector,
  * all of them are lawful. 0 for a null inspector. */
 uint64_t waywire_inspector_judged(const waywire_inspector *inspector);
 
+/* The first judged wl_display.delete_id that nothing asked for: the object of its id was not ending, no event of
+ * its interface ends it, or the id had no object. The rules allow such a message. But a client may write a request
+ * before it reads the message, and that request can then break a rule through no fault of the client's. Returns
+ * the message's number among those of both directions, from 1, and writes the id that it takes back to `id`, which
+ * may be null. Both are 0 if there is no such message, and for a null inspector. */
+uint64_t waywire_inspector_undeserved(const waywire_inspector *inspector, uint32_t *id);
+
 /* ---- the messages that an inspector follows
  *
  * An inspector also follows the messages one by one, judged or not. It even follows those after a message that
@@ -828,9 +880,9 @@ uint64_t waywire_inspector_judged(const waywire_inspector *inspector);
  *         waywire_inspector_go_past(inspector, sender);
  *     }
  *
- * The inspector keeps bytes until their message is gone past, and an object's place until its id is used again.
- * With these calls, the messages are numbered in the order of the pieces, and a message with a number of at most
- * waywire_inspector_judged was judged. */
+ * The inspector keeps bytes until the first `follow` of their sender after their message was gone past, and an
+ * object's place until its id is used again. With these calls, the messages are numbered in the order of the
+ * pieces, and a message with a number of at most waywire_inspector_judged was judged. */
 
 /* What is known of an id. */
 typedef struct waywire_known {

@@ -31,6 +31,9 @@ struct waywire_tables {
 /* So the compiler may put a function into its callers, although the code can be moved in memory. */
 #define HIDDEN __attribute__((visibility("hidden")))
 
+/* So the compiler does not put a function into its callers. */
+#define APART __attribute__((noinline))
+
 /* The address used for an empty slice that is null. */
 extern HIDDEN uint32_t call_nowhere[1];
 
@@ -41,8 +44,8 @@ HIDDEN waywire_status call_slice(const void **bytes, size_t length, size_t size)
  * read them at one time. */
 HIDDEN waywire_tables *tables_ref(const waywire_tables *tables);
 
-/* Reads a text and appends it to the tables of a client, which takes the result, `more`, and becomes its user. */
-HIDDEN waywire_status tables_read_for_client(struct handle *client, const void *text, size_t length,
+/* Reads a text and appends it to the tables of an end, which takes the result, `more`, and becomes its user. */
+HIDDEN waywire_status tables_read_for_end(struct handle *end, const void *text, size_t length,
 	waywire_tables **more, size_t *line, uint32_t *rule);
 
 #endif

@@ -10,6 +10,7 @@ uint32_t waywire_c_inspector_verdict(struct handle *, const void **line, size_t 
 
 void waywire_c_inspector_verdict_parts(const struct handle *, waywire_judgement *);
 uint64_t waywire_c_inspector_judged(const struct handle *);
+uint64_t waywire_c_inspector_undeserved(const struct handle *, uint32_t *id);
 uint32_t waywire_c_inspector_follow(struct handle *, uint32_t sender, const void *bytes, size_t length);
 uint32_t waywire_c_inspector_ahead(const struct handle *, uint32_t sender, waywire_followed *);
 uint32_t waywire_c_inspector_go_past(struct handle *, uint32_t sender);
@@ -126,6 +127,15 @@ waywire_status waywire_inspector_judgement(const waywire_inspector *inspector,
 uint64_t waywire_inspector_judged(const waywire_inspector *inspector)
 {
 	return inspector ? waywire_c_inspector_judged(&inspector->handle) : 0;
+}
+
+uint64_t waywire_inspector_undeserved(const waywire_inspector *inspector, uint32_t *id)
+{
+	uint32_t taken = 0;
+	uint64_t number = inspector ? waywire_c_inspector_undeserved(&inspector->handle, &taken) : 0;
+	if (id)
+		*id = taken;
+	return number;
 }
 
 /* ---- the messages that it follows */

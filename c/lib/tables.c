@@ -3,9 +3,10 @@
 #include "calls.h"
 
 uint32_t waywire_c_tables_core(void **tables);
+uint32_t waywire_c_tables_core_unended(void **tables);
 uint32_t waywire_c_tables_read(struct handle, const void *text, size_t length, void **more,
 	size_t *line, uint32_t *rule);
-uint32_t waywire_c_client_more_tables(struct handle *, const void *text, size_t length, void **more,
+uint32_t waywire_c_end_more_tables(struct handle *, const void *text, size_t length, void **more,
 	size_t *line, uint32_t *rule);
 uint32_t waywire_c_tables_interface(struct handle, const void *name, size_t length,
 	uint16_t *interface);
@@ -129,7 +130,10 @@ void waywire_tables_free(waywire_tables *tables)
 
 /* ---- tables */
 
-waywire_status waywire_tables_core(waywire_tables **tables)
+/* The export that makes core tables. */
+typedef uint32_t core_maker(void **tables);
+
+static waywire_status core_by(core_maker *make, waywire_tables **tables)
 {
 	if (!tables)
 		return WAYWIRE_NULL;
@@ -137,13 +141,23 @@ waywire_status waywire_tables_core(waywire_tables **tables)
 	if (!made)
 		return WAYWIRE_NO_MEMORY;
 	making = &made->blocks;
-	waywire_status status = waywire_c_tables_core(&made->handle.at);
+	waywire_status status = make(&made->handle.at);
 	making = NULL;
 	return made_tables(status, made, tables);
 }
 
-/* Reads a text and appends it to these tables, or to those of a client, which takes the result. */
-static waywire_status read_over(const waywire_tables *tables, struct handle *client, const void *text,
+waywire_status waywire_tables_core(waywire_tables **tables)
+{
+	return core_by(waywire_c_tables_core, tables);
+}
+
+waywire_status waywire_tables_core_unended(waywire_tables **tables)
+{
+	return core_by(waywire_c_tables_core_unended, tables);
+}
+
+/* Reads a text and appends it to these tables, or to those of an end, which takes the result. */
+static waywire_status read_over(const waywire_tables *tables, struct handle *end, const void *text,
 	size_t length, waywire_tables **more, size_t *line, uint32_t *rule)
 {
 	size_t no_line;
@@ -159,8 +173,8 @@ static waywire_status read_over(const waywire_tables *tables, struct handle *cli
 	if (!rule)
 		rule = &no_rule;
 	making = &made->blocks;
-	status = client
-		? waywire_c_client_more_tables(client, text, length, &made->handle.at, line, rule)
+	status = end
+		? waywire_c_end_more_tables(end, text, length, &made->handle.at, line, rule)
 		: waywire_c_tables_read(tables->handle, text, length, &made->handle.at, line, rule);
 	making = NULL;
 	return made_tables(status, made, more);
@@ -174,10 +188,10 @@ waywire_status waywire_tables_read(const waywire_tables *tables, const void *tex
 	return read_over(tables, NULL, text, length, more, line, rule);
 }
 
-waywire_status tables_read_for_client(struct handle *client, const void *text, size_t length,
+waywire_status tables_read_for_end(struct handle *end, const void *text, size_t length,
 	waywire_tables **more, size_t *line, uint32_t *rule)
 {
-	return read_over(NULL, client, text, length, more, line, rule);
+	return read_over(NULL, end, text, length, more, line, rule);
 }
 
 waywire_status waywire_tables_interface(const waywire_tables *tables, const char *name,

@@ -35,6 +35,8 @@ void waywire_c_end_take_waiting_tokens(struct handle *, uint32_t *tokens,
 	size_t token_count, size_t *taken);
 uint32_t waywire_c_end_send(struct handle *, waywire_object target, uint16_t opcode,
 	const waywire_arg *args, size_t arg_count, waywire_object *made, size_t *index);
+uint32_t waywire_c_end_send_words(struct handle *, waywire_object target, uint16_t opcode,
+	const uint32_t *words, size_t word_count, size_t *index);
 uint32_t waywire_c_end_next(struct handle *, waywire_report *, waywire_arg *args,
 	size_t arg_count);
 
@@ -44,12 +46,15 @@ uint32_t waywire_c_client_bind(struct handle *, waywire_object registry, uint32_
 uint32_t waywire_c_client_bind_unannounced(struct handle *, waywire_object registry, uint32_t name,
 	const void *interface, size_t length, uint32_t version, waywire_object *bound);
 uint32_t waywire_c_server_drop_object(struct handle *, waywire_object);
+uint32_t waywire_c_server_end_object(struct handle *, waywire_object);
 uint32_t waywire_c_server_post_error(struct handle *, waywire_object, uint32_t code,
 	const void *text, size_t length);
 uint32_t waywire_c_server_add_global(struct handle *, uint16_t interface, uint32_t version,
 	uint32_t *name);
 uint32_t waywire_c_server_withdraw(struct handle *, uint32_t name);
-uint32_t waywire_c_server_announce(struct handle *, size_t *count);
+uint32_t waywire_c_server_announce(struct handle *, size_t *count, bool *all);
+uint32_t waywire_c_server_next_unanswered(struct handle *, waywire_report *, waywire_arg *args,
+	size_t arg_count);
 
 /* ---- layouts, which the exports have too */
 
@@ -158,6 +163,10 @@ struct waywire_end {
 	struct handle handle;
 	waywire_tables *tables;
 	struct users users;
+	uint64_t writes;   /* how many calls may have written or have changed the globals */
+	bool (*make_room)(void *data); /* null if nothing does */
+	void *room_data;
+	size_t no_index;   /* where a refusal writes an index for which the caller did not ask */
 	size_t unreported; /* the tokens that came and that no report had yet */
 	uint32_t tokens[WAYWIRE_MAX_ARGS];
 };
@@ -180,6 +189,8 @@ static waywire_status new_end(maker *make, const waywire_tables *tables, const w
 	}
 	end->tables = tables_ref(tables);
 	memset(&end->users, 0, sizeof end->users);
+	end->writes = 0;
+	end->make_room = NULL;
 	end->unreported = 0;
 	*made = end;
 	return WAYWIRE_OK;
@@ -257,6 +268,20 @@ const waywire_tables *waywire_end_tables(const waywire_end *end)
 	return end ? end->tables : NULL;
 }
 
+waywire_status waywire_end_more_tables(waywire_end *end, const void *text, size_t length, size_t *line,
+	uint32_t *rule)
+{
+	waywire_tables *more;
+	if (!end)
+		return WAYWIRE_NULL;
+	waywire_status status = tables_read_for_end(&end->handle, text, length, &more, line, rule);
+	if (!status) {
+		waywire_tables_free(end->tables);
+		end->tables = more;
+	}
+	return status;
+}
+
 bool waywire_end_has_failed(const waywire_end *end)
 {
 	return !end || waywire_c_end_has_failed(&end->handle);
@@ -276,6 +301,25 @@ waywire_amounts waywire_end_out_room(const waywire_end *end)
 	if (end)
 		waywire_c_end_out_room(&end->handle, &room);
 	return room;
+}
+
+void waywire_end_on_full(waywire_end *end, bool (*make_room)(void *data), void *data)
+{
+	if (!end)
+		return;
+	end->make_room = make_room;
+	end->room_data = data;
+}
+
+/* Whether a call is to be tried again, because there was no room and now there is more. */
+static bool has_more_room(waywire_end *end, waywire_status status)
+{
+	return status == WAYWIRE_FULL && end->make_room && end->make_room(end->room_data);
+}
+
+uint64_t waywire_end_writes(const waywire_end *end)
+{
+	return end ? end->writes : 0;
 }
 
 bool waywire_end_is_drained(const waywire_end *end)
@@ -402,8 +446,12 @@ waywire_status waywire_end_send(waywire_end *end, waywire_object target, uint16_
 			return status;
 		args = copies;
 	}
-	waywire_status status = waywire_c_end_send(&end->handle, target, opcode, args, arg_count,
-		&object, &refused);
+	end->writes++;
+	waywire_status status;
+	do
+		status = waywire_c_end_send(&end->handle, target, opcode, args, arg_count, &object,
+			&refused);
+	while (has_more_room(end, status));
 	if (!status && made)
 		*made = object;
 	if (index && (status == WAYWIRE_WRONG_ARGS || status == WAYWIRE_BAD_OBJECT))
@@ -411,12 +459,43 @@ waywire_status waywire_end_send(waywire_end *end, waywire_object target, uint16_
 	return status;
 }
 
-waywire_status waywire_end_next(waywire_end *end, waywire_report *report)
+/* As waywire_end_send_words, if there is a call that can make room. It is kept apart, because it has to keep its
+ * arguments over a call. */
+static APART waywire_status send_words_in_room(waywire_end *end, waywire_object target, uint16_t opcode,
+	const uint32_t *words, size_t word_count, size_t *index)
+{
+	waywire_status status;
+	do
+		status = waywire_c_end_send_words(&end->handle, target, opcode, words, word_count, index);
+	while (has_more_room(end, status));
+	return status;
+}
+
+waywire_status waywire_end_send_words(waywire_end *end, waywire_object target, uint16_t opcode,
+	const uint32_t *words, size_t word_count, size_t *index)
+{
+	if (!end || (!words && word_count))
+		return WAYWIRE_NULL;
+	if (!words)
+		words = call_nowhere;
+	if (word_count > MAX_GIVEN)
+		word_count = MAX_GIVEN;
+	if (!index)
+		index = &end->no_index;
+	end->writes++;
+	if (end->make_room)
+		return send_words_in_room(end, target, opcode, words, word_count, index);
+	return waywire_c_end_send_words(&end->handle, target, opcode, words, word_count, index);
+}
+
+/* The export that reads a message. */
+typedef uint32_t reader(struct handle *, waywire_report *, waywire_arg *args, size_t arg_count);
+
+static inline waywire_status next_by(reader *read, waywire_end *end, waywire_report *report)
 {
 	if (!end || !report)
 		return WAYWIRE_NULL;
-	waywire_status status = waywire_c_end_next(&end->handle, report, report->args,
-		WAYWIRE_MAX_ARGS);
+	waywire_status status = read(&end->handle, report, report->args, WAYWIRE_MAX_ARGS);
 	if (end->unreported) {
 		list_tokens(report, end->tokens);
 		end->unreported -= report->token_count;
@@ -424,6 +503,11 @@ waywire_status waywire_end_next(waywire_end *end, waywire_report *report)
 	report->user = users_get(&end->users, report->target);
 	report->replaced_user = report->replaced.id ? users_get(&end->users, report->replaced) : NULL;
 	return status;
+}
+
+waywire_status waywire_end_next(waywire_end *end, waywire_report *report)
+{
+	return next_by(waywire_c_end_next, end, report);
 }
 
 /* ---- what a client has alone */
@@ -440,8 +524,13 @@ waywire_status waywire_client_bind(waywire_client client, waywire_object registr
 	waywire_object no_object;
 	if (!client.end || !interface)
 		return WAYWIRE_NULL;
-	return waywire_c_client_bind(&client.end->handle, registry, name, interface,
-		strlen(interface), version, bound ? bound : &no_object);
+	client.end->writes++;
+	waywire_status status;
+	do
+		status = waywire_c_client_bind(&client.end->handle, registry, name, interface,
+			strlen(interface), version, bound ? bound : &no_object);
+	while (has_more_room(client.end, status));
+	return status;
 }
 
 waywire_status waywire_client_bind_unannounced(waywire_client client, waywire_object registry, uint32_t name,
@@ -450,23 +539,21 @@ waywire_status waywire_client_bind_unannounced(waywire_client client, waywire_ob
 	waywire_object no_object;
 	if (!client.end || !interface)
 		return WAYWIRE_NULL;
-	return waywire_c_client_bind_unannounced(&client.end->handle, registry, name, interface,
-		strlen(interface), version, bound ? bound : &no_object);
+	client.end->writes++;
+	waywire_status status;
+	do
+		status = waywire_c_client_bind_unannounced(&client.end->handle, registry, name, interface,
+			strlen(interface), version, bound ? bound : &no_object);
+	while (has_more_room(client.end, status));
+	return status;
 }
 
 waywire_status waywire_client_more_tables(waywire_client client, const void *text, size_t length,
 	size_t *line, uint32_t *rule)
 {
-	waywire_tables *more;
-	if (!client.end)
-		return WAYWIRE_NULL;
-	waywire_status status = tables_read_for_client(&client.end->handle, text, length, &more, line,
-		rule);
-	if (!status) {
-		waywire_tables_free(client.end->tables);
-		client.end->tables = more;
-	}
-	return status;
+	waywire_object made;
+	waywire_status status = waywire_client_made(client, &made); /* refuses a server */
+	return status ? status : waywire_end_more_tables(client.end, text, length, line, rule);
 }
 
 waywire_status waywire_client_made(waywire_client client, waywire_object *made)
@@ -488,7 +575,24 @@ waywire_status waywire_server_drop_object(waywire_server server, waywire_object 
 {
 	if (!server.end)
 		return WAYWIRE_NULL;
-	return waywire_c_server_drop_object(&server.end->handle, object);
+	server.end->writes++;
+	waywire_status status;
+	do
+		status = waywire_c_server_drop_object(&server.end->handle, object);
+	while (has_more_room(server.end, status));
+	return status;
+}
+
+waywire_status waywire_server_end_object(waywire_server server, waywire_object object)
+{
+	if (!server.end)
+		return WAYWIRE_NULL;
+	server.end->writes++;
+	waywire_status status;
+	do
+		status = waywire_c_server_end_object(&server.end->handle, object);
+	while (has_more_room(server.end, status));
+	return status;
 }
 
 /* How many bytes of a text fit in an error, without cutting a UTF-8 character. */
@@ -508,6 +612,7 @@ waywire_status waywire_server_post_error(waywire_server server, waywire_object o
 {
 	if (!server.end || !text)
 		return WAYWIRE_NULL;
+	server.end->writes++;
 	return waywire_c_server_post_error(&server.end->handle, object, code, text,
 		error_length(text));
 }
@@ -518,6 +623,7 @@ waywire_status waywire_server_add_global(waywire_server server, uint16_t interfa
 	uint32_t no_name;
 	if (!server.end)
 		return WAYWIRE_NULL;
+	server.end->writes++;
 	return waywire_c_server_add_global(&server.end->handle, interface, version,
 		name ? name : &no_name);
 }
@@ -526,15 +632,24 @@ waywire_status waywire_server_withdraw(waywire_server server, uint32_t name)
 {
 	if (!server.end)
 		return WAYWIRE_NULL;
+	server.end->writes++;
 	return waywire_c_server_withdraw(&server.end->handle, name);
 }
 
-waywire_status waywire_server_announce(waywire_server server, size_t *count)
+waywire_status waywire_server_announce(waywire_server server, size_t *count, bool *all)
 {
 	size_t no_count;
+	bool no_all;
 	if (!server.end)
 		return WAYWIRE_NULL;
-	return waywire_c_server_announce(&server.end->handle, count ? count : &no_count);
+	server.end->writes++;
+	return waywire_c_server_announce(&server.end->handle, count ? count : &no_count,
+		all ? all : &no_all);
+}
+
+waywire_status waywire_server_next_unanswered(waywire_server server, waywire_report *report)
+{
+	return next_by(waywire_c_server_next_unanswered, server.end, report);
 }
 
 /* ---- texts */

@@ -12,11 +12,17 @@
 #define SERVER_OBJECTS 50000
 #define SERVER_PATIENCE 120000
 
-/* A callback may write half of the outbox, for example all formats of zwp_linux_dmabuf_v1. One read fills the inbox at
- * most: libwayland's reads take 4,096 bytes, and a desktop's clients and compositors write less at once. A libwayland
- * whose buffers grow can send many descriptors before the bytes of their messages. Each one that waits counts
- * against the process's limit, often 1,024. */
-static const waywire_sizes usual_sizes = { 65536, 64, 16384, 256, WAYWIRE_USUAL_LIMIT };
+/* While messages are read, this many bytes are sent in one go: the size of libwayland's buffer. */
+#define BATCH 4096
+
+/* One read fills the inbox at most: libwayland's reads take 4,096 bytes, and a desktop's clients and compositors write
+ * less at once. A libwayland whose buffers grow can send many descriptors before the bytes of their messages. Each one
+ * that waits counts against the process's limit, often 1,024. */
+#define IN_TOKENS 256
+
+/* A server has a connection for each client, so its queues are as large as the longest message. */
+static const waywire_sizes client_sizes = { 65536, 64, 16384, IN_TOKENS, WAYWIRE_USUAL_LIMIT };
+static const waywire_sizes server_sizes = { 4096, 64, 4096, IN_TOKENS, WAYWIRE_USUAL_LIMIT };
 
 int64_t connection_moment(void)
 {
@@ -36,6 +42,13 @@ static bool can_carry(const waywire_sizes *sizes)
 		&& sizes->in_tokens >= WAYWIRE_SOCKET_DESCRIPTORS + WAYWIRE_MAX_ARGS;
 }
 
+/* The outbox room that is left while this many bytes wait, and half of its tokens. */
+static waywire_amounts least_room(const waywire_sizes *sizes, size_t waiting)
+{
+	waywire_amounts room = { sizes->out_bytes - waiting, sizes->out_tokens - sizes->out_tokens / 2 };
+	return room;
+}
+
 /* A connection without an end; null with errno. */
 static waywire_connection *new_connection(const waywire_tables *tables, const waywire_sizes *sizes,
 	int socket)
@@ -48,8 +61,8 @@ static waywire_connection *new_connection(const waywire_tables *tables, const wa
 	if (!connection)
 		return NULL;
 	connection->socket = socket;
-	connection->capacity.bytes = sizes->out_bytes;
-	connection->capacity.tokens = sizes->out_tokens;
+	connection->half = least_room(sizes, sizes->out_bytes / 2);
+	connection->unsent = least_room(sizes, BATCH < sizes->out_bytes / 2 ? BATCH : sizes->out_bytes / 2);
 	connection->entries.before = connection->entries.after = &connection->entries;
 	connection->sweep_at = FIRST_SWEEP;
 	connection->patience = connection->stuck_since = -1;
@@ -62,6 +75,7 @@ static waywire_connection *with_end(waywire_connection *connection, waywire_end 
 {
 	if (!status) {
 		connection->end = end;
+		waywire_end_on_full(end, connection_make_room, connection);
 		return connection;
 	}
 	free(connection);
@@ -73,7 +87,7 @@ waywire_connection *waywire_connection_of_client(const waywire_tables *tables,
 	const waywire_sizes *sizes, int socket)
 {
 	if (!sizes)
-		sizes = &usual_sizes;
+		sizes = &client_sizes;
 	waywire_connection *made = new_connection(tables, sizes, socket);
 	if (!made)
 		return NULL;
@@ -85,7 +99,7 @@ waywire_connection *waywire_connection_of_server(const waywire_tables *tables,
 	const waywire_sizes *sizes, int socket)
 {
 	if (!sizes)
-		sizes = &usual_sizes;
+		sizes = &server_sizes;
 	waywire_connection *made = new_connection(tables, sizes, socket);
 	if (!made)
 		return NULL;
@@ -160,6 +174,7 @@ void waywire_connection_set_limits(waywire_connection *connection, size_t object
 {
 	connection->most_objects = objects;
 	connection->uncounted = 0;
+	connection->ready = 0; /* so that the next dispatch counts them */
 	connection->patience = milliseconds;
 }
 

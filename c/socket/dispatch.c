@@ -10,8 +10,8 @@
 /* The index of wl_display in all tables. */
 #define DISPLAY_INTERFACE 0
 
-/* While messages are read, this many bytes are sent in one go: the size of libwayland's buffer. */
-#define BATCH 4096
+/* What a server writes to end an object of the client. */
+#define DELETE_ID_LENGTH 12
 
 /* While messages are read, the objects are counted once in so many. */
 #define COUNTED 32
@@ -74,11 +74,9 @@ int waywire_connection_flush(waywire_connection *connection)
 	return is_closed(connection, errno);
 }
 
-/* Unlike waywire_end_peek, `goes` looks at no more than the message that the first byte is of. */
 bool waywire_connection_wants_write(const waywire_connection *connection)
 {
-	return !connection->failure.error
-		&& waywire_end_goes(connection->end, 1, WAYWIRE_MAX_ARGS).bytes;
+	return !connection->failure.error && socket_has_waiting(connection->end);
 }
 
 /* Flushes, and says whether the connection continues. It does even if the socket takes no more, or if a client's
@@ -87,6 +85,14 @@ static bool flushes(waywire_connection *connection)
 {
 	return !waywire_connection_flush(connection)
 		|| (!connection->failure.error && (errno == EAGAIN || is_gone(errno)));
+}
+
+bool connection_make_room(void *data)
+{
+	waywire_connection *connection = data;
+	size_t before = waywire_end_out_room(connection->end).bytes;
+	flushes(connection);
+	return waywire_end_out_room(connection->end).bytes > before;
 }
 
 /* ---- reading */
@@ -138,10 +144,7 @@ static void destroy_made(waywire_connection *connection, bool is_discarded)
 		if (request.destroys != WAYWIRE_DESTROYS_TARGET || request.arg_count
 			|| request.since > version)
 			continue;
-		waywire_end *end = connection->end;
-		if (waywire_end_send(end, made, opcode, NULL, 0, NULL, NULL) == WAYWIRE_FULL
-			&& flushes(connection))
-			waywire_end_send(end, made, opcode, NULL, 0, NULL, NULL);
+		waywire_end_send(connection->end, made, opcode, NULL, 0, NULL, NULL);
 		return;
 	}
 }
@@ -194,7 +197,7 @@ static bool is_last(const waywire_connection *connection, const waywire_report *
 /* Calls the callback for one report, and ends the entry of its target if it is the last. */
 static void hear(waywire_connection *connection, waywire_report *report)
 {
-	waywire_end *end = connection->end;
+	const waywire_end *end = connection->end;
 	bool was_heard = false;
 	/* If a callback dispatches, the end overwrites these with others. */
 	uint32_t tokens[WAYWIRE_MAX_ARGS];
@@ -211,7 +214,8 @@ static void hear(waywire_connection *connection, waywire_report *report)
 		entry_release(display);
 	}
 	if (!was_heard) {
-		report_close_tokens(tokens, token_count);
+		if (token_count)
+			report_close_tokens(tokens, token_count);
 		if (connection->client.end)
 			destroy_made(connection, report->kind == WAYWIRE_DISCARDED);
 		else
@@ -222,42 +226,60 @@ static void hear(waywire_connection *connection, waywire_report *report)
 	entry_release(target);
 }
 
-/* What waits to be sent. This is asked for each message, so it must not depend on how much that is. */
-static waywire_amounts waiting(const waywire_connection *connection)
+/* For how many messages the outbox has this room: each has it before it is read, and `next` then writes a delete_id
+ * at most. It must not depend on how much waits. */
+static size_t ready_with(const waywire_connection *connection, const waywire_amounts *least)
 {
-	waywire_amounts room = waywire_end_out_room(connection->end), waits = connection->capacity;
-	waits.bytes -= room.bytes;
-	waits.tokens -= room.tokens;
-	return waits;
+	waywire_amounts room = waywire_end_out_room(connection->end);
+	if (room.bytes < least->bytes || room.tokens < least->tokens)
+		return 0;
+	return (room.bytes - least->bytes) / DELETE_ID_LENGTH + 1;
 }
 
-/* Whether the outbox has room for what callbacks write; sends what waits when there is enough of it. Returns 1,
- * or 0 if there is too much, or -1. */
-static int has_room(waywire_connection *connection)
+/* For how many messages the outbox has room for what callbacks write; sends what waits when there is enough of it.
+ * False if there is an error. */
+static bool make_room(waywire_connection *connection)
 {
-	size_t half = connection->capacity.bytes / 2, half_of_tokens = connection->capacity.tokens / 2;
-	waywire_amounts waits = waiting(connection);
-	if (!connection->is_blocked && (waits.bytes > BATCH || waits.tokens > half_of_tokens)) {
-		if (!flushes(connection))
-			return -1;
-		waits = waiting(connection);
-	}
-	return waits.bytes <= half && waits.tokens <= half_of_tokens;
+	connection->ready = ready_with(connection, &connection->unsent);
+	if (connection->ready)
+		return true;
+	if (!connection->is_blocked && !flushes(connection))
+		return false;
+	connection->ready = ready_with(connection, &connection->half);
+	return true;
 }
 
-/* Prepares for the next message. Returns 1, or 0 if it has to wait: a server reads nothing more from a client
+/* Prepares for the next messages. Returns 1, or 0 if they have to wait: a server reads nothing more from a client
  * that does not read. A client reads on; otherwise the two could wait for each other forever. -1 with errno. */
-static int is_ready(waywire_connection *connection)
+static int make_ready(waywire_connection *connection)
 {
-	int room = has_room(connection);
 	size_t announced = 0;
-	if (room < 0 || connection->client.end)
-		return room < 0 ? -1 : 1;
-	while (room > 0 && !waywire_server_announce(connection->server, &announced) && announced) {
-		announced = 0; /* not all may have fitted */
-		room = has_room(connection);
+	bool all = true;
+	if (!make_room(connection))
+		return -1;
+	while (connection->ready && !waywire_server_announce(connection->server, &announced, &all) && announced
+		&& !all) {
+		announced = 0;
+		if (!make_room(connection))
+			return -1;
 	}
-	return room;
+	connection->writes = waywire_end_writes(connection->end);
+	return connection->ready || connection->client.end;
+}
+
+/* Whether there is room for one message more, since nothing but `next` has written after `make_ready`. */
+static inline bool is_ready(const waywire_connection *connection)
+{
+	return connection->ready && connection->writes == waywire_end_writes(connection->end);
+}
+
+/* Whether a message makes an object. It may be a registry, to which globals are announced at once. */
+static bool makes_object(const waywire_report *report)
+{
+	for (size_t i = 0; i < report->arg_count; i++)
+		if (report->args[i].kind == WAYWIRE_NEW)
+			return true;
+	return false;
 }
 
 /* Whether there are more objects than there may be. A message makes one at most, so they are counted again before
@@ -292,9 +314,13 @@ static int read_next(waywire_connection *connection)
 	waywire_report report;
 	if (connection->most_objects && has_too_many(connection))
 		return end_with_too_many(connection);
-	int ready = is_ready(connection);
-	if (ready <= 0)
-		return ready;
+	if (!is_ready(connection)) {
+		int ready = make_ready(connection);
+		if (ready <= 0)
+			return ready;
+	}
+	if (connection->ready)
+		connection->ready--;
 	waywire_status status = waywire_end_next(connection->end, &report);
 	if (status == WAYWIRE_OUT_FULL)
 		return 0;
@@ -312,6 +338,8 @@ static int read_next(waywire_connection *connection)
 	}
 	if (report.kind == WAYWIRE_ERROR)
 		connection_fail_by_error(connection, &report);
+	if (connection->server.end && makes_object(&report))
+		connection->ready = 0;
 	hear(connection, &report);
 	/* It can have ended in a callback, too. */
 	return connection->failure.error ? ended_before(connection) : 1;
@@ -324,8 +352,12 @@ static int read_all(waywire_connection *connection, int *count)
 	int read;
 	if (connection->failure.error)
 		return ended_before(connection);
+	/* If nothing has come, a server may still have new globals, or too many objects. */
+	if (!connection->is_unread
+		&& (is_ready(connection) || (connection->client.end && !connection->most_objects)))
+		return 0;
 	connection->is_unread = true;
-	connection->uncounted = 0; /* the program may have made some */
+	connection->uncounted = 0; /* the program may have made some objects */
 	while ((read = read_next(connection)) > 0)
 		++*count;
 	return read;
@@ -385,7 +417,12 @@ static int step(waywire_connection *connection, int64_t end, int *count)
 	int before = *count;
 	if (!flushes(connection) || read_all(connection, count))
 		return -1;
-	return *count > before ? 1 : wait_until(connection, end);
+	if (*count > before)
+		return 1;
+	int went = wait_until(connection, end);
+	if (went <= 0 || !connection->is_unread || connection->is_blocked)
+		return went;
+	return read_all(connection, count) ? -1 : 1; /* it has just been flushed */
 }
 
 int waywire_connection_dispatch(waywire_connection *connection, int milliseconds)

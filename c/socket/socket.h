@@ -18,6 +18,9 @@ HIDDEN bool socket_address(struct sockaddr_un *address, const char *name);
 
 /* ---- an end and its socket (transfer.c) */
 
+/* Whether bytes wait to be sent. */
+HIDDEN bool socket_has_waiting(const waywire_end *end);
+
 /* Writes what waits, as waywire_socket_flush; `went` gets whether some of it went. */
 HIDDEN int socket_flush_end(int socket, waywire_end *end, bool *went);
 
@@ -53,7 +56,10 @@ struct waywire_connection {
 	waywire_end *end;
 	waywire_client client; /* one of these two has the end, the other null */
 	waywire_server server;
-	waywire_amounts capacity; /* of the outbox */
+	waywire_amounts half;   /* of what the outbox holds */
+	waywire_amounts unsent; /* while messages are read, what waits is sent if the outbox has less room than this */
+	uint64_t writes; /* of the end, when there was room for `ready` messages and all globals were announced */
+	size_t ready;
 	uint32_t serial; /* how many syncs it has answered */
 
 	struct entry entries; /* the head of the ring */
@@ -84,6 +90,10 @@ HIDDEN int connection_fail(waywire_connection *connection, int error, const char
 HIDDEN int connection_fail_by_fault(waywire_connection *connection, waywire_status status,
 	const waywire_report *report);
 HIDDEN int connection_fail_by_error(waywire_connection *connection, const waywire_report *report);
+
+/* Sends what waits, for a call that finds the outbox full; `data` is the connection. Returns whether some of it went
+ * (dispatch.c). */
+HIDDEN bool connection_make_room(void *data);
 
 /* ---- the objects of a connection (objects.c) */
 

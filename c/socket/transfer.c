@@ -124,6 +124,12 @@ void report_close_tokens(const uint32_t *tokens, size_t count)
 	errno = error;
 }
 
+/* Unlike waywire_end_peek, `goes` looks at no more than the message that the first byte is of. */
+bool socket_has_waiting(const waywire_end *end)
+{
+	return waywire_end_goes(end, 1, WAYWIRE_MAX_ARGS).bytes;
+}
+
 int socket_flush_end(int socket, waywire_end *end, bool *went)
 {
 	waywire_part parts[2];
@@ -131,13 +137,12 @@ int socket_flush_end(int socket, waywire_end *end, bool *went)
 	int descriptors[WAYWIRE_MAX_ARGS];
 	size_t count;
 	*went = false;
-	for (;;) {
-		if (waywire_end_peek(end, parts, tokens, WAYWIRE_MAX_ARGS, &count)) {
-			errno = EINVAL;
-			return -1;
-		}
-		if (!parts[0].length && !parts[1].length)
-			return 0;
+	if (!end) {
+		errno = EINVAL;
+		return -1;
+	}
+	while (socket_has_waiting(end)) {
+		waywire_end_peek(end, parts, tokens, WAYWIRE_MAX_ARGS, &count);
 		for (size_t i = 0; i < count; i++)
 			descriptors[i] = (int)tokens[i];
 		ssize_t sent = waywire_socket_send(socket, parts, descriptors, count);
@@ -147,6 +152,7 @@ int socket_flush_end(int socket, waywire_end *end, bool *went)
 		close_all(descriptors, count); /* they went with the first byte */
 		*went = true;
 	}
+	return 0;
 }
 
 int waywire_socket_flush(int socket, waywire_end *end)

@@ -5,12 +5,14 @@ use Rattle.std.specs.declared.result.Result.TheVariants.{Ok, Err}
 use Rattle.wl_sigs.specs.Side.{Side}
 use Rattle.wl_object_map.specs.declared.object.Object.{Object}
 use Rattle.wl_objects.specs.declared.error.SendError.{SendError}
-use Rattle.wl_objects.specs.Writing.{Given}
+use Rattle.wl_objects.specs.Writing.{Given, given}
 use Rattle.wl_objects.specs.Messages.{checked}
 use Rattle.wl_connection.specs.Core.{Core}
-use Rattle.wl_connection.specs.Sending.{send_answer, opens_object}
+use Rattle.wl_connection.specs.Sending.{after_send, numbers_of, send_answer, opens_object}
 use Rattle.waywire_c.specs.Statuses.{made_outcome, refused_place, OrMemory}
 use Rattle.waywire_c.specs.Values.{made_object}
+use Rattle.waywire_c.specs.declared.held.HeldEnd.{HeldEnd}
+use Rattle.waywire_c.specs.Ends.{core_of, end_with_core, writes}
 
 -- what is left in the output for the index of a refused argument: that index, if the refusal names
 -- one
@@ -47,3 +49,15 @@ abbrev pub SendTells : Core → Side → Object → ℕ → Option (List Given) 
 SendTells core side target opcode given status before made place_before place =
     MatchOption given ((status ≡ 62) × (made ≡ before) × (place ≡ place_before))
     (λ args. IsSent core side target opcode args status before made place_before place)
+
+-- What an end answers to a call of words, and what the call leaves: what `send` answers and leaves
+-- of the numbers that the words are for the message.
+abbrev pub words_answer : HeldEnd → Object → ℕ → List ℕ → Result (Option Object) SendError
+words_answer end target opcode words =
+    send_answer (core_of end) (writes end) target opcode
+    (given (numbers_of (core_of end) (writes end) target opcode words))
+
+abbrev pub after_words : HeldEnd → Object → ℕ → List ℕ → HeldEnd
+after_words end target opcode words = end_with_core end
+    (after_send (core_of end) (writes end) target opcode
+    (given (numbers_of (core_of end) (writes end) target opcode words)))

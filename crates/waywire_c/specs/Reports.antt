@@ -1,9 +1,13 @@
 -- What a report contains for C, apart from where it lies in memory.
-use Rattle.std.specs.Prelude.{◌≡◌, ℕ, ℤ, pos, min, Bool, false, ◌&&◌, not, nat_eq, if◌then◌else◌}
-use Rattle.std.specs.Prelude.{List, [], ◌∷◌, length, map, take, drop, Option, Some, None, is_some}
+use Rattle.std.specs.Prelude.{◌≡◌, ℕ, ℤ, pos, min, Bool, true, false, ◌&&◌, not, nat_eq}
+use Rattle.std.specs.Prelude.{nat_lt, if◌then◌else◌, List, [], ◌∷◌, length, map, take, drop, Option}
+use Rattle.std.specs.Prelude.{Some, None, is_some}
 use Rattle.std.specs.declared.result.Result.{Result}
 use Rattle.std.specs.declared.result.Result.TheVariants.{Ok, Err}
 use Rattle.wl_wire.specs.Argument.{Int, Uint, Fixed, Str, Obj, New, NewNamed, Array, Fd}
+use Rattle.wl_wire.specs.Word.{header_at}
+use Rattle.wl_message.specs.Arrived.{Arrived, in_front}
+use Rattle.wl_message.specs.Cut.{front_len}
 use Rattle.wl_sigs.specs.Fixed.{registry}
 use Rattle.wl_object_map.specs.declared.object.Object.{Object}
 use Rattle.wl_object_map.specs.declared.object.Entry.{Entry}
@@ -17,6 +21,7 @@ use Rattle.wl_objects.specs.Messages.{same_iface}
 use Rattle.wl_client.specs.State.{State, global_of}
 use Rattle.wl_client.specs.Reports as client
 use Rattle.wl_server.specs.Requests as server
+use Rattle.wl_server.specs.State as server_end
 use Rattle.waywire_c.specs.declared.values.ReportArg.{ReportArg}
 use Rattle.waywire_c.specs.declared.reports.Report.{Report}
 use Rattle.waywire_c.specs.Statuses.{fault_place, fault_spelling}
@@ -140,6 +145,18 @@ told_unread (errors.Fault fault offset) = record (fields_of_kind 6) {
 }
 told_unread _ = fields_of_kind 0
 
+-- the same if a fault is left to the caller, given the bytes of its message: all, or the header
+-- alone
+abbrev pub told_left : NextError → List ℕ → ReportFields
+told_left (errors.Fault fault offset) message =
+    if nat_lt (length message) 8 then told_unread (errors.Fault fault offset)
+    else record (told_unread (errors.Fault fault offset)) {
+      id = (header_at message).object;
+      opcode = (header_at message).opcode;
+      text_length = length message;
+    }
+told_left why message = told_unread why
+
 -- for a message to a live object, with room for this many arguments
 abbrev pub told_message : ℕ → Object → ℕ → List Reported → ReportFields
 told_message room target opcode args = record (fields_of_kind 1) {
@@ -247,3 +264,22 @@ request_entry view _ = None
 abbrev pub request_args : Result (Option server.Report) NextError → List Reported
 request_args (Ok (Some report)) = report.args
 request_args _ = []
+
+-- the bytes of the message at the front of what waits: all, or the header alone if its size is bad
+abbrev pub front_of : Arrived → List ℕ
+front_of inbox = take (front_len (in_front inbox)) inbox.bytes
+
+abbrev pub told_unanswered_by : ℕ → server_end.State → Result (Option server.Report) NextError
+    → ReportFields
+told_unanswered_by room state (Err why) = told_left why (front_of state.core.inbox)
+told_unanswered_by room state (Ok report) = told_request room (Ok report)
+
+-- What is reported about what a server in this state reads, if a fault is left to the caller.
+abbrev pub told_unanswered : ℕ → server_end.State → ReportFields
+told_unanswered room state = told_unanswered_by room state (server.next_answer state)
+
+-- What is reported about what a server in this state reads, if a fault is answered, or left to the
+-- caller.
+abbrev pub told_answering : Bool → ℕ → server_end.State → ReportFields
+told_answering true room state = told_request room (server.next_answer state)
+told_answering false room state = told_unanswered room state

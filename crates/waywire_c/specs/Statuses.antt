@@ -109,7 +109,7 @@ abbrev pub table_outcome : {X : Type 0} → Result X TableFault → ℕ
 table_outcome (Ok found) = 0
 table_outcome (Err why) = table_status why
 
--- TB1, TB2, TB3, and the status for tables that a client with these tables cannot take
+-- TB1, TB2, TB3; TB4 for tables that a client with these tables cannot take
 abbrev pub more_tables_outcome : List Interface → Result (List Interface) TableFault → ℕ
 more_tables_outcome tables (Ok more) = if has_first_server_object tables more then 73 else 0
 more_tables_outcome tables (Err why) = table_status why

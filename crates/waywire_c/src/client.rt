@@ -1,16 +1,10 @@
 //! Calls for clients only. With a server each returns `OTHER_END`, and does nothing.
-ghost use Rattle.std.specs.Prelude.{◌≡◌, ◌≢◌, ◌↔◌, ◌⊎◌, List, true, Some, Ok, Err};
-ghost use Rattle.wl_sigs.specs.Outcome.{outcome};
-ghost use Rattle.wl_sigs.specs.Tables.{Interface};
-ghost use Rattle.wl_text.specs.declared.fault.TableFault.TheVariants.{BadLine as bad_line};
-ghost use Rattle.wl_text.specs.declared.fault.TableFault.TheVariants.{BadTable as bad_table};
+ghost use Rattle.std.specs.Prelude.{◌≡◌, ◌≢◌, ◌↔◌, true, Some, Ok};
 ghost use Rattle.wl_client.specs.Calls.{after_bind, bind_answer};
-ghost use Rattle.wl_connection.specs.MoreTables.{with_tables};
-ghost use Rattle.wl_client.specs.State.{with_core};
 ghost use Rattle.wl_client.specs.Unannounced.{after_unannounced, unannounced_answer};
 ghost use Rattle.waywire_c.specs.declared.held.HeldEnd.TheVariants.{Client};
 ghost use Rattle.waywire_c.specs.Ends.{IfClient, IfServer};
-ghost use Rattle.waywire_c.specs.Statuses.{made_outcome, more_tables_outcome, OrMemory};
+ghost use Rattle.waywire_c.specs.Statuses.{made_outcome, OrMemory};
 ghost use Rattle.waywire_c.specs.Values.{made_object, object_from_c};
 ghost use Rattle.waywire_c.specs.Inspecting.{IsTried};
 ghost use Rattle.waywire_c.specs.Sizes.{AreAllowed};
@@ -18,13 +12,11 @@ ghost use Rattle.waywire_c.specs.Sizes.{AreAllowed};
 use crate::end_handle::EndHandle;
 use crate::held::HeldEnd;
 use crate::making;
-use crate::parts::{address, lent_address};
-use crate::statuses::{FIRST_SERVER_OBJECT, OK, OTHER_END, send_status};
-use crate::tables::put_fault;
+use crate::parts::address;
+use crate::statuses::{OK, OTHER_END, send_status};
 use crate::tables_handle::TablesHandle;
 use crate::values::{CObject, CSizes};
 use std::alloc::Global;
-use wl_connection::End;
 
 /// Makes a client with wl_display alone and empty queues, and writes its address to `client`.
 #[unsafe(no_mangle)]
@@ -36,6 +28,7 @@ pub extern "C" fn waywire_c_client_new(
 ) -> u32
     ensures sizes { (result ≢ 63) ↔ AreAllowed sizes.now }
     ensures tried { result ≢ 63 → IsTried result }
+    ensures none { result ≢ 0 → client.new ≡ client.old }
 {
     match making::client_by(alloc, tables.get().tables, sizes) {
         Ok(boxed) => {
@@ -128,44 +121,4 @@ pub extern "C" fn waywire_c_client_bind_unannounced(
         }
         Err(why) => send_status(why),
     }
-}
-
-/// Reads a text over the client's own tables, gives the resulting tables to the client, and writes
-/// their address to `more`. If a line of the text is bad, its number is written to `line`, and the
-/// rule that it breaks to `rule`.
-#[unsafe(no_mangle)]
-pub extern "C" fn waywire_c_client_more_tables(
-    alloc: Global,
-    end: &mut EndHandle,
-    text: &[u8],
-    more: &mut *const u8,
-    line: &mut usize,
-    rule: &mut u32,
-) -> u32
-    ensures answer { IfClient end.old.held (λ client. (result ≡ more_tables_outcome
-        client.core.tables (outcome client.core.tables text.now)) ⊎ (result ≡ 11)) }
-    ensures other { IfServer end.old.held (λ server. result ≡ 66) }
-    ensures bad_line { result ≡ 71 → IfClient end.old.held (λ client.
-        outcome client.core.tables text.now ≡ Err (bad_line line.new)) }
-    ensures bad_table { result ≡ 72 → IfClient end.old.held (λ client.
-        outcome client.core.tables text.now ≡ Err (bad_table line.new rule.new)) }
-    ensures line { result ≢ 71 → result ≢ 72 → line.new ≡ line.old }
-    ensures rule { result ≢ 72 → rule.new ≡ rule.old }
-    ensures state { result ≡ 0 → IfClient end.old.held (λ client. (tables : List Interface)
-        × (outcome client.core.tables text.now ≡ Ok tables)
-        × (end.new.held ≡ Client (with_core client (with_tables client.core tables)))) }
-    ensures unchanged { result ≢ 0 → end.new.held ≡ end.old.held }
-{
-    let HeldEnd::Client(client) = end.get_mut() else {
-        return OTHER_END;
-    };
-    let boxed = match making::more_tables(alloc, client.core().tables, text) {
-        Ok(boxed) => boxed,
-        Err(why) => return put_fault(why, line, rule),
-    };
-    if client.more_tables(boxed.tables).is_err() {
-        return FIRST_SERVER_OBJECT;
-    }
-    *more = lent_address(boxed);
-    OK
 }

@@ -1,6 +1,10 @@
 //! Calls for either end.
-ghost use Rattle.std.specs.Prelude.{◌≡◌, ◌≢◌, ◌+◌, ◌++◌, length, take, drop, true};
-ghost use Rattle.std.specs.Prelude.{min, slice_get, cond, IfSome, MatchOption, None};
+ghost use Rattle.std.specs.Prelude.{◌≡◌, ◌≢◌, ◌⊎◌, ◌+◌, ◌++◌, length, take, drop, true};
+ghost use Rattle.std.specs.Prelude.{min, slice_get, cond, IfSome, MatchOption, None, List, Ok, Err};
+ghost use Rattle.wl_sigs.specs.Outcome.{outcome};
+ghost use Rattle.wl_sigs.specs.Tables.{Interface};
+ghost use Rattle.wl_text.specs.declared.fault.TableFault.TheVariants.{BadLine as bad_line};
+ghost use Rattle.wl_text.specs.declared.fault.TableFault.TheVariants.{BadTable as bad_table};
 ghost use Rattle.wl_object_map.specs.declared.object.Maker.TheVariants.{Client, Server};
 ghost use Rattle.wl_object_map.specs.Objects.{ids_used, look, row_count};
 ghost use Rattle.wl_message.specs.Outgoing.{goes, Peeks, room_of, token_room_of};
@@ -8,24 +12,30 @@ ghost use Rattle.wl_message.specs.Outgoing.{waiting_bytes, waiting_tokens};
 ghost use Rattle.wl_connection.specs.Core.{in_room, is_drained, live, display_object, feeds};
 ghost use Rattle.wl_connection.specs.Core.{feeds_len, with_arrived};
 ghost use Rattle.wl_connection.specs.Core.{with_gone};
+ghost use Rattle.wl_connection.specs.MoreTables.{with_tables};
 ghost use Rattle.wl_connection.specs.Sending.{after_send};
 ghost use Rattle.wl_connection.specs.Transport.{EndReceives};
 ghost use Rattle.wl_connection.specs.Waiting.{given_up, waiting, waiting_count};
 ghost use Rattle.waywire_c.specs.Ends.{core_of, end_with_core, writes, front_opens};
 ghost use Rattle.waywire_c.specs.Ends.{takes_none, read_status, told_next, next_entry};
 ghost use Rattle.waywire_c.specs.Ends.{next_args, end_after_next};
-ghost use Rattle.waywire_c.specs.Statuses.{find_outcome, OrMemory};
+ghost use Rattle.waywire_c.specs.Statuses.{find_outcome, made_outcome};
+ghost use Rattle.waywire_c.specs.Statuses.{more_tables_outcome, OrMemory};
 ghost use Rattle.waywire_c.specs.Values.{amounts_of, given_in, iface_at, object_from_c};
-ghost use Rattle.waywire_c.specs.Calls.{SendTells};
+ghost use Rattle.waywire_c.specs.Calls.{after_words, place_left, words_answer, SendTells};
 ghost use Rattle.waywire_c.specs.Reports.{entry_told, entry_told_by, fields_of_kind, TellsArgs};
 ghost use Rattle.waywire_c.specs.Reports.{told_by};
 
 use crate::end_handle::EndHandle;
+use crate::making;
+use crate::parts::lent_address;
 use crate::reading::read;
 use crate::reports::Report;
-use crate::sending::{Call, send};
-use crate::statuses::{NOT_FOUND, OK};
+use crate::sending::{Call, send, send_words};
+use crate::statuses::{FIRST_SERVER_OBJECT, NOT_FOUND, OK};
+use crate::tables::put_fault;
 use crate::values::{CAmounts, CObject, CParts, CallArg, ReportArg, maker};
+use std::alloc::Global;
 use wl_connection::End;
 
 /// Frees an end, and what was borrowed from it.
@@ -262,6 +272,7 @@ pub extern "C" fn waywire_c_end_sent(end: &mut EndHandle, bytes: usize, taken: &
 pub extern "C" fn waywire_c_end_space(end: &mut EndHandle, parts: &mut CParts)
     ensures room { parts.new.front_length + parts.new.back_length
         ≡ (in_room (core_of end.old.held)).bytes }
+    ensures back { parts.new.back_length ≡ 0 }
     ensures unchanged { end.new.held ≡ end.old.held }
 {
     *parts = CParts::of_space(end.get_mut().space());
@@ -337,6 +348,27 @@ pub extern "C" fn waywire_c_end_send(
     send(end.get_mut(), &call, made, place)
 }
 
+/// Writes a message whose arguments are numbers alone, given as their words. If an argument is
+/// refused, its index is written to `place`.
+#[unsafe(no_mangle)]
+pub extern "C" fn waywire_c_end_send_words(
+    end: &mut EndHandle,
+    target: CObject,
+    opcode: u16,
+    words: &[u32],
+    place: &mut usize,
+) -> u32
+    ensures answer { result ≡ made_outcome
+        (words_answer end.old.held (object_from_c target) opcode words.now) }
+    ensures place { place.new ≡ place_left place.old
+        (words_answer end.old.held (object_from_c target) opcode words.now) }
+    ensures state { result ≡ 0
+        → end.new.held ≡ after_words end.old.held (object_from_c target) opcode words.now }
+    ensures unchanged { result ≢ 0 → end.new.held ≡ end.old.held }
+{
+    send_words(end.get_mut(), target.object(), opcode, words, place)
+}
+
 /// Reads the next message, and writes its report and as many of its arguments as fit.
 #[unsafe(no_mangle)]
 pub extern "C" fn waywire_c_end_next(
@@ -357,4 +389,42 @@ pub extern "C" fn waywire_c_end_next(
     ensures unchanged { result ≡ 11 → end.new.held ≡ end.old.held }
 {
     read(end.get_mut(), report, args)
+}
+
+/// Reads a text over the end's own tables, gives the resulting tables to the end, and writes their
+/// address to `more`. If a line of the text is bad, its number is written to `line`, and the rule
+/// that it breaks to `rule`.
+#[unsafe(no_mangle)]
+pub extern "C" fn waywire_c_end_more_tables(
+    alloc: Global,
+    end: &mut EndHandle,
+    text: &[u8],
+    more: &mut *const u8,
+    line: &mut usize,
+    rule: &mut u32,
+) -> u32
+    ensures answer { (result ≡ more_tables_outcome (core_of end.old.held).tables
+        (outcome (core_of end.old.held).tables text.now)) ⊎ (result ≡ 11) }
+    ensures bad_line { result ≡ 71
+        → outcome (core_of end.old.held).tables text.now ≡ Err (bad_line line.new) }
+    ensures bad_table { result ≡ 72
+        → outcome (core_of end.old.held).tables text.now ≡ Err (bad_table line.new rule.new) }
+    ensures line { result ≢ 71 → result ≢ 72 → line.new ≡ line.old }
+    ensures rule { result ≢ 72 → rule.new ≡ rule.old }
+    ensures state { result ≡ 0 → (tables : List Interface)
+        × (outcome (core_of end.old.held).tables text.now ≡ Ok tables)
+        × (end.new.held ≡ end_with_core end.old.held (with_tables (core_of end.old.held) tables)) }
+    ensures none { result ≢ 0 → more.new ≡ more.old }
+    ensures unchanged { result ≢ 0 → end.new.held ≡ end.old.held }
+{
+    let end = end.get_mut();
+    let boxed = match making::more_tables(alloc, end.core().tables, text) {
+        Ok(boxed) => boxed,
+        Err(why) => return put_fault(why, line, rule),
+    };
+    if end.more_tables(boxed.tables).is_err() {
+        return FIRST_SERVER_OBJECT;
+    }
+    *more = lent_address(boxed);
+    OK
 }

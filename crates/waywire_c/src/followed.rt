@@ -11,7 +11,7 @@ ghost use Rattle.wl_check.specs.Trace.{lasting};
 ghost use Rattle.waywire_c.specs.Followed.{followed_by, id_or_none, made_id, made_interface};
 ghost use Rattle.waywire_c.specs.Followed.{made_version, of_followed, sender_of, told_entry};
 ghost use Rattle.waywire_c.specs.Followed.{told_verdict, EndsFor, TellsNextFollowed, TellsParts};
-ghost use Rattle.waywire_c.specs.Inspecting.{direction_of};
+ghost use Rattle.waywire_c.specs.Inspecting.{direction_of, ReportsUndeserved};
 
 use crate::inspector::direction_of;
 use crate::inspector_handle::InspectorHandle;
@@ -175,6 +175,7 @@ pub extern "C" fn waywire_c_inspector_follow(
     ensures fed { result ≡ 0 → IfSome (direction_of sender) (λ direction.
         WasFed direction bytes.now inspector.old.held.follower inspector.new.held.follower) }
     ensures judged { inspector.new.held.inspector ≡ inspector.old.held.inspector }
+    ensures line { inspector.new.held.line ≡ inspector.old.held.line }
     ensures unchanged { result ≢ 0 → inspector.new.held ≡ inspector.old.held }
 {
     let Some(direction) = direction_of(sender) else {
@@ -220,6 +221,7 @@ pub extern "C" fn waywire_c_inspector_go_past(inspector: &mut InspectorHandle, s
         size_ahead inspector.old.held.follower direction ≡ None
         → inspector.new.held ≡ inspector.old.held) }
     ensures judged { inspector.new.held.inspector ≡ inspector.old.held.inspector }
+    ensures line { inspector.new.held.line ≡ inspector.old.held.line }
     ensures unchanged { result ≢ 0 → inspector.new.held ≡ inspector.old.held }
 {
     let Some(direction) = direction_of(sender) else {
@@ -289,6 +291,30 @@ pub extern "C" fn waywire_c_inspector_judged(inspector: &mut InspectorHandle) ->
     ensures unchanged { inspector.new.held ≡ inspector.old.held }
 {
     inspector.get_mut().inspector.judged_count()
+}
+
+/// Writes to `id` the id that the first judged delete_id takes back that nothing asked for. Returns
+/// that message's number among those of both directions, from 1. Both are 0 if there is none.
+#[unsafe(no_mangle)]
+pub extern "C" fn waywire_c_inspector_undeserved(
+    inspector: &mut InspectorHandle,
+    id: &mut u32,
+) -> u64
+    ensures told { (limit : ℕ) (tables : List Interface) (ps : List Piece)
+        → HasPassed limit tables ps inspector.old.held.inspector
+        → ReportsUndeserved tables (session_of limit ps) result id.new }
+    ensures unchanged { inspector.new.held ≡ inspector.old.held }
+{
+    match inspector.get_mut().inspector.undeserved() {
+        Some(delete) => {
+            *id = delete.id;
+            delete.number
+        }
+        None => {
+            *id = 0;
+            0
+        }
+    }
 }
 
 /// The number of a direction's sender.

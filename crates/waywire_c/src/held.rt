@@ -1,8 +1,13 @@
 //! The targets of handles. Each has its own type, so a handle's proofs can name it in one word.
+ghost use Rattle.std.specs.Prelude.{◌≡◌, OnErr, OnOk};
+ghost use Rattle.std.specs.Result.{is_err};
+ghost use Rattle.wl_connection.specs.MoreTables.{Extend, has_first_server_object, with_tables};
+ghost use Rattle.waywire_c.specs.Ends.{core_of as core_of_end, end_with_core as end_by_core};
+
 use std::io::{Read, Write};
 use wl_check::{Follower, Inspector};
 use wl_client::Client;
-use wl_connection::{Core, End};
+use wl_connection::{Core, End, FirstServerObject};
 use wl_message::{Fed, FillError, FlushError, Taken};
 use wl_objects::SlotTable;
 use wl_server::Server;
@@ -20,6 +25,24 @@ pub struct HeldTables {
 pub enum HeldEnd {
     Client(Client<'static, SlotTable>),
     Server(Server<'static, SlotTable>),
+}
+
+impl HeldEnd {
+    /// Replaces the end's tables with these, which extend them. Refused if these have the first
+    /// event by which the server makes an object.
+    pub fn more_tables(&mut self, tables: &'static Tables) -> Result<(), FirstServerObject>
+        requires { Extend (core_of_end self.old).tables tables.now }
+        ensures refused { is_err result
+            ≡ has_first_server_object (core_of_end self.old).tables tables.now }
+        ensures ok { OnOk result
+            (self.new ≡ end_by_core self.old (with_tables (core_of_end self.old) tables.now)) }
+        ensures err { OnErr result (self.new ≡ self.old) }
+    {
+        match self {
+            HeldEnd::Client(client) => client.more_tables(tables),
+            HeldEnd::Server(server) => server.more_tables(tables),
+        }
+    }
 }
 
 /// An inspector, the follower of the same messages, and the verdict line that was last asked for.

@@ -29,6 +29,7 @@ pub extern "C" fn waywire_c_inspector_new(
 ) -> u32
     ensures limit { result ≢ 63 ↔ IsLimit limit }
     ensures tried { result ≢ 63 → IsTried result }
+    ensures none { result ≢ 0 → inspector.new ≡ inspector.old }
 {
     match making::inspector_by(alloc, tables.get().tables, limit) {
         Ok(boxed) => {
@@ -69,6 +70,8 @@ pub extern "C" fn waywire_c_inspector_pass(
         (limit : ℕ) (tables : List Interface)
         → PassesPiece limit tables (piece_of direction bytes.now tokens)
         inspector.old.held.inspector inspector.new.held.inspector) }
+    ensures follower { inspector.new.held.follower ≡ inspector.old.held.follower }
+    ensures line { inspector.new.held.line ≡ inspector.old.held.line }
     ensures unchanged { result ≢ 0 → inspector.new.held ≡ inspector.old.held }
 {
     let Some(direction) = direction_of(sender) else {
@@ -107,7 +110,10 @@ pub extern "C" fn waywire_c_inspector_verdict(
         → HasPassed limit tables ps inspector.old.held.inspector
         → TellsVerdict tables (session_of limit ps) inspector.new.held.line.items length.new
         broken.new }
+    ensures untold { result ≢ 0 → (line.new ≡ line.old) × (length.new ≡ length.old)
+        × (broken.new ≡ broken.old) }
     ensures unchanged { inspector.new.held.inspector ≡ inspector.old.held.inspector }
+    ensures follower { inspector.new.held.follower ≡ inspector.old.held.follower }
 {
     let held = inspector.get_mut();
     let verdict = held.inspector.verdict();

@@ -2,7 +2,7 @@
 ghost use Rattle.std.specs.Prelude.{◌≡◌, ◌≢◌, ◌⊎◌, ◌↔◌, [], Ok, Err, IfOk, MatchResult};
 ghost use Rattle.wl_message.specs.Arrived.{AreSizes};
 ghost use Rattle.wl_message.specs.Cut.{IsLimit};
-ghost use Rattle.wl_sigs.specs.Core.{core_tables};
+ghost use Rattle.wl_sigs.specs.Core.{core_tables, unended_tables};
 ghost use Rattle.wl_sigs.specs.Outcome.{outcome};
 ghost use Rattle.wl_text.specs.declared.fault.TableFault.TheVariants.{Memory};
 ghost use Rattle.wl_connection.specs.MoreTables.{Extend};
@@ -55,6 +55,13 @@ pub fn core_tables(alloc: Global) -> Result<Box<HeldTables>, AllocError>
     ensures { IfOk result (λ kept. kept.value.tables.now ≡ core_tables) }
 {
     kept(alloc, Tables::core(alloc)?)
+}
+
+/// The core tables for a server whose caller ends objects.
+pub fn unended_tables(alloc: Global) -> Result<Box<HeldTables>, AllocError>
+    ensures { IfOk result (λ kept. kept.value.tables.now ≡ unended_tables) }
+{
+    kept(alloc, Tables::core_unended(alloc)?)
 }
 
 /// These tables with those of a text added.

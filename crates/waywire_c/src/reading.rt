@@ -4,8 +4,7 @@ ghost use Rattle.wl_sigs.specs.Side.TheVariants.{Event};
 ghost use Rattle.wl_sigs.specs.Rules.{has_server_objects};
 ghost use Rattle.wl_connection.specs.Receiving.{found};
 ghost use Rattle.wl_client.specs.Reports.{after_next as after_event, event_opens, next_answer};
-ghost use Rattle.wl_server.specs.Requests.{after_next as after_request};
-ghost use Rattle.wl_server.specs.Requests.{next_answer as request_answer};
+ghost use Rattle.wl_server.specs.Requests.{after_answering, next_answer as request_answer};
 ghost use Rattle.wl_server.specs.Requests.{request_opens, request as found_request};
 ghost use Rattle.waywire_c.specs.Ends.{front_opens, read_status, takes_none, told_next, next_entry};
 ghost use Rattle.waywire_c.specs.Ends.{next_args, end_after_next};
@@ -13,10 +12,10 @@ ghost use Rattle.waywire_c.specs.Statuses.{read_outcome, OrMemory};
 ghost use Rattle.waywire_c.specs.Reports.{event_args, fields_of_kind, request_args, TellsArgs};
 ghost use Rattle.waywire_c.specs.Reports.{told_by};
 ghost use Rattle.waywire_c.specs.Reports.{entry_told, entry_told_by, event_entry, request_entry};
-ghost use Rattle.waywire_c.specs.Reports.{told_event, told_request};
+ghost use Rattle.waywire_c.specs.Reports.{told_answering, told_event};
 
 use crate::held::HeldEnd;
-use crate::reports::{Report, global_told, nothing, put_incoming, request, unread};
+use crate::reports::{Report, global_told, nothing, put_incoming, request, unanswered, unread};
 use crate::statuses::{OK, next_status};
 use crate::values::{CObject, ReportArg};
 use wl_client::Client;
@@ -38,7 +37,7 @@ pub fn read(end: &mut HeldEnd, report: &mut Report, args: &mut [ReportArg]) -> u
 {
     match end {
         HeldEnd::Client(client) => read_event(client, report, args),
-        HeldEnd::Server(server) => read_request(server, report, args),
+        HeldEnd::Server(server) => read_request(server, true, report, args),
     }
 }
 
@@ -85,27 +84,29 @@ fn read_event<'t>(
     }
 }
 
-/// A server reads the next request. Returns the status.
-fn read_request<'t>(
+/// A server reads the next request, and answers a fault if `answers`. Returns the status.
+pub fn read_request<'t>(
     server: &mut Server<'t, SlotTable>,
+    answers: bool,
     report: &mut Report,
     args: &mut [ReportArg],
 ) -> u32
     ensures answer { OrMemory (request_opens server.old.core (found_request server.old))
         (read_outcome (request_answer server.old)) result }
     ensures report { result ≢ 11 → told_by report.new
-        ≡ told_request (length args.old) (request_answer server.old) }
+        ≡ told_answering answers (length args.old) server.old }
     ensures entry { result ≢ 11 → entry_told_by report.new
         ≡ entry_told (request_entry server.old.core.view (request_answer server.old)) }
     ensures args { result ≢ 11
         → TellsArgs (request_args (request_answer server.old)) args.old args.new }
-    ensures state { result ≢ 11 → server.new ≡ after_request server.old }
+    ensures state { result ≢ 11 → server.new
+        ≡ after_answering answers server.old (request_answer server.old) }
     ensures no_report { result ≡ 11 → told_by report.new ≡ fields_of_kind 0 }
     ensures no_entry { result ≡ 11 → entry_told_by report.new ≡ entry_told None }
     ensures no_args { result ≡ 11 → args.new ≡ args.old }
     ensures unchanged { result ≡ 11 → server.new ≡ server.old }
 {
-    match server.next_with_entry() {
+    match server.next_answering(answers) {
         Ok(Some(mut read)) => {
             *report = request(&mut read, args);
             OK
@@ -115,7 +116,12 @@ fn read_request<'t>(
             OK
         }
         Err(why) => {
-            *report = unread(why);
+            *report = if answers {
+                unread(why)
+            } else {
+                let message = server.front();
+                unanswered(why, message)
+            };
             next_status(why)
         }
     }

@@ -1,7 +1,9 @@
 //! The call to read a recording.
-ghost use Rattle.std.specs.Prelude.{◌≡◌, ◌≢◌, ℕ, ◌⊎◌, ◌∷◌, ◌++◌, List, [], length as len, take};
+ghost use Rattle.std.specs.Prelude.{◌≡◌, ◌≢◌, ◌<◌, ◌≤◌, ◌↔◌, ◌+◌, ◌^◌, ℕ, ◌⊎◌, ◌∷◌, ◌++◌, List, []};
+ghost use Rattle.std.specs.Prelude.{drop, length as len, take};
 ghost use Rattle.std.specs.Prelude.{Some};
 ghost use Rattle.wl_recording.specs.declared.recording.RecordingError.TheVariants.{BadLine as bad_line};
+ghost use Rattle.wl_recording.specs.declared.recording.RecordingError.TheVariants.{Memory};
 ghost use Rattle.wl_recording.specs.Piece.{Piece, recorded_piece};
 ghost use Rattle.wl_recording.specs.Text.{IsFirstBad, IsReadUpTo, TextRecords};
 ghost use Rattle.waywire_c.specs.Inspecting.{direction_of};
@@ -45,7 +47,17 @@ pub extern "C" fn waywire_c_recording_next(
         → IsReadUpTo whole text.now number pieces → TextRecords whole pieces }
     ensures bad { result ≡ 71 → (whole : List ℕ) (pieces : List Piece)
         → IsReadUpTo whole text.now number pieces → IsFirstBad whole piece.new.number }
+    ensures full { result ≡ 9 → (whole : List ℕ) (pieces : List Piece)
+        → IsReadUpTo whole text.now number pieces
+        → (next : Piece) × (rest : List ℕ) × (line : ℕ)
+        × IsReadUpTo whole rest line (pieces ++ next ∷ []) × (len bytes.old < len next.bytes) }
+    ensures bad_value { (result ≡ 62) ↔ (2 ^ 64 ≤ number + len text.now) }
+    ensures statuses { (result ≡ 0) ⊎ (result ≡ 9) ⊎ (result ≡ 11) ⊎ (result ≡ 62)
+        ⊎ (result ≡ 64) ⊎ (result ≡ 71) }
+    ensures behind { result ≡ 0
+        → drop piece.new.length bytes.new ≡ drop piece.new.length bytes.old }
     ensures unwritten { result ≢ 0 → bytes.new ≡ bytes.old }
+    ensures untold { result ≢ 0 → result ≢ 71 → piece.new ≡ piece.old }
 {
     if number.checked_add(text.len()).is_none() {
         return BAD_VALUE;
@@ -61,7 +73,10 @@ pub extern "C" fn waywire_c_recording_next(
 /// The status of an error; its line is written to `piece`.
 fn put_error(error: RecordingError, piece: &mut CPiece) -> u32
     ensures bad { result ≡ 71 → error ≡ bad_line piece.new.number }
+    ensures memory { (result ≡ 11) ↔ (error ≡ Memory) }
     ensures status { (result ≡ 71) ⊎ (result ≡ 11) }
+    ensures others { record piece.new { number = piece.old.number } ≡ piece.old }
+    ensures untold { result ≢ 71 → piece.new ≡ piece.old }
 {
     match error {
         RecordingError::BadLine { line } => {
@@ -83,7 +98,11 @@ fn put_piece(
     ensures told { result ≡ 0 → TellsPiece (recorded_piece passed.now) left number
         (take piece.new.length bytes.new) piece.new }
     ensures status { (result ≡ 0) ⊎ (result ≡ 9) }
+    ensures full { result ≡ 9 → len bytes.old < len (recorded_piece passed.now).bytes }
+    ensures behind { result ≡ 0
+        → drop piece.new.length bytes.new ≡ drop piece.new.length bytes.old }
     ensures unwritten { result ≢ 0 → bytes.new ≡ bytes.old }
+    ensures untold { result ≢ 0 → piece.new ≡ piece.old }
 {
     let read = passed.bytes.as_slice();
     if read.len() > bytes.len() {

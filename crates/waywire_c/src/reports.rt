@@ -8,7 +8,7 @@ ghost use Rattle.waywire_c.specs.Reports.{args_of_event, told_global_name, field
 ghost use Rattle.waywire_c.specs.Reports.{TellsArgs};
 ghost use Rattle.waywire_c.specs.Reports.{told_by, entry_told, entry_told_by, told_incoming};
 ghost use Rattle.waywire_c.specs.Reports.{is_registry_entry};
-ghost use Rattle.waywire_c.specs.Reports.{told_message, told_unread};
+ghost use Rattle.waywire_c.specs.Reports.{told_left, told_message, told_unread};
 
 use crate::statuses::{fault_place, fault_spelling};
 use crate::values::{CObject, ReportArg, named, show, start_of_text, start_of_tokens};
@@ -16,6 +16,7 @@ use wl_client::{Incoming, IncomingWithEntry};
 use wl_objects::{Args, Entry, GotRef, NextError, REGISTRY};
 use wl_server::RequestWithEntry;
 use wl_sigs::event::wl_registry::GLOBAL;
+use wl_wire::{HEADER_LEN, Header};
 
 /// What a report is about.
 const NOTHING: u32 = 0;
@@ -275,5 +276,26 @@ pub fn unread(why: NextError) -> Report
             ..plain(FAULT)
         },
         _ => nothing(),
+    }
+}
+
+/// The report if no message can be read, and a fault is left to the caller: it has the bytes of the
+/// message, and its target's id and opcode.
+pub fn unanswered(why: NextError, message: &[u8]) -> Report
+    ensures report { told_by result ≡ told_left why message.now }
+    ensures entry { entry_told_by result ≡ entry_told None }
+{
+    match why {
+        NextError::Fault { .. } if message.len() >= HEADER_LEN => {
+            let header = Header::at_front_of(message);
+            Report {
+                id: header.object,
+                opcode: u32::from(header.opcode),
+                text: start_of_text(message),
+                text_length: message.len(),
+                ..unread(why)
+            }
+        }
+        _ => unread(why),
     }
 }

@@ -1,9 +1,10 @@
 //! An end writes a message, and C gets the result.
 ghost use Rattle.std.specs.Prelude.{◌≡◌, ◌≢◌, length, take, IfSome, OnOk, OnErr};
 ghost use Rattle.wl_objects.specs.Writing.{given};
-ghost use Rattle.wl_connection.specs.Sending.{after_send, IsSendAnswer};
+ghost use Rattle.wl_connection.specs.Sending.{after_send, made_nothing, IsSendAnswer};
 ghost use Rattle.waywire_c.specs.Ends.{core_of, end_with_core, writes};
-ghost use Rattle.waywire_c.specs.Calls.{made_left, place_left, SendTells};
+ghost use Rattle.waywire_c.specs.Calls.{after_words, made_left, place_left, words_answer};
+ghost use Rattle.waywire_c.specs.Calls.{SendTells};
 ghost use Rattle.waywire_c.specs.Statuses.{made_outcome};
 ghost use Rattle.waywire_c.specs.Values.{all_given, given_in, object_from_c};
 
@@ -125,4 +126,56 @@ fn put_call<'b>(
     };
     let answer = write(end, call.target, call.opcode, &slots[..count]);
     put_made(answer, made, place)
+}
+
+/// As `write`, for a message whose arguments are numbers alone, given as their words.
+#[inline(always)]
+fn write_words(
+    end: &mut HeldEnd,
+    target: Object,
+    opcode: u16,
+    words: &[u32],
+) -> Result<(), SendError>
+    ensures answer { made_nothing result ≡ words_answer end.old target opcode words.now }
+    ensures ok { OnOk result (end.new ≡ after_words end.old target opcode words.now) }
+    ensures err { OnErr result (end.new ≡ end.old) }
+{
+    match end {
+        HeldEnd::Client(client) => client.send_words(target, opcode, words),
+        HeldEnd::Server(server) => server.send_words(target, opcode, words),
+    }
+}
+
+/// Writes the index of the refused argument to `place`, and returns the status.
+#[inline(always)]
+fn put_refused(answer: Result<(), SendError>, place: &mut usize) -> u32
+    ensures status { result ≡ made_outcome (made_nothing answer) }
+    ensures place { place.new ≡ place_left place.old (made_nothing answer) }
+{
+    let Err(why) = answer else {
+        return OK;
+    };
+    if let Some(refused) = send_place(why) {
+        *place = refused;
+    }
+    send_status(why)
+}
+
+/// An end writes a message whose arguments are numbers alone. Returns the status.
+#[inline(always)]
+pub fn send_words(
+    end: &mut HeldEnd,
+    target: Object,
+    opcode: u16,
+    words: &[u32],
+    place: &mut usize,
+) -> u32
+    ensures answer { result ≡ made_outcome (words_answer end.old target opcode words.now) }
+    ensures place { place.new
+        ≡ place_left place.old (words_answer end.old target opcode words.now) }
+    ensures state { result ≡ 0 → end.new ≡ after_words end.old target opcode words.now }
+    ensures unchanged { result ≢ 0 → end.new ≡ end.old }
+{
+    let answer = write_words(end, target, opcode, words);
+    put_refused(answer, place)
 }

@@ -1,13 +1,18 @@
 //! Calls for servers only. With a client each returns `OTHER_END`, and does nothing.
-ghost use Rattle.std.specs.Prelude.{◌≡◌, ◌≢◌, ◌↔◌, true, Ok};
+ghost use Rattle.std.specs.Prelude.{◌≡◌, ◌≢◌, ◌↔◌, length, true, None, Ok};
 ghost use Rattle.wl_server.specs.State.{with_core};
-ghost use Rattle.wl_server.specs.Announcing.{after_announce, Fitting};
-ghost use Rattle.wl_server.specs.Calls.{add_answer, after_drop, after_error, after_withdraw};
+ghost use Rattle.wl_server.specs.Announcing.{after_announce, owed, Fitting};
+ghost use Rattle.wl_server.specs.Calls.{add_answer, after_drop, after_end, after_error};
+ghost use Rattle.wl_server.specs.Calls.{after_withdraw, end_refusal};
+ghost use Rattle.wl_server.specs.Requests.{after_next, next_answer, request, request_opens};
+ghost use Rattle.wl_server.specs.Requests.{unless_fault};
 ghost use Rattle.wl_server.specs.Calls.{drop_refusal, error_refusal, with_global, withdraw_refusal};
 ghost use Rattle.waywire_c.specs.declared.held.HeldEnd.TheVariants.{Server};
 ghost use Rattle.waywire_c.specs.Ends.{IfClient, IfServer};
+ghost use Rattle.waywire_c.specs.Reports.{entry_told, entry_told_by, fields_of_kind, TellsArgs};
+ghost use Rattle.waywire_c.specs.Reports.{request_args, request_entry, told_by, told_unanswered};
 ghost use Rattle.waywire_c.specs.Statuses.{failed_outcome, global_outcome, name_outcome};
-ghost use Rattle.waywire_c.specs.Statuses.{send_outcome, OrMemory};
+ghost use Rattle.waywire_c.specs.Statuses.{read_outcome, send_outcome, OrMemory};
 ghost use Rattle.waywire_c.specs.Values.{iface_at, object_from_c};
 ghost use Rattle.waywire_c.specs.Inspecting.{IsTried};
 ghost use Rattle.waywire_c.specs.Sizes.{AreAllowed};
@@ -16,9 +21,11 @@ use crate::end_handle::EndHandle;
 use crate::held::HeldEnd;
 use crate::making;
 use crate::parts::address;
+use crate::reading::read_request;
+use crate::reports::{Report, nothing};
 use crate::statuses::{OK, OTHER_END, global_status, send_status};
 use crate::tables_handle::TablesHandle;
-use crate::values::{CObject, CSizes};
+use crate::values::{CObject, CSizes, ReportArg};
 use std::alloc::Global;
 use wl_wire::Iface;
 
@@ -32,6 +39,7 @@ pub extern "C" fn waywire_c_server_new(
 ) -> u32
     ensures sizes { (result ≢ 63) ↔ AreAllowed sizes.now }
     ensures tried { result ≢ 63 → IsTried result }
+    ensures none { result ≢ 0 → server.new ≡ server.old }
 {
     match making::server_by(alloc, tables.get().tables, sizes) {
         Ok(boxed) => {
@@ -56,6 +64,25 @@ pub extern "C" fn waywire_c_server_drop_object(end: &mut EndHandle, object: CObj
         return OTHER_END;
     };
     match server.drop_object(object.object()) {
+        Ok(()) => OK,
+        Err(why) => send_status(why),
+    }
+}
+
+/// Ends an object, whatever its interface, and writes its delete_id if the client made it.
+#[unsafe(no_mangle)]
+pub extern "C" fn waywire_c_server_end_object(end: &mut EndHandle, object: CObject) -> u32
+    ensures answer { IfServer end.old.held (λ server. result
+        ≡ send_outcome (end_refusal server.core (object_from_c object))) }
+    ensures other { IfClient end.old.held (λ client. result ≡ 66) }
+    ensures state { result ≡ 0 → IfServer end.old.held (λ server. end.new.held
+        ≡ Server (with_core server (after_end server.core (object_from_c object)))) }
+    ensures unchanged { result ≢ 0 → end.new.held ≡ end.old.held }
+{
+    let HeldEnd::Server(server) = end.get_mut() else {
+        return OTHER_END;
+    };
+    match server.end_object(object.object()) {
         Ok(()) => OK,
         Err(why) => send_status(why),
     }
@@ -135,14 +162,20 @@ pub extern "C" fn waywire_c_server_withdraw(end: &mut EndHandle, name: u32) -> u
     }
 }
 
-/// Writes the events that the open registries still need, until one does not fit, and writes their
-/// number to `count`.
+/// Writes the events that the open registries still need, until one does not fit; writes their
+/// number to `count`, and whether these were all to `all`.
 #[unsafe(no_mangle)]
-pub extern "C" fn waywire_c_server_announce(end: &mut EndHandle, count: &mut usize) -> u32
+pub extern "C" fn waywire_c_server_announce(
+    end: &mut EndHandle,
+    count: &mut usize,
+    all: &mut bool,
+) -> u32
     ensures answer { IfServer end.old.held (λ server. result ≡ failed_outcome server.core.failed) }
     ensures other { IfClient end.old.held (λ client. result ≡ 66) }
     ensures count { result ≡ 0 → IfServer end.old.held (λ server. Fitting server count.new) }
-    ensures uncounted { result ≢ 0 → count.new ≡ count.old }
+    ensures all { result ≡ 0 → IfServer end.old.held (λ server.
+        (all.new ≡ true) ↔ (count.new ≡ length (owed server))) }
+    ensures uncounted { result ≢ 0 → (count.new ≡ count.old) × (all.new ≡ all.old) }
     ensures state { result ≡ 0 → IfServer end.old.held (λ server. end.new.held
         ≡ Server (after_announce server count.new)) }
     ensures unchanged { result ≢ 0 → end.new.held ≡ end.old.held }
@@ -151,10 +184,43 @@ pub extern "C" fn waywire_c_server_announce(end: &mut EndHandle, count: &mut usi
         return OTHER_END;
     };
     match server.announce() {
-        Ok(written) => {
-            *count = written;
+        Ok(told) => {
+            *count = told.count;
+            *all = told.all;
             OK
         }
         Err(why) => send_status(why),
     }
+}
+
+/// Reads the next request, and writes its report to `report` and its arguments to the slots. A
+/// fault is only reported, with its message: nothing changes.
+#[unsafe(no_mangle)]
+pub extern "C" fn waywire_c_server_next_unanswered(
+    end: &mut EndHandle,
+    report: &mut Report,
+    args: &mut [ReportArg],
+) -> u32
+    ensures answer { IfServer end.old.held (λ server. OrMemory
+        (request_opens server.core (request server)) (read_outcome (next_answer server)) result) }
+    ensures other { IfClient end.old.held (λ client. result ≡ 66) }
+    ensures report { result ≢ 11 → IfServer end.old.held (λ server. told_by report.new
+        ≡ told_unanswered (length args.old) server) }
+    ensures entry { result ≢ 11 → IfServer end.old.held (λ server. entry_told_by report.new
+        ≡ entry_told (request_entry server.core.view (next_answer server))) }
+    ensures args { result ≢ 11 → IfServer end.old.held (λ server.
+        TellsArgs (request_args (next_answer server)) args.old args.new) }
+    ensures state { result ≢ 11 → IfServer end.old.held (λ server. end.new.held
+        ≡ Server (unless_fault server (after_next server) (next_answer server))) }
+    ensures no_report { result ≡ 11 → told_by report.new ≡ fields_of_kind 0 }
+    ensures no_entry { result ≡ 11 → entry_told_by report.new ≡ entry_told None }
+    ensures no_args { result ≡ 11 → args.new ≡ args.old }
+    ensures unchanged { result ≡ 11 → end.new.held ≡ end.old.held }
+    ensures client { IfClient end.old.held (λ client. end.new.held ≡ end.old.held) }
+{
+    let HeldEnd::Server(server) = end.get_mut() else {
+        *report = nothing();
+        return OTHER_END;
+    };
+    read_request(server, false, report, args)
 }

@@ -42,8 +42,8 @@ pub const BAD_LINE: u32 = 71;
 /// TB2: a line of a table text breaks a rule.
 pub const BAD_TABLE: u32 = 72;
 
-/// A table text for a client has an event by which the server makes an object, and the client's
-/// tables have none.
+/// TB4: a table text for a client has an event by which the server makes an object, and the
+/// client's tables have none.
 pub const FIRST_SERVER_OBJECT: u32 = 73;
 
 /// The status of a refusal to send.

@@ -10,7 +10,7 @@ ghost use Rattle.waywire_c.specs.Inspecting.{IsTried};
 ghost use Rattle.waywire_c.specs.Statuses.{find_outcome, table_outcome, table_status};
 ghost use Rattle.waywire_c.specs.Values.{iface_at};
 
-use crate::making::{core_tables, more_tables};
+use crate::making::{core_tables, more_tables, unended_tables};
 use crate::parts::lent_address;
 use crate::statuses::{BAD_LINE, BAD_TABLE, NO_MEMORY, NOT_FOUND, OK};
 use crate::tables_handle::TablesHandle;
@@ -22,9 +22,26 @@ use wl_wire::Iface;
 /// Makes the core tables, and writes their address to `tables`.
 #[unsafe(no_mangle)]
 pub extern "C" fn waywire_c_tables_core(alloc: Global, tables: &mut *const u8) -> u32
-    ensures { IsTried result }
+    ensures tried { IsTried result }
+    ensures none { result ≢ 0 → tables.new ≡ tables.old }
 {
     match core_tables(alloc) {
+        Ok(boxed) => {
+            *tables = lent_address(boxed);
+            OK
+        }
+        Err(_) => NO_MEMORY,
+    }
+}
+
+/// Makes the core tables for a server whose caller ends objects, and writes their address to
+/// `tables`.
+#[unsafe(no_mangle)]
+pub extern "C" fn waywire_c_tables_core_unended(alloc: Global, tables: &mut *const u8) -> u32
+    ensures tried { IsTried result }
+    ensures none { result ≢ 0 → tables.new ≡ tables.old }
+{
+    match unended_tables(alloc) {
         Ok(boxed) => {
             *tables = lent_address(boxed);
             OK
@@ -52,6 +69,7 @@ pub extern "C" fn waywire_c_tables_read(
         → outcome tables.held.tables.now text.now ≡ Err (bad_table line.new rule.new) }
     ensures line { result ≢ 71 → result ≢ 72 → line.new ≡ line.old }
     ensures rule { result ≢ 72 → rule.new ≡ rule.old }
+    ensures none { result ≢ 0 → more.new ≡ more.old }
 {
     match more_tables(alloc, tables.get().tables, text) {
         Ok(boxed) => {
