@@ -4,7 +4,12 @@
 //!     cost damage|motion|surface|title BATCH TIMES
 
 use std::hint::black_box;
-use waywire::{event, request, Arg, Client, Connection, Fixed, Object, Server, Sizes, Tables};
+use waywire::wayland::wl_compositor::{self, WlCompositor};
+use waywire::wayland::wl_pointer::WlPointer;
+use waywire::wayland::wl_shell_surface::WlShellSurface;
+use waywire::wayland::wl_surface::WlSurface;
+use waywire::wayland::{wl_display, wl_seat, wl_shell};
+use waywire::{Arg, Client, Connection, Fixed, Object, Server, Sizes, Tables};
 
 /// Room for 100 of any of the messages.
 const SIZES: Sizes =
@@ -65,7 +70,7 @@ fn open() -> (Pair, Objects) {
         pair.server.add_global(tables.interface(name).unwrap(), version).unwrap();
     }
     let display = pair.client.display();
-    let registry = pair.make(display, request::wl_display::GET_REGISTRY);
+    let registry = pair.make(display, wl_display::request::GET_REGISTRY);
     pair.up();
     pair.request();
     pair.server.announce().unwrap();
@@ -74,10 +79,10 @@ fn open() -> (Pair, Objects) {
     let compositor = pair.client.bind(registry, 1, "wl_compositor", 6).unwrap();
     let seat = pair.client.bind(registry, 2, "wl_seat", 9).unwrap();
     let shell = pair.client.bind(registry, 3, "wl_shell", 1).unwrap();
-    let surface = pair.make(compositor, request::wl_compositor::CREATE_SURFACE);
-    let pointer = pair.make(seat, request::wl_seat::GET_POINTER);
+    let surface = pair.make(compositor, wl_compositor::request::CREATE_SURFACE);
+    let pointer = pair.make(seat, wl_seat::request::GET_POINTER);
     let args = [Arg::NewId, Arg::Object(Some(surface))];
-    let made = pair.client.send(shell, request::wl_shell::GET_SHELL_SURFACE, &args);
+    let made = pair.client.send(shell, wl_shell::request::GET_SHELL_SURFACE, &args);
     let shell_surface = made.unwrap().unwrap();
     pair.up();
     (0..6).for_each(|_| pair.request());
@@ -88,25 +93,22 @@ fn open() -> (Pair, Objects) {
 type Case = (fn(&mut Pair, &Objects), usize, usize);
 
 fn send_damage(pair: &mut Pair, objects: &Objects) {
-    let args = [1, 2, 3, 4].map(Arg::Int);
-    pair.client.send(objects.surface, request::wl_surface::DAMAGE, &args).unwrap();
+    WlSurface(objects.surface).damage(&pair.client, 1, 2, 3, 4).unwrap();
 }
 
 fn send_motion(pair: &mut Pair, objects: &Objects) {
-    let [x, y] = [256, 77].map(|it| Arg::Fixed(Fixed::from_raw(it)));
-    let args = [Arg::Uint(1), x, y];
-    pair.server.send(objects.pointer, event::wl_pointer::MOTION, &args).unwrap();
+    let [x, y] = [256, 77].map(Fixed::from_raw);
+    WlPointer(objects.pointer).send_motion(&pair.server, 1, x, y).unwrap();
 }
 
 fn send_surface(pair: &mut Pair, objects: &Objects) {
-    let made = pair.make(objects.compositor, request::wl_compositor::CREATE_SURFACE);
-    pair.client.send(made, request::wl_surface::DESTROY, &[]).unwrap();
+    let made = WlCompositor(objects.compositor).create_surface(&pair.client).unwrap();
+    made.destroy(&pair.client).unwrap();
 }
 
 fn send_title(pair: &mut Pair, objects: &Objects) {
-    let args = [Arg::Str(Some(&[b'a'; 1000]))];
-    let set_title = request::wl_shell_surface::SET_TITLE;
-    pair.client.send(objects.shell_surface, set_title, &args).unwrap();
+    let title = &[b'a'; 1000];
+    WlShellSurface(objects.shell_surface).set_title(&pair.client, title).unwrap();
 }
 
 fn main() {

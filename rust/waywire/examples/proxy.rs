@@ -9,14 +9,18 @@
 //! and of xdg-shell, and the text of each file that is named.
 
 use std::collections::HashMap;
+use std::ffi::CStr;
 use std::path::{Path, PathBuf};
 use waywire::socket::{self, has_gone, Came, Link, Listener};
+use waywire::wayland::wl_display;
 use waywire::{
-    request, Arg, AsClient, AsServer, Client, Destroys, Incoming, Message, Object, OwnedMessage,
-    OwnedValue, SendError, Sender, Server, Sizes, Tables, Value,
+    Arg, AsClient, AsServer, Client, Destroys, Incoming, Message, Object, OwnedMessage, OwnedValue,
+    SendError, Sender, Server, Sizes, Tables, Value,
 };
 
-include!(concat!(env!("OUT_DIR"), "/xdg_shell.rs"));
+#[path = "protocols/xdg_shell.rs"]
+#[rustfmt::skip]
+mod xdg_shell;
 
 type Failure = Box<dyn std::error::Error>;
 
@@ -47,7 +51,7 @@ fn call<'a>(message: &'a OwnedMessage, twins: &HashMap<Object, Object>) -> Optio
             Value::Int(number) => Arg::Int(number),
             Value::Uint(number) => Arg::Uint(number),
             Value::Fixed(number) => Arg::Fixed(number),
-            Value::Str(text) => Arg::Str(text),
+            Value::Str(text) => Arg::Str(text.map(CStr::to_bytes)),
             Value::Array(bytes) => Arg::Array(bytes),
             Value::Object(None) => Arg::Object(None),
             Value::Object(Some(object)) | Value::Dead(object) => Arg::from(*twins.get(&object)?),
@@ -62,8 +66,8 @@ fn call<'a>(message: &'a OwnedMessage, twins: &HashMap<Object, Object>) -> Optio
     Some((args.collect::<Option<Vec<_>>>()?, made))
 }
 
-/// A message in memory of its own: to pass it on, the end that has read it is used.
-fn printed(message: Message<'_>, tables: &Tables, sender: Sender) -> OwnedMessage {
+/// A message in memory of its own: it is passed on by the proxy, which has both ends.
+fn printed<R>(message: Message<'_, R>, tables: &Tables, sender: Sender) -> OwnedMessage {
     println!("{}", message.line(tables, sender));
     message.into_owned()
 }
@@ -79,9 +83,16 @@ impl Proxy {
         if let [OwnedValue::Uint(name), OwnedValue::Bound { interface, version, object }] =
             &passed.args[..]
         {
-            let interface = std::str::from_utf8(interface)?;
+            let interface = interface.to_str()?;
             let name = self.names[name];
-            let bound = self.compositor_side.bind(target, name, interface, *version)?;
+            let compositor = &mut self.compositor_side;
+            let bound = match compositor.bind(target, name, interface, *version) {
+                // Written before the client read that the global is gone: the compositor judges it.
+                Err(SendError::BadBind) => {
+                    compositor.bind_unannounced(target, name, interface, *version)?
+                }
+                bound => bound?,
+            };
             self.twins(*object, bound);
             return Ok(());
         }
@@ -155,7 +166,7 @@ impl Proxy {
         let server = &mut self.client_side;
         match &passed.args[..] {
             [OwnedValue::Uint(name), OwnedValue::Str(Some(text)), OwnedValue::Uint(version)] => {
-                let Some(interface) = self.tables.interface(std::str::from_utf8(text)?) else {
+                let Some(interface) = self.tables.interface(text.to_str()?) else {
                     return Ok(());
                 };
                 let version = self.tables.version(interface).unwrap_or(1).min(*version);
@@ -174,7 +185,7 @@ impl Proxy {
 
     fn read_client(&mut self) -> Result<(), Failure> {
         // The link itself would answer a sync, which is the compositor's to answer.
-        while let Some(request) = Server::next(&mut self.client_side)? {
+        while let Some(request) = self.client_side.next_or_sync()? {
             let passed = printed(request, &self.tables, Sender::Client);
             self.pass_request(&passed)?;
             self.client_side.announce()?;
@@ -201,7 +212,7 @@ impl Proxy {
                 self.keep_or_destroy(made)?;
             }
             if let Some(replaced) = self.compositor_side.replaced() {
-                self.forget(replaced.object);
+                self.forget(replaced);
             }
         }
         Ok(())
@@ -233,7 +244,7 @@ impl Proxy {
     fn learn(&mut self) -> Result<(), Failure> {
         let display = self.compositor_side.display();
         let synced =
-            self.compositor_side.send(display, request::wl_display::SYNC, &[Arg::NewId])?;
+            self.compositor_side.send(display, wl_display::request::SYNC, &[Arg::NewId])?;
         while synced.is_some_and(|it| self.compositor_side.live(it).is_some()) {
             if self.compositor_side.wait(None)? == Came::End {
                 return Err("the compositor has gone".into());
@@ -258,9 +269,9 @@ fn main() -> Result<(), Failure> {
     }
     let listener = Listener::bind(Some(Path::new(&name)))?;
     let server = Server::new(&tables, &Sizes::default())?;
-    let mut client = Client::new(&tables, &Sizes::default())?;
+    let client = Client::new(&tables, &Sizes::default())?;
     let registry = client
-        .send(client.display(), request::wl_display::GET_REGISTRY, &[Arg::NewId])?
+        .send(client.display(), wl_display::request::GET_REGISTRY, &[Arg::NewId])?
         .ok_or("get_registry makes an object")?;
     let displays = (server.display(), client.display());
     let mut proxy = Proxy {

@@ -2,15 +2,31 @@
 
 use crate::args::MAX_ARGS;
 use crate::socket::MOST_DESCRIPTORS;
+use waywire_sys as ffi;
 
 /// Numbers of bytes and of tokens.
 #[derive(Clone, Copy, Debug, Default, PartialEq, Eq, Hash)]
-#[repr(C)]
 pub struct Amounts {
     /// How many bytes.
     pub bytes: usize,
     /// How many tokens, each of which is a file descriptor.
     pub tokens: usize,
+}
+
+impl Amounts {
+    #[inline]
+    pub(crate) fn of(raw: ffi::waywire_amounts) -> Amounts {
+        Amounts { bytes: raw.bytes, tokens: raw.tokens }
+    }
+}
+
+/// What [`Writer::announce`](crate::Writer::announce) wrote.
+#[derive(Clone, Copy, Debug, PartialEq, Eq)]
+pub struct Announced {
+    /// How many events were written.
+    pub count: usize,
+    /// Whether these were all; if not, the next one did not fit.
+    pub all: bool,
 }
 
 /// The sizes of the outbox and the inbox of an end, which never grow. A token is a file descriptor.
@@ -19,7 +35,6 @@ pub struct Amounts {
 /// bytes, and from 20 to 65,536 tokens. A [`Link`](crate::socket::Link) needs
 /// [more than the least](crate::socket::Link::new).
 #[derive(Clone, Copy, Debug, PartialEq, Eq, Hash)]
-#[repr(C)]
 pub struct Sizes {
     /// The bytes of the outbox.
     pub out_bytes: usize,
@@ -37,6 +52,16 @@ pub struct Sizes {
 impl Sizes {
     /// The limit unless both ends use another: 4,096 bytes, as in libwayland.
     pub const USUAL_LIMIT: u32 = 4096;
+
+    pub(crate) fn raw(&self) -> ffi::waywire_sizes {
+        ffi::waywire_sizes {
+            out_bytes: self.out_bytes,
+            out_tokens: self.out_tokens,
+            in_bytes: self.in_bytes,
+            in_tokens: self.in_tokens,
+            limit: self.limit,
+        }
+    }
 
     /// Whether an end with these sizes can take what libwayland sends at once, and any message, even while
     /// the descriptors of an incomplete message wait.

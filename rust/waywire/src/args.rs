@@ -2,12 +2,14 @@
 
 use crate::sys::{self, ArgOf};
 use crate::tables::Object;
+use std::ffi::CStr;
 use std::fmt;
 use std::os::fd::{AsFd, AsRawFd, BorrowedFd, OwnedFd};
 use std::slice;
+use waywire_sys as ffi;
 
 /// The most arguments that a message can have, and so the most descriptors.
-pub const MAX_ARGS: usize = sys::MAX_ARGS as usize;
+pub const MAX_ARGS: usize = ffi::WAYWIRE_MAX_ARGS as usize;
 
 /// A number in 256ths. It is displayed as an [`f64`], with the same options.
 #[derive(Clone, Copy, Default, PartialEq, Eq, Hash, PartialOrd, Ord)]
@@ -105,8 +107,8 @@ pub enum Value<'a, D = BorrowedFd<'a>> {
     Uint(u32),
     /// A number in 256ths.
     Fixed(Fixed),
-    /// A string without its NUL, or the null string. Its bytes need not be UTF-8.
-    Str(Option<&'a [u8]>),
+    /// A string, or the null string. It need not be UTF-8: [`CStr::to_str`] says whether it is.
+    Str(Option<&'a CStr>),
     /// A live object, or null.
     Object(Option<Object>),
     /// An object that this end has destroyed already: the event was written before.
@@ -116,7 +118,7 @@ pub enum Value<'a, D = BorrowedFd<'a>> {
     /// The object that wl_registry.bind makes, its interface and its version.
     Bound {
         /// The name of its interface.
-        interface: &'a [u8],
+        interface: &'a CStr,
         /// Its version.
         version: u32,
         /// The object.
@@ -155,20 +157,20 @@ impl<D: AsRawFd> PartialEq for Value<'_, D> {
 #[inline]
 fn value<'a, D>(arg: &ArgOf<'a>, next: impl FnOnce() -> Option<D>) -> Value<'a, D> {
     match arg.kind() {
-        sys::INT => Value::Int(arg.int()),
-        sys::UINT => Value::Uint(arg.uint()),
-        sys::FIXED => Value::Fixed(Fixed(arg.int())),
-        sys::STRING => Value::Str(Some(arg.bytes())),
-        sys::NULL_STRING => Value::Str(None),
-        sys::OBJECT => Value::Object(Some(arg.object())),
-        sys::NULL_OBJECT => Value::Object(None),
-        sys::DEAD_OBJECT => Value::Dead(arg.object()),
-        sys::NEW => Value::NewId(arg.object()),
-        sys::BOUND => {
-            Value::Bound { interface: arg.bytes(), version: arg.uint(), object: arg.object() }
+        ffi::WAYWIRE_INT => Value::Int(arg.int()),
+        ffi::WAYWIRE_UINT => Value::Uint(arg.uint()),
+        ffi::WAYWIRE_FIXED => Value::Fixed(Fixed(arg.int())),
+        ffi::WAYWIRE_STRING => Value::Str(Some(arg.text())),
+        ffi::WAYWIRE_NULL_STRING => Value::Str(None),
+        ffi::WAYWIRE_OBJECT => Value::Object(Some(arg.object())),
+        ffi::WAYWIRE_NULL_OBJECT => Value::Object(None),
+        ffi::WAYWIRE_DEAD_OBJECT => Value::Dead(arg.object()),
+        ffi::WAYWIRE_NEW => Value::NewId(arg.object()),
+        ffi::WAYWIRE_BOUND => {
+            Value::Bound { interface: arg.text(), version: arg.uint(), object: arg.object() }
         }
-        sys::ARRAY => Value::Array(arg.bytes()),
-        sys::FD => Value::Fd(next()),
+        ffi::WAYWIRE_ARRAY => Value::Array(arg.bytes()),
+        ffi::WAYWIRE_FD => Value::Fd(next()),
         // No report has another kind.
         other => unreachable!("an argument of kind {other}"),
     }

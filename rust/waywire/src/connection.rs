@@ -1,11 +1,12 @@
 //! One end of a connection, and the calls that a client and a server both have.
 
 use crate::amounts::{Amounts, Sizes};
-use crate::args::Arg;
-use crate::error::{Failed, SendError};
+use crate::error::{Failed, TablesError};
+use crate::report::Message;
 use crate::sys;
-use crate::tables::{Interface, Object, Tables};
-use std::marker::PhantomData;
+use crate::tables::Tables;
+use crate::writer::Writer;
+use std::ops::Deref;
 use std::os::fd::{BorrowedFd, OwnedFd};
 
 /// One end of a connection: its objects, its inbox and its outbox. The role `R` says which end it
@@ -55,10 +56,19 @@ use std::os::fd::{BorrowedFd, OwnedFd};
 /// ```
 #[derive(Debug)]
 pub struct Connection<R> {
-    pub(crate) end: sys::End,
-    pub(crate) tables: Tables,
-    pub(crate) sizes: Sizes,
-    role: PhantomData<R>,
+    pub(crate) writer: Writer<R>,
+    /// What the end has read last. It never outlives the end, and is never another end's: nobody else gets
+    /// the writer but by a `&`.
+    pub(crate) reading: sys::Reading,
+}
+
+impl<R> Deref for Connection<R> {
+    type Target = Writer<R>;
+
+    #[inline]
+    fn deref(&self) -> &Writer<R> {
+        &self.writer
+    }
 }
 
 /// The role of a [`Client`](crate::Client). It has no values, and only appears in types.
@@ -72,106 +82,51 @@ pub enum AsServer {}
 impl<R> Connection<R> {
     /// A new connection of an end that was made for the role `R`.
     pub(crate) fn of(end: sys::End, tables: &Tables, sizes: &Sizes) -> Connection<R> {
-        Connection { end, tables: tables.clone(), sizes: *sizes, role: PhantomData }
+        let reading = sys::Reading::nothing();
+        Connection { writer: Writer::of(end, tables, sizes), reading }
     }
 
-    /// Its tables: those with which it was made, or those of the last
-    /// [`Client::more_tables`](crate::Client::more_tables).
-    pub fn tables(&self) -> &Tables {
-        &self.tables
+    /// Adds the interfaces of a text to the end's own tables, as [`Tables::read`] does.
+    /// [`tables`](crate::Writer::tables) returns the new tables afterwards. Interfaces keep their places
+    /// and messages their opcodes, so objects and globals stay what they are.
+    ///
+    /// A client does not remember a global that was announced before its interface was in the tables:
+    /// [`bind_unannounced`](crate::Writer::bind_unannounced) binds it. A server can add globals of the
+    /// new interfaces. The error is [`TablesError::FirstServerObject`] if the text has the first event
+    /// by which the server makes an object (`N`): an end that was made with tables without such an
+    /// event has no room for these objects. An error changes nothing.
+    ///
+    /// The proof about two ends covers only ends that keep their tables.
+    ///
+    /// ```
+    /// # use waywire::{Client, Sizes, Tables, TablesError};
+    /// let core = Tables::core().unwrap();
+    /// let mut client = Client::new(&core, &Sizes::default()).unwrap();
+    /// client.more_tables(b"interface wp_thing 2\nrequest destroy D\n").unwrap();
+    /// assert!(client.tables().interface("wp_thing").is_some());
+    /// assert!(core.interface("wp_thing").is_none());
+    ///
+    /// let first = client.more_tables(b"interface wp_maker 1\nevent made N(wp_thing)\n");
+    /// assert_eq!(first, Err(TablesError::FirstServerObject));
+    /// ```
+    pub fn more_tables(&mut self, text: &[u8]) -> Result<(), TablesError> {
+        // The end frees its tables with itself, and a clone of these may last longer.
+        let more = self.writer.tables.read(text)?;
+        self.writer.end.more_tables(text)?;
+        self.writer.tables = more;
+        Ok(())
     }
 
-    /// wl_display, which every connection has.
-    pub fn display(&self) -> Object {
-        self.end.display()
-    }
-
-    /// The interface and version of an object, if the object is live; also at a failed end.
+    /// What writes its messages.
     #[inline]
-    pub fn live(&self, object: Object) -> Option<(Interface, u32)> {
-        self.end.live(object)
+    pub fn writer(&self) -> &Writer<R> {
+        &self.writer
     }
 
-    /// How many objects the end has: wl_display, those that are live, and at a client those that it
-    /// destroyed and that have not ended yet. [`Incoming::Deleted`](crate::Incoming::Deleted) ends
-    /// one that the client made; one that the server made ends when its id is used again.
-    pub fn object_count(&self) -> usize {
-        self.end.object_count()
-    }
-
-    /// Sets a number of the caller's own for an object that is live, such as its place in a list; 0
-    /// is none. Each message to the object has it ([`Message::user`](crate::Message::user)).
-    ///
-    /// At a client, drop what the number refers to at [`Incoming::Deleted`](crate::Incoming::Deleted).
-    /// That does not come for an object that the server made: drop it when you destroy the object,
-    /// and when another object replaces it ([`Client::replaced`](crate::Client::replaced)).
-    ///
-    /// # Errors
-    ///
-    /// [`SendError::Stale`] if the object is not live, and [`SendError::NoMemory`].
-    pub fn set_user(&mut self, object: Object, user: usize) -> Result<(), SendError> {
-        self.end.set_user(object, user)
-    }
-
-    /// The number that was set for an object; 0 if there is none. It stays after the object has
-    /// ended, until a number is set for a later object with the same id.
-    pub fn user(&self, object: Object) -> usize {
-        self.end.user(object)
-    }
-
-    /// The objects that [`object_count`](Connection::object_count) counts, in the order of their ids.
-    pub fn objects(&self) -> impl Iterator<Item = Object> + '_ {
-        let first = self.end.object_after(0);
-        std::iter::successors(first, |last| self.end.object_after(last.id()))
-    }
-
-    /// Whether the end has failed. It fails for good when `next` reads a message at fault, and by
-    /// [`take_waiting_tokens`](Connection::take_waiting_tokens). A client also fails when it reads
-    /// wl_display.error, and a server by [`Server::post_error`](crate::Server::post_error). What
-    /// waits in the outbox can still be taken; a server's wl_display.error is the last of it.
-    pub fn has_failed(&self) -> bool {
-        self.end.has_failed()
-    }
-
-    /// The free bytes and tokens of the inbox; zeros at a failed end.
-    pub fn in_room(&self) -> Amounts {
-        self.end.in_room()
-    }
-
-    /// The free bytes and descriptors of the outbox; also at a failed end. A wl_display.error takes no
-    /// room: it has its own. This takes constant time, however much waits.
-    pub fn out_room(&self) -> Amounts {
-        self.end.out_room()
-    }
-
-    /// Whether nothing waits in the inbox or the outbox.
-    pub fn is_drained(&self) -> bool {
-        self.end.is_drained()
-    }
-
-    /// Writes a message, and returns the object that it makes, if it makes one. A client writes
-    /// requests, a server events.
-    ///
-    /// At a client, an object that the request destroys is dead afterwards. Events for it may still
-    /// come ([`Incoming::Discarded`](crate::Incoming::Discarded)), until
-    /// [`Incoming::Deleted`](crate::Incoming::Deleted) ends it. That does not come for an object
-    /// that the server made, which is dead until an event makes one with its id. wl_registry.bind
-    /// is [`SendError::NoSuchMessage`]: [`Client::bind`](crate::Client::bind) writes it.
-    ///
-    /// The end sends a duplicate of each descriptor. It owns the duplicate once the message is written;
-    /// if the call is refused, the duplicate is closed. The caller's own descriptor stays open.
-    ///
-    /// At a server, an event that destroys its object is followed by its delete_id: both are
-    /// written, or nothing. The events of wl_display and wl_registry are
-    /// [`SendError::NoSuchMessage`]: other calls write them.
+    /// The message that was read last, lent again.
     #[inline]
-    pub fn send(
-        &mut self,
-        target: Object,
-        opcode: u16,
-        args: &[Arg<'_>],
-    ) -> Result<Option<Object>, SendError> {
-        self.end.send(target, opcode, args)
+    pub(crate) fn last_read(&mut self) -> Message<'_, R> {
+        Message { read: sys::Read::of(self) }
     }
 
     /// Moves received descriptors and bytes into the inbox: first as many descriptors as fit, and then,
@@ -183,14 +138,14 @@ impl<R> Connection<R> {
         bytes: &[u8],
         descriptors: &mut Vec<OwnedFd>,
     ) -> Result<Amounts, Failed> {
-        self.end.feed(bytes, descriptors)
+        self.writer.end.feed(bytes, descriptors)
     }
 
     /// How much [`take`](Connection::take) would take with a slice of this length, and at most so many
     /// descriptors.
     #[inline]
     pub fn goes(&self, bytes: usize, tokens: usize) -> Amounts {
-        self.end.goes(bytes, tokens)
+        self.writer.end.goes(bytes, tokens)
     }
 
     /// Moves what waits to be sent into the slice, as much as fits, and appends at most so many
@@ -207,7 +162,7 @@ impl<R> Connection<R> {
         descriptors: &mut Vec<OwnedFd>,
         most: usize,
     ) -> Amounts {
-        self.end.take(bytes, descriptors, most)
+        self.writer.end.take(bytes, descriptors, most)
     }
 
     /// What can go at one time, for `sendmsg`, also at a failed end. Nothing is taken out: after
@@ -215,20 +170,20 @@ impl<R> Connection<R> {
     ///
     /// It borrows the end for itself, since the parts are valid until the end's next call.
     pub fn peek(&mut self) -> Waiting<'_> {
-        Waiting(self.end.peek())
+        Waiting(self.writer.end.peek())
     }
 
     /// Removes so many bytes from the outbox, or all bytes if fewer wait, and closes the descriptors of
     /// the messages that begin in them.
     pub fn sent(&mut self, bytes: usize) -> Amounts {
-        self.end.sent(bytes)
+        self.writer.end.sent(bytes)
     }
 
     /// The free bytes of the inbox, for `recvmsg`: fill the first part first. The second part may be
     /// empty; at a failed end both are. [`received`](Connection::received) takes in what was written
     /// there.
     pub fn space(&mut self) -> [&mut [u8]; 2] {
-        self.end.space()
+        self.writer.end.space()
     }
 
     /// Takes in descriptors, and so many of the bytes that were written where
@@ -243,7 +198,7 @@ impl<R> Connection<R> {
         bytes: usize,
         descriptors: &mut Vec<OwnedFd>,
     ) -> Result<Amounts, Failed> {
-        self.end.received(bytes, descriptors)
+        self.writer.end.received(bytes, descriptors)
     }
 
     /// Gives up the end, and returns the descriptors that wait in it: first those that were fed and not
@@ -252,7 +207,7 @@ impl<R> Connection<R> {
     /// The end has failed afterwards, and what waited to be sent is dropped, so first take what is still
     /// to be sent. Afterwards, discard what [`take`](Connection::take) returns: the stream has a gap.
     pub fn take_waiting_tokens(&mut self) -> Vec<OwnedFd> {
-        self.end.take_waiting_tokens()
+        self.writer.end.take_waiting_tokens()
     }
 }
 

@@ -4,6 +4,7 @@ use crate::sys;
 use std::error::Error;
 use std::fmt;
 use std::io;
+use waywire_sys as ffi;
 
 /// Why tables, an end or an inspector are not made.
 #[derive(Clone, Copy, Debug, PartialEq, Eq)]
@@ -32,8 +33,8 @@ pub enum TablesError {
         /// The lowest rule that it breaks: 1 to 9 for V1 to V9, 11 for V11.
         rule: u32,
     },
-    /// Only from [`Client::more_tables`](crate::Client::more_tables): the text has the first event by
-    /// which the server makes an object, and the client has no room for such objects.
+    /// Only from [`Connection::more_tables`](crate::Connection::more_tables): the text has the first
+    /// event by which the server makes an object, and the end has no room for such objects.
     FirstServerObject,
     /// Out of memory.
     NoMemory,
@@ -62,7 +63,7 @@ pub enum SendError {
         place: usize,
     },
     /// No global of this name, interface and version was announced. From
-    /// [`Client::bind_unannounced`](crate::Client::bind_unannounced): the tables have no such interface
+    /// [`Writer::bind_unannounced`](crate::Writer::bind_unannounced): the tables have no such interface
     /// and version.
     BadBind,
     /// The message is longer than the end's limit ([`Sizes::limit`](crate::Sizes::limit)).
@@ -112,6 +113,20 @@ pub enum NextError {
     /// The server's outbox has no room for the delete_id of the object that the request destroys. The
     /// request stays: take, and then read again.
     OutFull,
+}
+
+/// Why [`Server::next_unanswered`](crate::Server::next_unanswered) read no request. Nothing has changed.
+#[derive(Clone, Copy, Debug, PartialEq, Eq)]
+pub struct Unanswered<'a> {
+    /// The reason.
+    pub error: NextError,
+    /// With a fault: the id of the message's target; else 0.
+    pub target: u32,
+    /// With a fault: the message's opcode; else 0.
+    pub opcode: u16,
+    /// With a fault: the bytes of the message, header included, or with [`FaultKind::BadSize`] those of the
+    /// header; else empty.
+    pub message: &'a [u8],
 }
 
 /// Out of memory. Nothing has changed.
@@ -192,8 +207,8 @@ pub(crate) trait Status {
 impl Status for NewError {
     fn status(&self) -> u32 {
         match self {
-            NewError::BadSizes => sys::BAD_SIZES,
-            NewError::NoMemory => sys::NO_MEMORY,
+            NewError::BadSizes => ffi::WAYWIRE_BAD_SIZES,
+            NewError::NoMemory => ffi::WAYWIRE_NO_MEMORY,
         }
     }
 }
@@ -201,10 +216,10 @@ impl Status for NewError {
 impl Status for TablesError {
     fn status(&self) -> u32 {
         match self {
-            TablesError::BadLine { .. } => sys::BAD_LINE,
-            TablesError::BadTable { .. } => sys::BAD_TABLE,
-            TablesError::FirstServerObject => sys::FIRST_SERVER_OBJECT,
-            TablesError::NoMemory => sys::NO_MEMORY,
+            TablesError::BadLine { .. } => ffi::WAYWIRE_BAD_LINE,
+            TablesError::BadTable { .. } => ffi::WAYWIRE_BAD_TABLE,
+            TablesError::FirstServerObject => ffi::WAYWIRE_FIRST_SERVER_OBJECT,
+            TablesError::NoMemory => ffi::WAYWIRE_NO_MEMORY,
         }
     }
 }
@@ -212,20 +227,20 @@ impl Status for TablesError {
 impl Status for SendError {
     fn status(&self) -> u32 {
         match self {
-            SendError::Failed => sys::FAILED,
-            SendError::Stale => sys::STALE,
-            SendError::NoSuchMessage => sys::NO_SUCH_MESSAGE,
-            SendError::TooOld => sys::TOO_OLD,
-            SendError::WrongArgs { .. } => sys::WRONG_ARGS,
-            SendError::BadObject { .. } => sys::BAD_OBJECT,
-            SendError::BadBind => sys::BAD_BIND,
-            SendError::TooLong => sys::TOO_LONG,
-            SendError::Full => sys::FULL,
-            SendError::NoIds => sys::NO_IDS,
-            SendError::NoMemory => sys::NO_MEMORY,
-            SendError::NotDroppable => sys::NOT_DROPPABLE,
+            SendError::Failed => ffi::WAYWIRE_FAILED,
+            SendError::Stale => ffi::WAYWIRE_STALE,
+            SendError::NoSuchMessage => ffi::WAYWIRE_NO_SUCH_MESSAGE,
+            SendError::TooOld => ffi::WAYWIRE_TOO_OLD,
+            SendError::WrongArgs { .. } => ffi::WAYWIRE_WRONG_ARGS,
+            SendError::BadObject { .. } => ffi::WAYWIRE_BAD_OBJECT,
+            SendError::BadBind => ffi::WAYWIRE_BAD_BIND,
+            SendError::TooLong => ffi::WAYWIRE_TOO_LONG,
+            SendError::Full => ffi::WAYWIRE_FULL,
+            SendError::NoIds => ffi::WAYWIRE_NO_IDS,
+            SendError::NoMemory => ffi::WAYWIRE_NO_MEMORY,
+            SendError::NotDroppable => ffi::WAYWIRE_NOT_DROPPABLE,
             // It is no refusal of the library's: see its text below.
-            SendError::NotDuplicated { .. } => sys::NO_MEMORY,
+            SendError::NotDuplicated { .. } => ffi::WAYWIRE_NO_MEMORY,
         }
     }
 }
@@ -233,11 +248,11 @@ impl Status for SendError {
 impl Status for GlobalError {
     fn status(&self) -> u32 {
         match self {
-            GlobalError::Failed => sys::FAILED,
-            GlobalError::BadGlobal => sys::BAD_GLOBAL,
-            GlobalError::TooMany => sys::TOO_MANY_GLOBALS,
-            GlobalError::NoSuchGlobal => sys::NO_SUCH_GLOBAL,
-            GlobalError::NoMemory => sys::NO_MEMORY,
+            GlobalError::Failed => ffi::WAYWIRE_FAILED,
+            GlobalError::BadGlobal => ffi::WAYWIRE_BAD_GLOBAL,
+            GlobalError::TooMany => ffi::WAYWIRE_TOO_MANY_GLOBALS,
+            GlobalError::NoSuchGlobal => ffi::WAYWIRE_NO_SUCH_GLOBAL,
+            GlobalError::NoMemory => ffi::WAYWIRE_NO_MEMORY,
         }
     }
 }
@@ -246,38 +261,38 @@ impl Status for NextError {
     fn status(&self) -> u32 {
         match self {
             NextError::Fault(fault) => fault.kind.status(),
-            NextError::Failed => sys::FAILED,
-            NextError::NoMemory => sys::NO_MEMORY,
-            NextError::OutFull => sys::OUT_FULL,
+            NextError::Failed => ffi::WAYWIRE_FAILED,
+            NextError::NoMemory => ffi::WAYWIRE_NO_MEMORY,
+            NextError::OutFull => ffi::WAYWIRE_OUT_FULL,
         }
     }
 }
 
 impl Status for NoMemory {
     fn status(&self) -> u32 {
-        sys::NO_MEMORY
+        ffi::WAYWIRE_NO_MEMORY
     }
 }
 
 impl Status for Failed {
     fn status(&self) -> u32 {
-        sys::FAILED
+        ffi::WAYWIRE_FAILED
     }
 }
 
 impl Status for FaultKind {
     fn status(&self) -> u32 {
         match self {
-            FaultKind::BadSize => sys::FAULT_BAD_SIZE,
-            FaultKind::UnknownObject => sys::FAULT_UNKNOWN_OBJECT,
-            FaultKind::UnknownMessage => sys::FAULT_UNKNOWN_MESSAGE,
-            FaultKind::BadArgument { .. } => sys::FAULT_BAD_ARGUMENT,
-            FaultKind::BadObject { .. } => sys::FAULT_BAD_OBJECT,
-            FaultKind::BadNewId { .. } => sys::FAULT_BAD_NEW_ID,
-            FaultKind::TrailingBytes => sys::FAULT_TRAILING_BYTES,
-            FaultKind::MissingDescriptor => sys::FAULT_MISSING_DESCRIPTOR,
-            FaultKind::BadBind => sys::FAULT_BAD_BIND,
-            FaultKind::TooManyObjects => sys::FAULT_TOO_MANY_OBJECTS,
+            FaultKind::BadSize => ffi::WAYWIRE_FAULT_BAD_SIZE,
+            FaultKind::UnknownObject => ffi::WAYWIRE_FAULT_UNKNOWN_OBJECT,
+            FaultKind::UnknownMessage => ffi::WAYWIRE_FAULT_UNKNOWN_MESSAGE,
+            FaultKind::BadArgument { .. } => ffi::WAYWIRE_FAULT_BAD_ARGUMENT,
+            FaultKind::BadObject { .. } => ffi::WAYWIRE_FAULT_BAD_OBJECT,
+            FaultKind::BadNewId { .. } => ffi::WAYWIRE_FAULT_BAD_NEW_ID,
+            FaultKind::TrailingBytes => ffi::WAYWIRE_FAULT_TRAILING_BYTES,
+            FaultKind::MissingDescriptor => ffi::WAYWIRE_FAULT_MISSING_DESCRIPTOR,
+            FaultKind::BadBind => ffi::WAYWIRE_FAULT_BAD_BIND,
+            FaultKind::TooManyObjects => ffi::WAYWIRE_FAULT_TOO_MANY_OBJECTS,
         }
     }
 }
@@ -401,7 +416,8 @@ mod tests {
     #[test]
     fn faults_are_errors() {
         let kind = FaultKind::BadArgument { place: 2, spelling: 1 };
-        let (status, spelling) = (sys::text_of(sys::FAULT_BAD_ARGUMENT), sys::spelling_of(1));
+        let (status, spelling) =
+            (sys::text_of(ffi::WAYWIRE_FAULT_BAD_ARGUMENT), sys::spelling_of(1));
         assert_eq!(kind.to_string(), format!("{status}, argument 2: {spelling}"));
         let fault = Fault { kind, offset: 12 };
         assert_eq!(fault.to_string(), format!("message at byte 12: {kind}"));

@@ -5,6 +5,7 @@ use crate::error::{FaultKind, NewError, NoMemory};
 use crate::sys;
 use crate::tables::{Interface, Tables};
 use std::fmt;
+use waywire_sys as ffi;
 
 /// Who sent a piece.
 #[derive(Clone, Copy, Debug, PartialEq, Eq, Hash)]
@@ -90,7 +91,7 @@ pub struct Inspector(sys::Inspector);
 impl Inspector {
     /// The limit unless both ends use another: the default of a [`Client`](crate::Client) and a
     /// [`Server`](crate::Server).
-    pub const USUAL_LIMIT: u32 = sys::USUAL_LIMIT;
+    pub const USUAL_LIMIT: u32 = ffi::WAYWIRE_USUAL_LIMIT;
 
     /// An inspector that has seen nothing.
     ///
@@ -130,6 +131,12 @@ impl Inspector {
     /// ones that passed.
     pub fn judged_count(&self) -> u64 {
         self.0.judged_count()
+    }
+
+    /// The first judged wl_display.delete_id that nothing asked for. If there is one, a request that
+    /// breaks a rule after it may be the server's fault.
+    pub fn undeserved(&self) -> Option<UndeservedDelete> {
+        self.0.undeserved()
     }
 
     /// Takes the bytes of a piece. They follow the bytes of the same sender that
@@ -194,6 +201,16 @@ pub enum Judgement {
         /// The rule.
         fault: FaultKind,
     },
+}
+
+/// A delete_id that nothing asked for: its object was not ending and no event of its interface ends it,
+/// or its id had no object. The rules allow it.
+#[derive(Clone, Copy, Debug, PartialEq, Eq)]
+pub struct UndeservedDelete {
+    /// The number of the message among those of both directions, from 1.
+    pub number: u64,
+    /// The id that it takes back.
+    pub id: u32,
 }
 
 /// What is known of an id.

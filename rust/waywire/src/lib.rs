@@ -5,17 +5,17 @@
 //! wrote, and every object in them arrives as the one that its writer meant. This holds for two ends
 //! that begin together and keep their tables, with a transport that delivers bytes in order and each
 //! descriptor in time, up to the first error that the server posts. What the C calls add to these ends
-//! is proved in part. This crate adds Rust's types, and is tested. It has no dependency, and finds the
-//! library by pkg-config or `WAYWIRE_DIR`.
+//! is proved in part. This crate adds Rust's types, and is tested. Its only dependency is `waywire-sys`,
+//! which finds the library.
 //!
 //! It is for Linux on x86-64. The library needs the instructions of x86-64-v2 (SSE4.2, from 2009 on).
 //!
 //! # The loop
 //!
 //! An end, a [`Client`] or a [`Server`], turns calls into bytes and bytes into messages. Both are
-//! a [`Connection`], which has the calls that they share.
+//! a [`Connection`], which has the calls that they share. What writes messages is its [`Writer`].
 //!
-//! 1. [`send`](Connection::send) and the like write a message; it waits in the end's outbox.
+//! 1. [`send`](Writer::send) and the like write a message; it waits in the end's outbox.
 //! 2. [`take`](Connection::take) moves out what waits, for the socket.
 //! 3. [`feed`](Connection::feed) takes in what came from the socket, in any cut.
 //! 4. [`next`](Client::next) reads one message, until it returns `None`.
@@ -24,7 +24,8 @@
 //! event loop is yours.
 //!
 //! ```
-//! use waywire::{Arg, Client, Incoming, Server, Sizes, Tables, Value, event, request};
+//! use waywire::wayland::{wl_callback, wl_display};
+//! use waywire::{Arg, Client, Incoming, Server, Sizes, Tables, Value};
 //!
 //! # fn main() -> Result<(), Box<dyn std::error::Error>> {
 //! let tables = Tables::core()?;
@@ -32,18 +33,18 @@
 //! let mut server = Server::new(&tables, &Sizes::default())?;
 //!
 //! let callback = client
-//!     .send(client.display(), request::wl_display::SYNC, &[Arg::NewId])?
+//!     .send(client.display(), wl_display::request::SYNC, &[Arg::NewId])?
 //!     .expect("sync makes an object");
 //!
 //! let (mut bytes, mut descriptors) = ([0; 4096], Vec::new());
 //! let taken = client.take(&mut bytes, &mut descriptors, 28);
 //! server.feed(&bytes[..taken.bytes], &mut descriptors)?;
 //! let asked = server.next()?.expect("a whole request came");
-//! assert_eq!(asked.opcode(), request::wl_display::SYNC);
+//! assert_eq!(asked.opcode(), wl_display::request::SYNC);
 //! // Each end names its own objects: this one is the server's, for the same object as the client's.
 //! let Some(Value::NewId(made)) = asked.args().next() else { panic!("sync makes an object") };
 //!
-//! server.send(made, event::wl_callback::DONE, &[Arg::Uint(7)])?;
+//! server.send(made, wl_callback::event::DONE, &[Arg::Uint(7)])?;
 //! let taken = server.take(&mut bytes, &mut descriptors, 28);
 //! client.feed(&bytes[..taken.bytes], &mut descriptors)?;
 //! match client.next()? {
@@ -69,32 +70,34 @@
 //! # Typed calls
 //!
 //! [`wayland`] has a type for the objects of each interface of the core, with a method for each of its
-//! messages; `stubs-from-xml --rust` makes such modules for other protocols. Incoming messages are dispatched
+//! messages; [`data_device`] has those of clipboards and of drag and drop, whose tables an end reads from
+//! [`data_device::TABLES`]. `stubs-from-xml --rust` makes such modules for other protocols. Incoming messages are dispatched
 //! to a handler: to the [`Events`](wayland::wl_callback::Events) of an interface at a client, and to the
 //! [`Requests`](wayland::wl_display::Requests) of an interface at a server.
 //!
 //! ```
 //! use waywire::wayland::wl_callback::{self, WlCallback};
 //! use waywire::wayland::wl_display::{self, WlDisplay};
-//! use waywire::{Client, EventHandler, Incoming, RequestHandler, Server, Sizes, Tables};
+//! use waywire::{Client, ClientWriter, EventHandler, Incoming, RequestHandler};
+//! use waywire::{Server, ServerWriter, Sizes, Tables};
 //!
 //! /// Answers each sync.
-//! struct Answering<'a>(&'a mut Server);
+//! struct Answering;
 //!
-//! impl wl_display::Requests for Answering<'_> {
-//!     fn sync(&mut self, _display: WlDisplay, callback: WlCallback) {
-//!         callback.send_done(self.0, 7).expect("there is room");
+//! impl wl_display::Requests for Answering {
+//!     fn sync(&mut self, server: &ServerWriter, _display: WlDisplay, callback: WlCallback) {
+//!         callback.send_done(server, 7).expect("there is room");
 //!     }
 //! }
 //!
 //! // Each request goes to the `Requests` of its object's interface.
-//! waywire::request_handler!(['a] Answering<'a>: wl_display);
+//! waywire::request_handler!(Answering: wl_display);
 //!
 //! /// The data of the last callback.
 //! struct Told(u32);
 //!
 //! impl wl_callback::Events for Told {
-//!     fn done(&mut self, _callback: WlCallback, data: u32) {
+//!     fn done(&mut self, _client: &ClientWriter, _callback: WlCallback, data: u32) {
 //!         self.0 = data;
 //!     }
 //! }
@@ -106,26 +109,29 @@
 //! let mut client = Client::new(&tables, &Sizes::default())?;
 //! let mut server = Server::new(&tables, &Sizes::default())?;
 //! # let (mut bytes, mut descriptors) = ([0; 4096], Vec::new());
-//! WlDisplay(client.display()).sync(&mut client)?;
+//! WlDisplay(client.display()).sync(&client)?;
 //! # let taken = client.take(&mut bytes, &mut descriptors, 28);
 //! # server.feed(&bytes[..taken.bytes], &mut descriptors)?;
 //! // .. the bytes go to the server
-//! let mut asked = server.next()?.expect("a whole request came").into_owned();
-//! assert!(Answering(&mut server).dispatch_request(&tables, &mut asked));
+//! let mut asked = server.next()?.expect("a whole request came");
+//! assert!(Answering.dispatch_request(asked.writer(), &mut asked));
 //! # let taken = server.take(&mut bytes, &mut descriptors, 28);
 //! # client.feed(&bytes[..taken.bytes], &mut descriptors)?;
 //! // .. and others to the client
 //! let mut told = Told(0);
 //! if let Some(Incoming::Event(mut event)) = client.next()? {
-//!     assert!(told.dispatch_event(&tables, &mut event));
+//!     assert!(told.dispatch_event(event.writer(), &mut event));
 //! }
 //! assert_eq!(told.0, 7);
 //! # Ok(())
 //! # }
 //! ```
 //!
-//! A method that you do not write does nothing. While `next` lends a message, the end cannot be used. To use
-//! it in the handler, dispatch a copy, as above: [`Message::into_owned`].
+//! - A handler answers with the [`Writer`] that it gets; the message is still lent meanwhile, and nothing is
+//!   copied. A method that you do not write does nothing.
+//! - A string is a [`CStr`](std::ffi::CStr). The protocol wants UTF-8, but no end checks it: `to_str` does, and
+//!   `to_bytes` is what came.
+//! - Data of a handler for its objects are in an [`ObjectMap`].
 //!
 //! # Loans
 //!
@@ -143,7 +149,8 @@
 //! # Threads
 //!
 //! Any number of threads may use [`Tables`] at the same time. An end or an [`Inspector`] may move to another
-//! thread ([`Send`]), but only one thread at a time uses it: it is not [`Sync`].
+//! thread ([`Send`]), but only one thread at a time uses it: it is not [`Sync`]. So is a
+//! [`Link`](socket::Link). A [`Message`] and a `&Writer` stay on their thread; an [`OwnedMessage`] may go.
 //!
 //! ```
 //! # use waywire::{Client, Sizes, Tables};
@@ -162,13 +169,23 @@
 //! ```compile_fail,E0277
 //! # use waywire::{Server, Sizes, Tables};
 //! # let tables = Tables::core().unwrap();
+//! # let mut server = Server::new(&tables, &Sizes::default()).unwrap();
+//! let request = server.next();
+//! std::thread::scope(|threads| {
+//!     threads.spawn(move || request);
+//! });
+//! ```
+//!
+//! ```compile_fail,E0277
+//! # use waywire::{Server, Sizes, Tables};
+//! # let tables = Tables::core().unwrap();
 //! # let server = Server::new(&tables, &Sizes::default()).unwrap();
 //! std::thread::scope(|threads| {
 //!     threads.spawn(|| server.in_room());
 //! });
 //! ```
 
-#![deny(unsafe_code)]
+#![deny(unsafe_code, unsafe_op_in_unsafe_fn, clippy::undocumented_unsafe_blocks)]
 
 #[cfg(not(all(target_os = "linux", target_arch = "x86_64", target_pointer_width = "64")))]
 compile_error!("waywire is for Linux on x86-64");
@@ -180,9 +197,12 @@ mod amounts;
 mod args;
 mod client;
 mod connection;
+#[rustfmt::skip]
+pub mod data_device;
 mod decoded;
 mod error;
 mod inspector;
+mod map;
 mod owned;
 mod report;
 mod server;
@@ -193,21 +213,24 @@ mod tables;
 pub mod typed;
 #[rustfmt::skip]
 pub mod wayland;
+mod writer;
 
-pub use amounts::{Amounts, Sizes};
+pub use amounts::{Amounts, Announced, Sizes};
 pub use args::{Arg, Args, Fixed, Value, MAX_ARGS};
 pub use client::Client;
 pub use connection::{AsClient, AsServer, Connection, Waiting};
 pub use decoded::{Decoded, Spelled};
 pub use error::{
     Failed, Fault, FaultKind, GlobalError, InboxFull, NewError, NextError, NoMemory, SendError,
-    TablesError, TooSmall,
+    TablesError, TooSmall, Unanswered,
 };
-pub use inspector::{Followed, Inspector, Judgement, Known, Made, Sender, Verdict};
+pub use inspector::{
+    Followed, Inspector, Judgement, Known, Made, Sender, UndeservedDelete, Verdict,
+};
+pub use map::{Key, ObjectMap};
 pub use owned::{OwnedMessage, OwnedValue};
-pub use report::{Event, Incoming, Message, Named, ProtocolError, Replaced, Request};
+pub use report::{Event, Incoming, Message, Named, ProtocolError, Request};
 pub use server::Server;
 pub use tables::{ArgKind, Destroys, Interface, Object, Signature, Tables};
 pub use typed::{EventHandler, Handle, Readable, RequestHandler};
-#[doc(inline)]
-pub use wayland::{event, request};
+pub use writer::{ClientWriter, ServerWriter, Writer};

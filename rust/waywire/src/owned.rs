@@ -4,10 +4,11 @@ use crate::args::{Fixed, Value};
 use crate::report::Message;
 use crate::tables::{Interface, Object};
 use crate::typed::Readable;
+use std::ffi::{CStr, CString};
 use std::os::fd::{AsFd, OwnedFd};
 
-/// A message in memory of its own, with its descriptors. While an end lends a message, the end cannot be
-/// used; with an owned message, it can. Its descriptors are closed when it is dropped.
+/// A message in memory of its own, with its descriptors, to be kept while its end reads on. Its descriptors
+/// are closed when it is dropped.
 #[derive(Debug)]
 pub struct OwnedMessage {
     /// The object that it is for.
@@ -34,8 +35,8 @@ pub enum OwnedValue {
     Uint(u32),
     /// A number in 256ths.
     Fixed(Fixed),
-    /// A string without its NUL, or the null string. Its bytes need not be UTF-8.
-    Str(Option<Vec<u8>>),
+    /// A string, or the null string. It need not be UTF-8.
+    Str(Option<CString>),
     /// A live object, or null.
     Object(Option<Object>),
     /// An object that this end has destroyed already: the event was written before.
@@ -45,7 +46,7 @@ pub enum OwnedValue {
     /// The object that wl_registry.bind makes, its interface and its version.
     Bound {
         /// The name of its interface.
-        interface: Vec<u8>,
+        interface: CString,
         /// Its version.
         version: u32,
         /// The object.
@@ -99,12 +100,12 @@ impl From<Value<'_, OwnedFd>> for OwnedValue {
             Value::Int(number) => OwnedValue::Int(number),
             Value::Uint(number) => OwnedValue::Uint(number),
             Value::Fixed(number) => OwnedValue::Fixed(number),
-            Value::Str(text) => OwnedValue::Str(text.map(<[u8]>::to_vec)),
+            Value::Str(text) => OwnedValue::Str(text.map(CStr::to_owned)),
             Value::Object(object) => OwnedValue::Object(object),
             Value::Dead(object) => OwnedValue::Dead(object),
             Value::NewId(object) => OwnedValue::NewId(object),
             Value::Bound { interface, version, object } => {
-                OwnedValue::Bound { interface: interface.to_vec(), version, object }
+                OwnedValue::Bound { interface: interface.to_owned(), version, object }
             }
             Value::Array(bytes) => OwnedValue::Array(bytes.to_vec()),
             Value::Fd(fd) => OwnedValue::Fd(fd),
@@ -112,9 +113,9 @@ impl From<Value<'_, OwnedFd>> for OwnedValue {
     }
 }
 
-impl Message<'_> {
-    /// A copy in memory of its own, so that the end can be used while you read it. The descriptors among the
-    /// arguments move into the copy.
+impl<R> Message<'_, R> {
+    /// A copy in memory of its own, to be kept while the end reads on. To answer a message needs no copy: see
+    /// [`writer`](Message::writer). The descriptors among the arguments move into the copy.
     ///
     /// A [discarded](crate::Incoming::Discarded) event has no arguments, so its copy has no descriptors: they
     /// are closed when the end reads on. [`take_descriptor`](Message::take_descriptor) takes them before.

@@ -1,35 +1,40 @@
 //! The messages that an end reads.
 
 use crate::args::Args;
+use crate::connection::{AsClient, AsServer};
 use crate::inspector::Sender;
 use crate::sys;
 use crate::tables::{Interface, Object, Tables};
+use crate::writer::Writer;
 use std::fmt;
 use std::os::fd::{AsFd, BorrowedFd, OwnedFd};
+use waywire_sys as ffi;
 
-/// A message that was read: its target, its opcode and its arguments. Lent from the end.
+/// A message that was read: its target, its opcode and its arguments. Lent from the end, with what writes the
+/// answer to it ([`writer`](Message::writer)).
 ///
 /// Its arguments lend its descriptors, and [`take_descriptor`](Message::take_descriptor) takes one out.
 /// Descriptors that nobody takes are closed when the end reads on, or with the end.
-pub struct Message<'a> {
-    pub(crate) reading: &'a mut sys::Reading,
+pub struct Message<'a, R> {
+    pub(crate) read: sys::Read<'a, R>,
 }
 
 /// A message to a client.
-pub type Event<'a> = Message<'a>;
+pub type Event<'a> = Message<'a, AsClient>;
 
 /// A message to a server.
-pub type Request<'a> = Message<'a>;
+pub type Request<'a> = Message<'a, AsServer>;
 
-impl<'a> Message<'a> {
+impl<'a, R> Message<'a, R> {
     #[inline]
-    pub(crate) fn of(reading: &'a mut sys::Reading) -> Message<'a> {
-        Message { reading }
+    pub(crate) fn report(&self) -> &sys::Report {
+        self.read.reading().report()
     }
 
+    /// What writes the messages of the end that has read this one. It can be used while the message is lent.
     #[inline]
-    fn report(&self) -> &sys::Report {
-        self.reading.report()
+    pub fn writer(&self) -> &'a Writer<R> {
+        self.read.writer()
     }
 
     /// The object that it is for.
@@ -56,24 +61,17 @@ impl<'a> Message<'a> {
         self.report().opcode()
     }
 
-    /// The number that [`Connection::set_user`](crate::Connection::set_user) set for its target, also if
-    /// the message destroyed the target; otherwise 0.
-    #[inline]
-    pub fn user(&self) -> usize {
-        self.report().user()
-    }
-
     /// The live object that the event's new object replaced: [`Client::replaced`](crate::Client::replaced).
     /// A request replaces none.
     #[inline]
-    pub fn replaced(&self) -> Option<Replaced> {
+    pub fn replaced(&self) -> Option<Object> {
         self.report().replaced()
     }
 
     /// Whether it is wl_registry.global and the client does not remember the global: it remembers
     /// 1,024 at a time, and none whose interface is not in the tables.
-    /// [`Client::bind`](crate::Client::bind) then refuses it, and
-    /// [`Client::bind_unannounced`](crate::Client::bind_unannounced) binds it.
+    /// [`Client::bind`](crate::Writer::bind) then refuses it, and
+    /// [`Client::bind_unannounced`](crate::Writer::bind_unannounced) binds it.
     #[inline]
     pub fn is_forgotten(&self) -> bool {
         self.report().is_forgotten()
@@ -82,17 +80,17 @@ impl<'a> Message<'a> {
     /// Its arguments, in order.
     #[inline]
     pub fn args(&self) -> Args<'_> {
-        Args::of(self.reading)
+        Args::of(self.read.reading())
     }
 
     /// Those of its descriptors that were not taken, in order: the same as in its arguments.
     pub fn descriptors(&self) -> impl Iterator<Item = BorrowedFd<'_>> {
-        self.reading.held().iter().flatten().map(AsFd::as_fd)
+        self.read.reading().held().iter().flatten().map(AsFd::as_fd)
     }
 
     /// Takes the first of its descriptors that were not taken yet.
     pub fn take_descriptor(&mut self) -> Option<OwnedFd> {
-        self.reading.held_mut().iter_mut().find_map(Option::take)
+        self.read.reading_mut().held_mut().iter_mut().find_map(Option::take)
     }
 
     /// Its line, as `waywire trace` prints it: `<- wl_surface@4.enter(wl_output@7)`. `sender` is who wrote it.
@@ -105,7 +103,7 @@ impl<'a> Message<'a> {
     }
 }
 
-impl fmt::Debug for Message<'_> {
+impl<R> fmt::Debug for Message<'_, R> {
     fn fmt(&self, f: &mut fmt::Formatter<'_>) -> fmt::Result {
         f.debug_struct("Message")
             .field("target", &self.target())
@@ -117,15 +115,6 @@ impl fmt::Debug for Message<'_> {
     }
 }
 
-/// A live object that a new object with its id has replaced. It is gone, and no later message names it.
-#[derive(Clone, Copy, Debug, PartialEq, Eq)]
-pub struct Replaced {
-    /// The object.
-    pub object: Object,
-    /// The number that [`Connection::set_user`](crate::Connection::set_user) set for it; otherwise 0.
-    pub user: usize,
-}
-
 /// What a client reads.
 #[derive(Debug)]
 #[non_exhaustive]
@@ -133,7 +122,7 @@ pub enum Incoming<'a> {
     /// An event for a live object.
     Event(Event<'a>),
     /// An event for an object that the client has destroyed; its arguments are left out. If it made an
-    /// object, that object is open: [`Client::made`](crate::Client::made). It may have replaced one:
+    /// object, that object is open: [`Client::made`](crate::Writer::made). It may have replaced one:
     /// [`Client::replaced`](crate::Client::replaced).
     Discarded(Event<'a>),
     /// wl_display.delete_id: the object is gone, and its id is free again.
@@ -184,17 +173,17 @@ impl fmt::Display for ProtocolError<'_> {
 impl std::error::Error for ProtocolError<'_> {}
 
 impl<'a> Incoming<'a> {
-    /// What a report says; `None` if no whole message waits.
+    /// What was read; `None` if no whole message waits.
     #[inline]
-    pub(crate) fn of(reading: &'a mut sys::Reading) -> Option<Incoming<'a>> {
-        let report = reading.report();
+    pub(crate) fn of(read: Event<'a>) -> Option<Incoming<'a>> {
+        let report = read.report();
         Some(match report.kind() {
-            sys::MESSAGE => Incoming::Event(Message::of(reading)),
-            sys::DISCARDED => Incoming::Discarded(Message::of(reading)),
-            sys::DELETED => Incoming::Deleted(report.target()),
-            sys::STRAY => Incoming::Stray { id: report.id() },
-            sys::ERROR => {
-                let report = reading.report();
+            ffi::WAYWIRE_MESSAGE => Incoming::Event(read),
+            ffi::WAYWIRE_DISCARDED => Incoming::Discarded(read),
+            ffi::WAYWIRE_DELETED => Incoming::Deleted(report.target()),
+            ffi::WAYWIRE_STRAY => Incoming::Stray { id: report.id() },
+            ffi::WAYWIRE_ERROR => {
+                let report = read.read.into_reading().report();
                 Incoming::Error(ProtocolError {
                     id: report.id(),
                     named: report.named(),

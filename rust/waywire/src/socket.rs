@@ -10,26 +10,28 @@
 
 use crate::args::Value;
 use crate::connection::{AsClient, AsServer, Connection};
-use crate::error::{NextError, SendError, TooSmall};
-use crate::report::{Incoming, Message, ProtocolError, Request};
+use crate::error::{NextError, SendError, TablesError, TooSmall};
+use crate::report::{Incoming, ProtocolError, Request};
 use crate::sys::{self, Pollfd};
 use crate::tables::{Object, Tables};
-use crate::typed::EventHandler;
+use crate::typed::{EventHandler, RequestHandler};
 use crate::wayland::wl_callback::WlCallback;
 use crate::wayland::wl_display::{self, WlDisplay};
+use crate::writer::Writer;
 use std::env;
 use std::ffi::{OsStr, OsString};
 use std::fmt;
 use std::io::{self, ErrorKind};
 use std::net::Shutdown;
-use std::ops::{Deref, DerefMut};
+use std::ops::Deref;
 use std::os::fd::{AsFd, BorrowedFd, OwnedFd};
 use std::os::unix::net::UnixStream;
 use std::path::{Path, PathBuf};
 use std::time::{Duration, Instant};
+use waywire_sys as ffi;
 
 /// The most descriptors that an end passes at once. libwayland has the same limit.
-pub const MOST_DESCRIPTORS: usize = sys::SOCKET_DESCRIPTORS as usize;
+pub const MOST_DESCRIPTORS: usize = ffi::WAYWIRE_SOCKET_DESCRIPTORS as usize;
 
 /// Connects to a compositor, as `wl_display_connect` does.
 ///
@@ -291,7 +293,8 @@ impl AsFd for Listener {
     }
 }
 
-/// An end and its socket. It has all calls of its end.
+/// An end and its socket. It has the calls of a [`Writer`], and reads with its own: no call moves bytes past
+/// the socket.
 ///
 /// Dropping it sends what still waits, as far as the socket takes it without waiting. It then ends the
 /// connection, and closes the descriptors that wait.
@@ -311,18 +314,11 @@ pub struct Link<R> {
 }
 
 impl<R> Deref for Link<R> {
-    type Target = Connection<R>;
+    type Target = Writer<R>;
 
     #[inline]
-    fn deref(&self) -> &Connection<R> {
+    fn deref(&self) -> &Writer<R> {
         &self.end
-    }
-}
-
-impl<R> DerefMut for Link<R> {
-    #[inline]
-    fn deref_mut(&mut self) -> &mut Connection<R> {
-        &mut self.end
     }
 }
 
@@ -383,7 +379,7 @@ impl<R> Link<R> {
     /// [`MAX_ARGS`](crate::MAX_ARGS) tokens, and an inbox of [`MOST_DESCRIPTORS`] tokens and `MAX_ARGS` more,
     /// which is 48. The end and the socket are closed then.
     pub fn new(end: Connection<R>, socket: UnixStream) -> Result<Link<R>, TooSmall> {
-        if !end.sizes.can_carry() {
+        if !end.writer.sizes.can_carry() {
             return Err(TooSmall);
         }
         Ok(Link { end, socket, unanswered: None, serial: 0 })
@@ -419,7 +415,7 @@ impl<R> Link<R> {
     /// the other end [has gone](has_gone), what it said before can still be read. Any other error ends the
     /// connection.
     pub fn flush(&mut self) -> io::Result<bool> {
-        match self.end.end.flush(self.socket.as_fd()) {
+        match self.end.writer.end.flush(self.socket.as_fd()) {
             Err(error) if error.kind() == ErrorKind::WouldBlock => Ok(false),
             sent => sent.map(|()| true),
         }
@@ -437,7 +433,7 @@ impl<R> Link<R> {
     /// - an error of the socket. If the process may open no more descriptors, or more than
     ///   [`MOST_DESCRIPTORS`] came at once, some are lost, and the end has failed afterwards.
     pub fn fill(&mut self) -> io::Result<Came> {
-        match self.end.end.fill(self.socket.as_fd()) {
+        match self.end.writer.end.fill(self.socket.as_fd()) {
             Ok(0) => Ok(Came::End),
             Ok(_) => Ok(Came::Something),
             Err(error) if error.kind() == ErrorKind::WouldBlock => Ok(Came::Nothing),
@@ -448,6 +444,14 @@ impl<R> Link<R> {
                 Err(error)
             }
         }
+    }
+
+    /// Sends what waits if that is more than half of the outbox, so that a handler has room.
+    fn make_room(&mut self) -> io::Result<()> {
+        if self.out_room().bytes < self.end.writer.sizes.out_bytes / 2 {
+            self.is_stuck()?;
+        }
+        Ok(())
     }
 
     /// Sends what the socket takes, and returns whether something still waits. It is no error here if the
@@ -519,9 +523,12 @@ impl Link<AsClient> {
     /// Gives the events that were read to the handler. If there are none, it waits for some, at most for
     /// `limit`; `None` is no limit. Returns how many messages there were, 0 if the time is over.
     ///
+    /// The handler answers with the [`ClientWriter`](crate::ClientWriter) that it gets. Before each event, the
+    /// link flushes if more than half of the outbox waits.
+    ///
     /// If the handler does not take an event, its descriptors are closed. An object that this event has
     /// made stays open, as does the object of a discarded event. The handler does not learn which objects
-    /// end: if you keep data for objects, read with `next` yourself.
+    /// end; an [`ObjectMap`](crate::ObjectMap) needs not know.
     ///
     /// # Errors
     ///
@@ -560,7 +567,7 @@ impl Link<AsClient> {
         let until = Deadline::of(limit);
         let display = WlDisplay(self.end.display());
         self.is_stuck()?; // so that there is room
-        let callback = display.sync(&mut self.end).map_err(io::Error::other)?;
+        let callback = display.sync(&self.end).map_err(io::Error::other)?;
         let mut is_over = false;
         while !self.read_all(handler, Some(callback.0))?.1 {
             if is_over || !self.waits(until)? {
@@ -569,6 +576,23 @@ impl Link<AsClient> {
             is_over = until.has_passed();
         }
         Ok(())
+    }
+
+    /// Reads the next message, as [`Client::next`](crate::Client::next) does.
+    // Not an iterator's: what it returns is lent from the client.
+    #[allow(clippy::should_implement_trait)]
+    pub fn next(&mut self) -> Result<Option<Incoming<'_>>, NextError> {
+        self.end.next()
+    }
+
+    /// The live object that the last message replaced: [`Client::replaced`](crate::Client::replaced).
+    pub fn replaced(&self) -> Option<Object> {
+        self.end.replaced()
+    }
+
+    /// Adds the interfaces of a text to the client's tables: [`Client::more_tables`](crate::Client::more_tables).
+    pub fn more_tables(&mut self, text: &[u8]) -> Result<(), TablesError> {
+        self.end.more_tables(text)
     }
 
     /// Waits until something comes. False if the time is over.
@@ -589,31 +613,32 @@ impl Link<AsClient> {
     ) -> io::Result<(usize, bool)> {
         let tables = self.end.tables().clone();
         let (mut count, mut has_ended) = (0, false);
-        while let Some(incoming) = self.end.next().map_err(io::Error::other)? {
-            count += 1;
-            match incoming {
-                Incoming::Event(event) if ended == Some(event.target()) => {}
-                Incoming::Event(mut event) => {
-                    let _is_taken = handler.dispatch_event(&tables, &mut event);
+        loop {
+            self.make_room()?;
+            match self.end.next().map_err(io::Error::other)? {
+                None => return Ok((count, has_ended)),
+                Some(Incoming::Event(event)) if ended == Some(event.target()) => {}
+                Some(Incoming::Event(mut event)) => {
+                    let _is_taken = handler.dispatch_event(event.writer(), &mut event);
                 }
-                Incoming::Deleted(object) => has_ended |= ended == Some(object),
-                Incoming::Error(error) => {
+                Some(Incoming::Deleted(object)) => has_ended |= ended == Some(object),
+                Some(Incoming::Error(error)) => {
                     return Err(io::Error::other(PostedError::of(&error, &tables)));
                 }
-                Incoming::Discarded(_) | Incoming::Stray { .. } => {}
+                Some(Incoming::Discarded(_) | Incoming::Stray { .. }) => {}
             }
+            count += 1;
         }
-        Ok((count, has_ended))
     }
 }
 
 impl Link<AsServer> {
     /// Reads the next request, as [`Server::next`](crate::Server::next) does, and answers each
     /// wl_display.sync itself, as libwayland's server does: `None` if no other request is whole. Before
-    /// the answer it [announces](crate::Server::announce) the globals. The callback gets the number of the
+    /// the answer it [announces](Writer::announce) the globals. The callback gets the number of the
     /// syncs that were answered.
     ///
-    /// To answer them yourself, or to pass them on, read with `Server::next(&mut link)`.
+    /// To answer them yourself, or to pass them on, read with [`next_or_sync`](Link::next_or_sync).
     ///
     /// # Errors
     ///
@@ -628,7 +653,43 @@ impl Link<AsServer> {
             let Some(request) = self.end.next()? else { return Ok(None) };
             self.unanswered = callback_of(&request, display);
             if self.unanswered.is_none() {
-                return Ok(Some(Message::of(self.end.end.last_read())));
+                return Ok(Some(self.end.last_read()));
+            }
+        }
+    }
+
+    /// Reads the next request, as [`Server::next`](crate::Server::next) does, and answers no wl_display.sync:
+    /// its callback is the caller's.
+    pub fn next_or_sync(&mut self) -> Result<Option<Request<'_>>, NextError> {
+        self.end.next()
+    }
+
+    /// Gives the requests that were read to the handler, as [`next`](Link::next) reads them, and announces the
+    /// globals to the registries that they have made. Returns how many requests there were. It does not wait:
+    /// [`fill`](Link::fill) the link before, and flush it afterwards.
+    ///
+    /// The handler answers with the [`ServerWriter`](crate::ServerWriter) that it gets. Before each request, the
+    /// link flushes if more than half of the outbox waits. If the handler does not take a request, its
+    /// descriptors are closed. After [`post_error`](Writer::post_error) no request is read.
+    ///
+    /// # Errors
+    ///
+    /// [`NextError`], and those of [`flush`](Link::flush).
+    pub fn dispatch(&mut self, handler: &mut impl RequestHandler) -> io::Result<usize> {
+        let mut count = 0;
+        loop {
+            self.make_room()?;
+            match self.next() {
+                Ok(Some(mut request)) => {
+                    let _is_taken = handler.dispatch_request(request.writer(), &mut request);
+                    count += 1;
+                }
+                Err(NextError::Failed) if count > 0 => return Ok(count),
+                ended => {
+                    ended.map_err(io::Error::other)?;
+                    self.announce().map_err(io::Error::other)?;
+                    return Ok(count);
+                }
             }
         }
     }
@@ -651,7 +712,7 @@ impl Link<AsServer> {
     /// The registry of a request before the sync is told of the globals first.
     fn answered(&mut self, callback: WlCallback) -> Result<(), SendError> {
         self.end.announce()?;
-        callback.send_done(&mut self.end, self.serial)?;
+        callback.send_done(&self.end, self.serial)?;
         self.serial = self.serial.wrapping_add(1);
         Ok(())
     }

@@ -5,6 +5,7 @@ use crate::inspector::Sender;
 use crate::sys;
 use std::cmp::Ordering;
 use std::fmt;
+use waywire_sys::waywire_object;
 
 /// An object: its id and its birth. Only both together identify it, since ids are used again.
 ///
@@ -15,29 +16,25 @@ use std::fmt;
 ///
 /// Objects are ordered by their ids, and those with the same id by their births.
 #[derive(Clone, Copy, PartialEq, Eq, Hash)]
-#[repr(C)]
-pub struct Object {
-    birth: u64,
-    id: u32,
-}
+pub struct Object(pub(crate) waywire_object);
 
 impl Object {
     /// The id on the wire.
     pub fn id(self) -> u32 {
-        self.id
+        self.0.id
     }
 
     /// The number of the object among all objects of its range that its end ever had; wl_display is 0.
     pub fn birth(self) -> u64 {
-        self.birth
+        self.0.birth
     }
 
-    pub(crate) const NONE: Object = Object { birth: 0, id: 0 };
+    pub(crate) const NONE: Object = Object(waywire_object::NONE);
 }
 
 impl Ord for Object {
     fn cmp(&self, other: &Object) -> Ordering {
-        (self.id, self.birth).cmp(&(other.id, other.birth))
+        (self.id(), self.birth()).cmp(&(other.id(), other.birth()))
     }
 }
 
@@ -49,7 +46,7 @@ impl PartialOrd for Object {
 
 impl fmt::Debug for Object {
     fn fmt(&self, f: &mut fmt::Formatter<'_>) -> fmt::Result {
-        write!(f, "{}/{}", self.id, self.birth)
+        write!(f, "{}/{}", self.id(), self.birth())
     }
 }
 
@@ -68,6 +65,14 @@ impl Tables {
     /// The interfaces of the core protocol, wayland.xml without data transfer.
     pub fn core() -> Result<Tables, NewError> {
         sys::Tables::core().map(Tables)
+    }
+
+    /// The same for a server whose caller ends objects itself, with
+    /// [`Writer::end_object`](crate::Writer::end_object), and judges which events an object's version
+    /// has: no request destroys an object, except those of wl_fixes, and every event is there from
+    /// version 1 on.
+    pub fn core_unended() -> Result<Tables, NewError> {
+        sys::Tables::core_unended().map(Tables)
     }
 
     /// These interfaces, followed by those that a text declares.
@@ -107,10 +112,11 @@ impl Tables {
     /// if there is no such message.
     ///
     /// ```
-    /// # use waywire::{request, ArgKind, Destroys, Sender, Tables};
+    /// # use waywire::wayland::wl_surface;
+    /// # use waywire::{ArgKind, Destroys, Sender, Tables};
     /// let tables = Tables::core().unwrap();
     /// let surface = tables.interface("wl_surface").unwrap();
-    /// let opcode = request::wl_surface::FRAME;
+    /// let opcode = wl_surface::request::FRAME;
     /// let frame = tables.message(surface, Sender::Client, opcode).unwrap();
     /// assert_eq!((frame.name, frame.since, frame.destroys), ("frame", 1, Destroys::Nothing));
     /// assert_eq!(frame.kinds, [ArgKind::NewId { interface: tables.interface("wl_callback") }]);
@@ -190,18 +196,12 @@ pub enum ArgKind {
 }
 
 #[cfg(test)]
-pub(crate) mod tests {
-    use super::Object;
-    use crate::sys::tests::layout;
-    use std::mem::{offset_of, size_of};
-
-    pub fn layout() -> Vec<(String, usize)> {
-        layout! { Object, "waywire_object": birth id; }
-    }
+mod tests {
+    use super::{waywire_object, Object};
 
     #[test]
     fn objects_are_ordered_by_id() {
-        let object = |id, birth| Object { birth, id };
+        let object = |id, birth| Object(waywire_object { birth, id });
         let mut objects = [object(3, 2), object(2, 9), object(3, 1), object(1, 0)];
         objects.sort();
         assert_eq!(objects, [object(1, 0), object(2, 9), object(3, 1), object(3, 2)]);

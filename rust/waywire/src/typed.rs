@@ -1,12 +1,12 @@
 //! What typed calls use, in modules of `stubs-from-xml --rust` such as [`wayland`](crate::wayland).
 
 use crate::args::{Arg, Args, Fixed, TakenArgs, Value};
-use crate::client::Client;
 use crate::error::SendError;
 use crate::owned::{OwnedMessage, OwnedValue};
 use crate::report::Message;
-use crate::server::Server;
 use crate::tables::{Interface, Object, Tables};
+use crate::writer::{ClientWriter, ServerWriter, Writer};
+use std::ffi::CStr;
 use std::fmt::{self, Debug, Formatter};
 use std::hash::Hash;
 use std::os::fd::OwnedFd;
@@ -86,7 +86,7 @@ pub trait Readable {
     fn take_args(&mut self) -> impl Iterator<Item = Value<'_, OwnedFd>>;
 }
 
-impl Readable for Message<'_> {
+impl<R> Readable for Message<'_, R> {
     #[inline]
     fn target(&self) -> Object {
         Message::target(self)
@@ -110,7 +110,7 @@ impl Readable for Message<'_> {
 
     #[inline]
     fn take_args(&mut self) -> impl Iterator<Item = Value<'_, OwnedFd>> {
-        TakenArgs::of(self.reading)
+        TakenArgs::of(self.read.reading_mut())
     }
 }
 
@@ -141,7 +141,7 @@ impl Readable for OwnedMessage {
 pub trait EventHandler {
     /// Calls the method for an event, by the interface of its object. If the handler has no `Events` for
     /// that interface, or these have no such event with such arguments, it calls nothing and returns false.
-    fn dispatch_event(&mut self, tables: &Tables, event: &mut impl Readable) -> bool;
+    fn dispatch_event(&mut self, client: &ClientWriter, event: &mut impl Readable) -> bool;
 }
 
 /// A handler for the requests that a server reads. [`request_handler!`](crate::request_handler) implements
@@ -150,19 +150,19 @@ pub trait RequestHandler {
     /// Calls the method for a request, by the interface of its object. If the handler has no `Requests`
     /// for that interface, or these have no such request with such arguments, it calls nothing and returns
     /// false.
-    fn dispatch_request(&mut self, tables: &Tables, request: &mut impl Readable) -> bool;
+    fn dispatch_request(&mut self, server: &ServerWriter, request: &mut impl Readable) -> bool;
 }
 
 /// Takes no event: each is dropped, with its descriptors closed.
 impl EventHandler for () {
-    fn dispatch_event(&mut self, _tables: &Tables, _event: &mut impl Readable) -> bool {
+    fn dispatch_event(&mut self, _client: &ClientWriter, _event: &mut impl Readable) -> bool {
         false
     }
 }
 
 /// Takes no request: each is dropped, with its descriptors closed.
 impl RequestHandler for () {
-    fn dispatch_request(&mut self, _tables: &Tables, _request: &mut impl Readable) -> bool {
+    fn dispatch_request(&mut self, _server: &ServerWriter, _request: &mut impl Readable) -> bool {
         false
     }
 }
@@ -171,12 +171,22 @@ impl RequestHandler for () {
 /// interface by its module. Parameters of the type come before it.
 ///
 /// ```
-/// use waywire::wayland::{wl_registry, wl_seat};
+/// use std::ffi::CStr;
+/// use waywire::wayland::wl_registry::{self, WlRegistry};
+/// use waywire::wayland::wl_seat;
+/// use waywire::ClientWriter;
 ///
 /// struct Told<'a>(&'a mut Vec<u32>);
 ///
 /// impl wl_registry::Events for Told<'_> {
-///     fn global(&mut self, _: wl_registry::WlRegistry, name: u32, _: &[u8], _: u32) {
+///     fn global(
+///         &mut self,
+///         _: &ClientWriter,
+///         _: WlRegistry,
+///         name: u32,
+///         _: &CStr,
+///         _: u32,
+///     ) {
 ///         self.0.push(name);
 ///     }
 /// }
@@ -191,11 +201,13 @@ macro_rules! event_handler {
         impl<$($parameters)*> $crate::EventHandler for $handler {
             fn dispatch_event(
                 &mut self,
-                tables: &$crate::Tables,
+                client: &$crate::ClientWriter,
                 event: &mut impl $crate::Readable,
             ) -> bool {
-                match tables.name($crate::Readable::interface(event)) {
-                    $(Some($($segment)::+::NAME) => $($segment)::+::handle_event(self, event),)+
+                match client.tables().name($crate::Readable::interface(event)) {
+                    $(Some($($segment)::+::NAME) => {
+                        $($segment)::+::handle_event(self, client, event)
+                    })+
                     _ => false,
                 }
             }
@@ -214,11 +226,13 @@ macro_rules! request_handler {
         impl<$($parameters)*> $crate::RequestHandler for $handler {
             fn dispatch_request(
                 &mut self,
-                tables: &$crate::Tables,
+                server: &$crate::ServerWriter,
                 request: &mut impl $crate::Readable,
             ) -> bool {
-                match tables.name($crate::Readable::interface(request)) {
-                    $(Some($($segment)::+::NAME) => $($segment)::+::handle_request(self, request),)+
+                match server.tables().name($crate::Readable::interface(request)) {
+                    $(Some($($segment)::+::NAME) => {
+                        $($segment)::+::handle_request(self, server, request)
+                    })+
                     _ => false,
                 }
             }
@@ -235,48 +249,37 @@ pub fn is_for(tables: &Tables, message: &impl Readable, name: &str) -> bool {
     tables.name(message.interface()) == Some(name)
 }
 
-/// Writes a request that makes no object.
+/// Writes a message that makes no object.
 #[inline]
-pub fn send(
-    client: &mut Client,
+pub fn send<R>(
+    writer: &Writer<R>,
     target: Object,
     opcode: u16,
     args: &[Arg<'_>],
 ) -> Result<(), SendError> {
-    client.send(target, opcode, args).map(drop)
+    writer.send(target, opcode, args).map(drop)
 }
 
-/// Writes a request that makes an object.
+/// Writes a message whose arguments are numbers alone, given as their words.
 #[inline]
-pub fn make<T: Handle>(
-    client: &mut Client,
+pub fn send_words<R>(
+    writer: &Writer<R>,
     target: Object,
     opcode: u16,
-    args: &[Arg<'_>],
-) -> Result<T, SendError> {
-    client.send(target, opcode, args)?.map(T::of).ok_or(SendError::NoSuchMessage)
-}
-
-/// Writes an event.
-#[inline]
-pub fn send_at_server(
-    server: &mut Server,
-    target: Object,
-    opcode: u16,
-    args: &[Arg<'_>],
+    words: &[u32],
 ) -> Result<(), SendError> {
-    server.send(target, opcode, args).map(drop)
+    writer.send_words(target, opcode, words)
 }
 
-/// Writes an event that makes an object.
+/// Writes a message that makes an object.
 #[inline]
-pub fn make_at_server<T: Handle>(
-    server: &mut Server,
+pub fn make<T: Handle, R>(
+    writer: &Writer<R>,
     target: Object,
     opcode: u16,
     args: &[Arg<'_>],
 ) -> Result<T, SendError> {
-    server.send(target, opcode, args)?.map(T::of).ok_or(SendError::NoSuchMessage)
+    writer.send(target, opcode, args)?.map(T::of).ok_or(SendError::NoSuchMessage)
 }
 
 /// The arguments of a message, read one after the other. A call returns `None` if the next argument is of
@@ -314,7 +317,7 @@ impl<'a, I: Iterator<Item = Value<'a, OwnedFd>>> Fields<I> {
         /// A number in 256ths.
         fixed: Fixed -> Fixed;
         /// A string, or the null string.
-        nullable_string: Str -> Option<&'a [u8]>;
+        nullable_string: Str -> Option<&'a CStr>;
         /// Bytes.
         array: Array -> &'a [u8];
         /// The object that the message makes.
@@ -338,7 +341,7 @@ impl<'a, I: Iterator<Item = Value<'a, OwnedFd>>> Fields<I> {
 
     /// A string.
     #[inline]
-    pub fn string(&mut self) -> Option<&'a [u8]> {
+    pub fn string(&mut self) -> Option<&'a CStr> {
         self.nullable_string()?
     }
 
@@ -360,7 +363,7 @@ impl<'a, I: Iterator<Item = Value<'a, OwnedFd>>> Fields<I> {
 
     /// The object that wl_registry.bind makes; its interface and version were read before.
     #[inline]
-    pub fn bound(&mut self) -> Option<(&'a [u8], u32, Object)> {
+    pub fn bound(&mut self) -> Option<(&'a CStr, u32, Object)> {
         match self.0.next()? {
             Value::Bound { interface, version, object } => Some((interface, version, object)),
             _ => None,

@@ -7,10 +7,12 @@ mod common;
 use common::{number_of, numbered, repository};
 use std::fs;
 use std::os::fd::AsFd;
+use waywire::wayland::{
+    wl_callback, wl_compositor, wl_display, wl_registry, wl_shm, wl_subcompositor, wl_surface,
+};
 use waywire::{
-    event, request, Arg, ArgKind, Client, Connection, Decoded, Destroys, Failed, FaultKind,
-    Incoming, NextError, Object, Replaced, SendError, Sender, Server, Sizes, Spelled, Tables,
-    Value,
+    Announced, Arg, ArgKind, Client, Connection, Decoded, Destroys, Failed, FaultKind, Incoming,
+    NextError, Object, SendError, Sender, Server, Sizes, Spelled, Tables, Value,
 };
 
 /// A client and a server with nothing between.
@@ -32,9 +34,9 @@ fn carry<A, B>(from: &mut Connection<A>, to: &mut Connection<B>) -> Vec<u8> {
 
 impl Pair {
     fn new(tables: &Tables) -> Pair {
-        let mut client = Client::new(tables, &Sizes::default()).unwrap();
+        let client = Client::new(tables, &Sizes::default()).unwrap();
         let server = Server::new(tables, &Sizes::default()).unwrap();
-        let opcode = request::wl_display::GET_REGISTRY;
+        let opcode = wl_display::request::GET_REGISTRY;
         let registry = client.send(client.display(), opcode, &[Arg::NewId]).unwrap().unwrap();
         let mut pair = Pair { tables: tables.clone(), client, server, registry };
         pair.carry_to_server();
@@ -60,7 +62,7 @@ impl Pair {
         let place = self.tables.interface(interface).unwrap();
         let version = self.tables.version(place).unwrap();
         let name = self.server.add_global(place, version).unwrap();
-        assert_eq!(self.server.announce(), Ok(1));
+        assert_eq!(self.server.announce(), Ok(Announced { count: 1, all: true }));
         self.carry_to_client();
         while self.client.next().unwrap().is_some() {}
         let bound = self.client.bind(self.registry, name, interface, version).unwrap();
@@ -88,13 +90,13 @@ fn hex(bytes: &[u8]) -> String {
 #[test]
 fn the_demonstration_is_that_of_the_pair() {
     let tables = Tables::core().unwrap();
-    let mut client = Client::new(&tables, &Sizes::default()).unwrap();
-    let mut server = Server::new(&tables, &Sizes::default()).unwrap();
+    let client = Client::new(&tables, &Sizes::default()).unwrap();
+    let server = Server::new(&tables, &Sizes::default()).unwrap();
     for (name, version) in [("wl_compositor", 6), ("wl_seat", 9)] {
         server.add_global(tables.interface(name).unwrap(), version).unwrap();
     }
     let display = client.display();
-    let opcode = request::wl_display::GET_REGISTRY;
+    let opcode = wl_display::request::GET_REGISTRY;
     let registry = client.send(display, opcode, &[Arg::NewId]).unwrap().unwrap();
     let mut pair = Pair { tables, client, server, registry };
     let mut passed = [String::new(), String::new()];
@@ -103,14 +105,14 @@ fn the_demonstration_is_that_of_the_pair() {
         passed[0] += &hex(&pair.carry_to_server());
         let mut callbacks = Vec::new();
         while let Some(asked) = pair.server.next().unwrap() {
-            if (asked.target(), asked.opcode()) == (display, request::wl_display::SYNC) {
+            if (asked.target(), asked.opcode()) == (display, wl_display::request::SYNC) {
                 let Some(Value::NewId(callback)) = asked.args().next() else { panic!() };
                 callbacks.push(callback);
             }
         }
         pair.server.announce().unwrap();
         for callback in callbacks {
-            pair.server.send(callback, event::wl_callback::DONE, &[Arg::Uint(1)]).unwrap();
+            pair.server.send(callback, wl_callback::event::DONE, &[Arg::Uint(1)]).unwrap();
         }
         passed[1] += &hex(&pair.carry_to_client());
         while pair.client.next().unwrap().is_some() {}
@@ -118,12 +120,12 @@ fn the_demonstration_is_that_of_the_pair() {
     turn(&mut pair, &mut passed);
     let compositor = pair.client.bind(registry, 1, "wl_compositor", 6).unwrap();
     pair.client.bind(registry, 2, "wl_seat", 9).unwrap();
-    pair.client.send(display, request::wl_display::SYNC, &[Arg::NewId]).unwrap();
+    pair.client.send(display, wl_display::request::SYNC, &[Arg::NewId]).unwrap();
     turn(&mut pair, &mut passed);
-    let opcode = request::wl_compositor::CREATE_SURFACE;
+    let opcode = wl_compositor::request::CREATE_SURFACE;
     let surface = pair.client.send(compositor, opcode, &[Arg::NewId]).unwrap().unwrap();
-    pair.client.send(surface, request::wl_surface::COMMIT, &[]).unwrap();
-    pair.client.send(surface, request::wl_surface::DESTROY, &[]).unwrap();
+    pair.client.send(surface, wl_surface::request::COMMIT, &[]).unwrap();
+    pair.client.send(surface, wl_surface::request::DESTROY, &[]).unwrap();
     turn(&mut pair, &mut passed);
 
     let recorded = repository().join("tests/rattle/test_sweeps/data/demonstration.rec");
@@ -137,15 +139,15 @@ fn refusals_name_their_place() {
     let mut pair = Pair::new(&tables);
     let subcompositor = pair.object("wl_subcompositor");
     let compositor = pair.object("wl_compositor");
-    let opcode = request::wl_compositor::CREATE_SURFACE;
+    let opcode = wl_compositor::request::CREATE_SURFACE;
     let surface = pair.client.send(compositor, opcode, &[Arg::NewId]).unwrap().unwrap();
-    let opcode = request::wl_subcompositor::GET_SUBSURFACE;
+    let opcode = wl_subcompositor::request::GET_SUBSURFACE;
     let args = [Arg::NewId, surface.into(), compositor.into()];
     let refused = pair.client.send(subcompositor, opcode, &args).unwrap_err();
     assert_eq!(refused, SendError::BadObject { place: 2 });
     let text = "argument is no live object of its interface, argument 2";
     assert_eq!(refused.to_string(), text);
-    let refused = pair.client.send(surface, request::wl_surface::COMMIT, &[Arg::Int(1); 30]);
+    let refused = pair.client.send(surface, wl_surface::request::COMMIT, &[Arg::Int(1); 30]);
     assert_eq!(refused, Err(SendError::WrongArgs { place: 0 }));
 
     let mut pair = Pair::new(&tables);
@@ -159,31 +161,25 @@ fn refusals_name_their_place() {
     assert_eq!(Failed.to_string(), "this end has failed");
 }
 
-/// What a caller hangs on objects, and going through them.
+/// Going through the objects of an end.
 #[test]
-fn objects_have_a_number_of_the_callers() {
+fn objects_are_listed() {
     let mut pair = Pair::new(&Tables::core().unwrap());
     let surface = pair.object("wl_surface");
-    pair.client.set_user(surface, 7).unwrap();
-    pair.server.set_user(surface, 8).unwrap();
-    assert_eq!((pair.client.user(surface), pair.server.user(surface)), (7, 8));
-    assert_eq!(pair.client.user(pair.registry), 0);
     for objects in [pair.client.objects().collect::<Vec<_>>(), pair.server.objects().collect()] {
         assert_eq!(objects.len(), pair.client.object_count());
         assert_eq!(objects[..2], [pair.client.display(), pair.registry]);
         assert!(objects.contains(&surface));
     }
-    pair.client.send(surface, request::wl_surface::COMMIT, &[]).unwrap();
-    pair.client.send(surface, request::wl_surface::DESTROY, &[]).unwrap();
+    pair.client.send(surface, wl_surface::request::COMMIT, &[]).unwrap();
+    pair.client.send(surface, wl_surface::request::DESTROY, &[]).unwrap();
     pair.carry_to_server();
     let commit = pair.server.next().unwrap().unwrap();
-    assert_eq!(commit.user(), 8);
     let wanted = format!("-> wl_surface@{}.commit()", surface.id());
     assert_eq!(commit.line(&pair.tables, Sender::Client), wanted);
-    assert_eq!(pair.server.next().unwrap().unwrap().user(), 8);
+    assert_eq!(pair.server.next().unwrap().unwrap().target(), surface);
     assert!(!pair.server.objects().any(|it| it == surface));
     assert!(pair.client.objects().any(|it| it == surface));
-    assert_eq!(pair.client.set_user(surface, 1), Err(SendError::Stale));
 }
 
 /// Objects that the server makes, also by an event for an object that the client has destroyed.
@@ -248,28 +244,24 @@ fn an_event_replaces_an_object() {
     assert_eq!(client.replaced(), None);
     let (first, replaced) = makes(client, dev);
     assert_eq!(replaced, None);
-    client.set_user(first, 7).unwrap();
 
     let (second, replaced) = makes(client, dev);
-    assert_eq!(replaced, Some(Replaced { object: first, user: 7 }));
-    assert_eq!((second.id(), client.user(second), client.live(first)), (first.id(), 0, None));
+    assert_eq!(replaced, Some(first));
+    assert_eq!((second.id(), client.live(first)), (first.id(), None));
     assert!(client.objects().any(|it| it == second) && !client.objects().any(|it| it == first));
-    assert_eq!(client.set_user(first, 1), Err(SendError::Stale));
-    client.set_user(second, 8).unwrap();
-    assert_eq!(client.replaced(), Some(Replaced { object: first, user: 7 }));
+    assert_eq!(client.replaced(), Some(first));
     assert!(client.next().unwrap().is_none());
     assert_eq!((client.replaced(), client.made()), (None, Some(second)));
 
     client.send(dev, 0, &[]).unwrap();
     comes(client, dev);
     assert!(matches!(client.next(), Ok(Some(Incoming::Discarded(_)))));
-    assert_eq!(client.replaced(), Some(Replaced { object: second, user: 8 }));
+    assert_eq!(client.replaced(), Some(second));
 
     // A request can end the next one.
     let third = client.made().unwrap();
     let (fourth, replaced) = makes(client, late);
-    assert_eq!(replaced, Some(Replaced { object: third, user: 0 }));
-    client.set_user(fourth, 9).unwrap();
+    assert_eq!(replaced, Some(third));
     client.send(fourth, 0, &[]).unwrap();
     let (fifth, replaced) = makes(client, late);
     assert_eq!((replaced, client.live(fifth).map(|it| it.1)), (None, Some(3)));
@@ -287,7 +279,7 @@ fn messages_are_taken_apart() {
     let tables = Tables::core().unwrap();
     let interface = |name| tables.interface(name).unwrap();
     let registry = interface("wl_registry");
-    let bind = tables.message(registry, Sender::Client, request::wl_registry::BIND).unwrap();
+    let bind = tables.message(registry, Sender::Client, wl_registry::request::BIND).unwrap();
     assert_eq!((bind.name, bind.since, bind.destroys), ("bind", 1, Destroys::Nothing));
     assert_eq!(bind.kinds, [ArgKind::Uint, ArgKind::NewId { interface: None }]);
     assert_eq!(tables.message(registry, Sender::Client, 1), None);
@@ -296,7 +288,7 @@ fn messages_are_taken_apart() {
     let shm = pair.object("wl_shm");
     let descriptor = numbered(77);
     let new = [Arg::NewId, descriptor.as_fd().into(), Arg::Int(-5)];
-    let pool = pair.client.send(shm, request::wl_shm::CREATE_POOL, &new).unwrap().unwrap();
+    let pool = pair.client.send(shm, wl_shm::request::CREATE_POOL, &new).unwrap().unwrap();
     let bytes = pair.carry_to_server();
     let asked = pair.server.next().unwrap().unwrap();
     assert_eq!(asked.descriptors().map(number_of).collect::<Vec<_>>(), [77]);

@@ -16,9 +16,9 @@ use waywire::wayland::wl_display::WlDisplay;
 use waywire::wayland::wl_keyboard::{self, KeymapFormat, WlKeyboard};
 use waywire::wayland::wl_registry::WlRegistry;
 use waywire::wayland::wl_seat::WlSeat;
-use waywire::wayland::wl_shm::WlShm;
+use waywire::wayland::wl_shm::{self, WlShm};
 use waywire::{
-    event, request, Amounts, Arg, Client, Connection, EventHandler, Handle, Incoming, Message,
+    Amounts, Arg, Client, ClientWriter, Connection, Event, EventHandler, Handle, Incoming,
     SendError, Server, Sizes, Tables, Value,
 };
 
@@ -55,14 +55,14 @@ impl Pair {
         for name in [WlSeat::NAME, WlShm::NAME] {
             server.add_global(tables.interface(name).unwrap(), 1).unwrap();
         }
-        let registry: WlRegistry = WlDisplay(client.display()).get_registry(&mut client).unwrap();
+        let registry: WlRegistry = WlDisplay(client.display()).get_registry(&client).unwrap();
         carry(&mut client, &mut server);
         while server.next().unwrap().is_some() {}
         server.announce().unwrap();
         carry(&mut server, &mut client);
         while client.next().unwrap().is_some() {}
-        let seat = registry.bind(&mut client, 1, 1).unwrap();
-        let shm = registry.bind(&mut client, 2, 1).unwrap();
+        let seat = registry.bind(&client, 1, 1).unwrap();
+        let shm = registry.bind(&client, 2, 1).unwrap();
         let mut pair = Pair { client, server, seat, shm };
         pair.serve();
         pair
@@ -75,7 +75,7 @@ impl Pair {
     }
 
     fn keyboard(&mut self) -> WlKeyboard {
-        let keyboard = self.seat.get_keyboard(&mut self.client).unwrap();
+        let keyboard = self.seat.get_keyboard(&self.client).unwrap();
         self.serve();
         keyboard
     }
@@ -83,12 +83,12 @@ impl Pair {
     /// Sends a keyboard's client a keymap with this number.
     fn send_keymap(&mut self, keyboard: WlKeyboard, number: u32) {
         let map = numbered(number);
-        keyboard.send_keymap(&mut self.server, KeymapFormat::XKB_V1, map, 1).unwrap();
+        keyboard.send_keymap(&self.server, KeymapFormat::XKB_V1, map, 1).unwrap();
         carry(&mut self.server, &mut self.client);
     }
 
     /// The event that the client reads next.
-    fn event(&mut self) -> Message<'_> {
+    fn event(&mut self) -> Event<'_> {
         match self.client.next().unwrap() {
             Some(Incoming::Event(event)) => event,
             other => panic!("{other:?}"),
@@ -108,7 +108,7 @@ waywire::event_handler!(Empty: wl_keyboard);
 struct Keeping(Vec<OwnedFd>);
 
 impl wl_keyboard::Events for Keeping {
-    fn keymap(&mut self, _: WlKeyboard, _: KeymapFormat, fd: OwnedFd, _: u32) {
+    fn keymap(&mut self, _: &ClientWriter, _: WlKeyboard, _: KeymapFormat, fd: OwnedFd, _: u32) {
         self.0.push(fd);
     }
 }
@@ -131,11 +131,10 @@ fn an_empty_handler_leaks_nothing() {
         let keyboard = pair.keyboard();
         pair.send_keymap(keyboard, number);
     }
-    let tables = pair.client.tables().clone();
     assert_eq!(open_descriptors(), before + 20);
     while let Some(incoming) = pair.client.next().unwrap() {
         let Incoming::Event(mut event) = incoming else { continue };
-        taken += u32::from(Empty.dispatch_event(&tables, &mut event));
+        taken += u32::from(Empty.dispatch_event(event.writer(), &mut event));
     }
     assert_eq!((taken, open_descriptors()), (20, before));
 }
@@ -148,8 +147,8 @@ fn events_that_nobody_takes_leak_nothing() {
     let before = open_descriptors();
     pair.send_keymap(keyboard, 1);
     pair.send_keymap(keyboard, 2);
-    let tables = pair.client.tables().clone();
-    assert!(!().dispatch_event(&tables, &mut pair.event()));
+    let mut event = pair.event();
+    assert!(!().dispatch_event(event.writer(), &mut event));
     mem::forget(pair.event());
     assert!(pair.client.next().unwrap().is_none());
     assert_eq!(open_descriptors(), before);
@@ -169,7 +168,7 @@ fn a_discarded_event_leaks_nothing() {
     let mut client = Client::new(&tables, &Sizes::default()).unwrap();
     let mut server = Server::new(&tables, &Sizes::default()).unwrap();
     server.add_global(tables.interface("wp_source").unwrap(), 1).unwrap();
-    let registry = WlDisplay(client.display()).get_registry(&mut client).unwrap();
+    let registry = WlDisplay(client.display()).get_registry(&client).unwrap();
     carry(&mut client, &mut server);
     while server.next().unwrap().is_some() {}
     server.announce().unwrap();
@@ -205,24 +204,21 @@ fn a_refused_call_leaks_nothing() {
     let keyboard = pair.keyboard();
     let lent = numbered(7);
     let before = open_descriptors();
-    let create_pool = request::wl_shm::CREATE_POOL;
+    let create_pool = wl_shm::request::CREATE_POOL;
     let fd = Arg::from(lent.as_fd());
     for args in [&[fd; 30][..], &[fd], &[Arg::NewId, fd, fd], &[Arg::NewId, fd]] {
         let refused = pair.client.send(pair.shm.0, create_pool, args);
         assert!(matches!(refused, Err(SendError::WrongArgs { .. })));
     }
-    let refused = pair.server.send(keyboard.0, event::wl_keyboard::ENTER, &[fd]);
+    let refused = pair.server.send(keyboard.0, wl_keyboard::event::ENTER, &[fd]);
     assert!(matches!(refused, Err(SendError::WrongArgs { .. })));
     // What is given by value is closed, what is lent stays.
-    assert_eq!(
-        keyboard.send_keymap(&mut pair.server, KeymapFormat::XKB_V1, numbered(8), 1),
-        Ok(())
-    );
-    while pair.shm.create_pool(&mut pair.client, &lent, 1).is_ok() {}
-    let full = pair.shm.create_pool(&mut pair.client, numbered(9), 1);
+    assert_eq!(keyboard.send_keymap(&pair.server, KeymapFormat::XKB_V1, numbered(8), 1), Ok(()));
+    while pair.shm.create_pool(&pair.client, &lent, 1).is_ok() {}
+    let full = pair.shm.create_pool(&pair.client, numbered(9), 1);
     assert_eq!(full, Err(SendError::Full));
     assert_eq!(pair.client.take_waiting_tokens().len(), 64);
-    let failed = pair.shm.create_pool(&mut pair.client, numbered(9), 1);
+    let failed = pair.shm.create_pool(&pair.client, numbered(9), 1);
     assert_eq!(failed, Err(SendError::Failed));
     assert_eq!(number_of(lent.as_fd()), 7);
     assert_eq!(open_descriptors(), before + 1);
@@ -243,20 +239,20 @@ const EOVERFLOW: i32 = 75;
 #[test]
 fn a_descriptor_that_is_not_duplicated_is_an_error() {
     let _alone = alone();
-    let mut pair = Pair::new();
+    let pair = Pair::new();
     let lent = numbered(7);
     let mut limits = [0; 2];
-    // Safety: the calls read and write the two numbers.
+    // SAFETY: the calls read and write the two numbers.
     let refused = unsafe {
         assert_eq!(getrlimit(RLIMIT_NOFILE, &mut limits), 0);
         assert_eq!(setrlimit(RLIMIT_NOFILE, &[4, limits[1]]), 0);
-        let refused = pair.shm.create_pool(&mut pair.client, &lent, 1);
+        let refused = pair.shm.create_pool(&pair.client, &lent, 1);
         assert_eq!(setrlimit(RLIMIT_NOFILE, &limits), 0);
         refused.unwrap_err()
     };
     assert_eq!(refused, SendError::NotDuplicated { error: EMFILE });
     assert!(refused.to_string().starts_with("a descriptor is not duplicated: "));
-    assert!(pair.shm.create_pool(&mut pair.client, &lent, 1).is_ok());
+    assert!(pair.shm.create_pool(&pair.client, &lent, 1).is_ok());
 }
 
 /// A link that has lost descriptors reads nothing more: its end has failed.
@@ -282,23 +278,22 @@ fn lost_descriptors_fail_the_end() {
 fn a_message_gives_each_descriptor_once() {
     let _alone = alone();
     let mut pair = Pair::new();
-    let tables = pair.client.tables().clone();
     let keyboard = pair.keyboard();
     let before = open_descriptors();
     (1..5).for_each(|it| pair.send_keymap(keyboard, it));
     let mut kept = Keeping::default();
 
     let mut event = pair.event();
-    assert!(kept.dispatch_event(&tables, &mut event));
-    assert!(!kept.dispatch_event(&tables, &mut event));
+    assert!(kept.dispatch_event(event.writer(), &mut event));
+    assert!(!kept.dispatch_event(event.writer(), &mut event));
     assert!(event.args().any(|it| it == Value::Fd(None)));
     assert!(event.take_descriptor().is_none() && event.descriptors().next().is_none());
     mem::forget(event);
     assert_eq!(kept.numbers(), [1]);
 
     let mut owned = pair.event().into_owned();
-    assert!(kept.dispatch_event(&tables, &mut owned));
-    assert!(!kept.dispatch_event(&tables, &mut owned));
+    assert!(kept.dispatch_event(&pair.client, &mut owned));
+    assert!(!kept.dispatch_event(&pair.client, &mut owned));
     drop(owned);
     assert_eq!(kept.numbers(), [1, 2]);
 
@@ -321,16 +316,16 @@ fn what_waits_is_closed_with_its_end() {
     let _alone = alone();
     let before = open_descriptors();
     let mut pair = Pair::new();
-    pair.shm.create_pool(&mut pair.client, numbered(1), 1).unwrap();
+    pair.shm.create_pool(&pair.client, numbered(1), 1).unwrap();
     carry(&mut pair.client, &mut pair.server);
-    pair.shm.create_pool(&mut pair.client, numbered(2), 1).unwrap();
+    pair.shm.create_pool(&pair.client, numbered(2), 1).unwrap();
     assert_eq!(open_descriptors(), before + 2);
     drop(pair);
     assert_eq!(open_descriptors(), before);
 
     let mut pair = Pair::new();
-    pair.shm.create_pool(&mut pair.client, numbered(1), 1).unwrap();
-    pair.shm.create_pool(&mut pair.client, numbered(2), 1).unwrap();
+    pair.shm.create_pool(&pair.client, numbered(1), 1).unwrap();
+    pair.shm.create_pool(&pair.client, numbered(2), 1).unwrap();
     let waiting = pair.client.peek();
     assert_eq!(waiting.descriptors().iter().map(|it| number_of(*it)).collect::<Vec<_>>(), [1]);
     // The first byte takes the descriptor of its message, and no other.

@@ -1,8 +1,9 @@
-//! Tables that grow at a client with objects, and binds that the server judges.
+//! Tables that grow at an end with objects, and binds that the server judges.
 
+use waywire::wayland::wl_display;
 use waywire::{
-    request, Arg, Client, Connection, FaultKind, Incoming, Interface, NextError, Object, SendError,
-    Server, Sizes, Tables, TablesError, Value,
+    Arg, Client, Connection, FaultKind, Incoming, Interface, NextError, Object, SendError, Server,
+    Sizes, Tables, TablesError, Value,
 };
 
 /// Both have an event by which the server makes an object.
@@ -41,11 +42,11 @@ impl Pair {
         for (name, version) in [("thing", 3), ("later", 7)] {
             server.add_global(all.interface(name).unwrap(), version).unwrap();
         }
-        let get = request::wl_display::GET_REGISTRY;
+        let get = wl_display::request::GET_REGISTRY;
         let registry = client.send(client.display(), get, &[Arg::NewId]).unwrap().unwrap();
         carry(&mut client, &mut server);
         assert!(server.next().unwrap().is_some());
-        assert_eq!(server.announce(), Ok(2));
+        assert_eq!(server.announce().map(|told| told.count), Ok(2));
         carry(&mut server, &mut client);
         for is_forgotten in [false, true] {
             let Some(Incoming::Event(global)) = client.next().unwrap() else { panic!("no global") };
@@ -75,14 +76,12 @@ fn what_is_there_stays() {
     let mut pair = Pair::new();
     let thing = pair.client.bind(pair.registry, 1, "thing", 1).unwrap();
     let before = place(&pair.client, "thing");
-    pair.client.set_user(thing, 7).unwrap();
     assert_eq!(pair.bind_unannounced("later", 5), Err(SendError::BadBind));
 
     pair.client.more_tables(SECOND).unwrap();
     assert_eq!(place(&pair.client, "thing"), before);
     assert_eq!(pair.client.tables().version(before), Some(4));
     assert_eq!(pair.client.live(thing), Some((before, 1)));
-    assert_eq!(pair.client.user(thing), 7);
     assert_eq!(pair.client.send(thing, SET, &[Arg::Uint(5)]), Ok(None));
     for opcode in [PUT, TURN] {
         assert_eq!(pair.client.send(thing, opcode, &[Arg::Uint(5)]), Err(SendError::TooOld));
@@ -151,7 +150,7 @@ fn an_unannounced_bind_is_refused() {
 
     let sizes = Sizes { out_bytes: 12, ..Sizes::default() };
     let mut narrow = Client::new(pair.client.tables(), &sizes).unwrap();
-    let get = request::wl_display::GET_REGISTRY;
+    let get = wl_display::request::GET_REGISTRY;
     let registry = narrow.send(narrow.display(), get, &[Arg::NewId]).unwrap().unwrap();
     let unwritten = narrow.bind_unannounced(registry, 1, "thing", 1);
     assert_eq!(unwritten, Err(SendError::Full));
@@ -182,12 +181,39 @@ fn a_text_is_refused() {
     assert!(client.tables().interface("maker").is_some());
 }
 
+/// A server tells a client that is connected of a global whose interface both got later.
+#[test]
+fn a_late_global_is_told() {
+    let few = Tables::core().unwrap().read(FIRST).unwrap();
+    let mut client = Client::new(&few, &Sizes::default()).unwrap();
+    let mut server = Server::new(&few, &Sizes::default()).unwrap();
+    let get = wl_display::request::GET_REGISTRY;
+    let registry = client.send(client.display(), get, &[Arg::NewId]).unwrap().unwrap();
+    carry(&mut client, &mut server);
+    assert!(server.next().unwrap().is_some());
+
+    assert_eq!(server.more_tables(b"nonsense"), Err(TablesError::BadLine { line: 1 }));
+    assert_eq!(server.tables().interface("later"), None);
+    server.more_tables(SECOND).unwrap();
+    client.more_tables(SECOND).unwrap();
+    let later = server.tables().interface("later").unwrap();
+    let name = server.add_global(later, 7).unwrap();
+    assert_eq!(server.announce().map(|told| told.count), Ok(1));
+    carry(&mut server, &mut client);
+    let Some(Incoming::Event(global)) = client.next().unwrap() else { panic!("no global") };
+    assert!(!global.is_forgotten());
+    let bound = client.bind(registry, name, "later", 7).unwrap();
+    carry(&mut client, &mut server);
+    assert!(server.next().unwrap().is_some());
+    assert_eq!(server.live(bound), Some((later, 7)));
+}
+
 /// Tables that a client had stay for those that use them, and those that it has for those that keep them.
 #[test]
 fn tables_last_as_long_as_they_are_used() {
     let few = Tables::core().unwrap().read(FIRST).unwrap();
     let mut one = Client::new(&few, &Sizes::default()).unwrap();
-    let mut other = Client::new(&few, &Sizes::default()).unwrap();
+    let other = Client::new(&few, &Sizes::default()).unwrap();
     drop(few);
     let old = one.tables().clone();
     one.more_tables(SECOND).unwrap();
@@ -197,7 +223,7 @@ fn tables_last_as_long_as_they_are_used() {
     assert_eq!(old.interface("later"), None);
     assert!(new.interface("later").is_some() && new.interface("last").is_some());
     drop(old);
-    let sync = other.send(other.display(), request::wl_display::SYNC, &[Arg::NewId]);
+    let sync = other.send(other.display(), wl_display::request::SYNC, &[Arg::NewId]);
     assert!(sync.unwrap().is_some());
     assert_eq!(other.tables().interface("later"), None);
 }

@@ -4,6 +4,7 @@
 mod common;
 
 use common::{number_of, numbered};
+use std::ffi::CStr;
 use std::io::{self, ErrorKind, Read};
 use std::os::fd::{AsFd, AsRawFd, OwnedFd};
 use std::os::unix::net::UnixStream;
@@ -16,9 +17,10 @@ use waywire::socket::{
 use waywire::wayland::wl_callback::{self, WlCallback};
 use waywire::wayland::wl_display::{self, WlDisplay};
 use waywire::wayland::wl_registry::{self, WlRegistry};
+use waywire::wayland::wl_shm::{self, WlShm};
 use waywire::{
-    Amounts, AsClient, AsServer, Client, InboxFull, Incoming, NextError, SendError, Server, Sizes,
-    Tables,
+    Amounts, AsClient, AsServer, Client, ClientWriter, InboxFull, Incoming, NextError, Object,
+    SendError, Server, ServerWriter, Sizes, Tables,
 };
 
 const SOON: Option<Duration> = Some(Duration::from_millis(20));
@@ -46,7 +48,7 @@ fn serve(server: &mut Link<AsServer>) {
 struct Told(Vec<u32>);
 
 impl wl_registry::Events for Told {
-    fn global(&mut self, _: WlRegistry, name: u32, _: &[u8], _: u32) {
+    fn global(&mut self, _: &ClientWriter, _: WlRegistry, name: u32, _: &CStr, _: u32) {
         self.0.push(name);
     }
 }
@@ -60,10 +62,10 @@ fn a_round_trip_dispatches() {
     assert_eq!(server.add_global(seat, 1), Ok(1));
     let server = thread::spawn(move || serve(&mut server));
     let mut told = Told::default();
-    WlDisplay(client.display()).get_registry(&mut client).unwrap();
+    WlDisplay(client.display()).get_registry(&client).unwrap();
     client.round_trip(&mut told, LONG).unwrap();
     assert_eq!(told.0, [1]);
-    WlDisplay(client.display()).get_registry(&mut client).unwrap();
+    WlDisplay(client.display()).get_registry(&client).unwrap();
     assert_eq!(client.dispatch(&mut told, LONG).unwrap(), 1);
     assert_eq!(told.0, [1, 1]);
     assert_eq!(client.dispatch(&mut told, SOON).unwrap(), 0);
@@ -76,7 +78,7 @@ fn a_round_trip_dispatches() {
 struct Done(Vec<WlCallback>);
 
 impl wl_callback::Events for Done {
-    fn done(&mut self, callback: WlCallback, _: u32) {
+    fn done(&mut self, _: &ClientWriter, callback: WlCallback, _: u32) {
         self.0.push(callback);
     }
 }
@@ -93,8 +95,8 @@ fn a_round_trip_makes_room() {
     let server = Server::new(&tables, &Sizes::default()).unwrap();
     let mut server = Link::new(server, other).unwrap();
     let display = WlDisplay(client.display());
-    let callbacks: Vec<_> = (0..4096 / 12).map(|_| display.sync(&mut client).unwrap()).collect();
-    assert_eq!(display.sync(&mut client), Err(SendError::Full));
+    let callbacks: Vec<_> = (0..4096 / 12).map(|_| display.sync(&client).unwrap()).collect();
+    assert_eq!(display.sync(&client), Err(SendError::Full));
     let server = thread::spawn(move || serve(&mut server));
     let mut done = Done::default();
     client.round_trip(&mut done, LONG).unwrap();
@@ -114,8 +116,8 @@ fn a_link_answers_syncs() {
     let mut server = Link::new(Server::new(&tables, &sizes).unwrap(), other).unwrap();
     server.add_global(tables.interface("wl_seat").unwrap(), 1).unwrap();
     let display = WlDisplay(client.display());
-    display.get_registry(&mut client).unwrap();
-    display.sync(&mut client).unwrap();
+    display.get_registry(&client).unwrap();
+    display.sync(&client).unwrap();
     client.flush().unwrap();
     assert_eq!(server.wait(LONG).unwrap(), Came::Something);
     assert_eq!(server.next().unwrap().unwrap().opcode(), wl_display::request::GET_REGISTRY);
@@ -126,7 +128,7 @@ fn a_link_answers_syncs() {
     // The client reads nothing, until the socket takes no more.
     let mut asked = 0;
     let refused = loop {
-        asked += (0..200).filter(|_| display.sync(&mut client).is_ok()).count();
+        asked += (0..200).filter(|_| display.sync(&client).is_ok()).count();
         client.flush().unwrap();
         server.fill().unwrap();
         match server.next() {
@@ -149,11 +151,73 @@ fn a_link_answers_syncs() {
     assert_eq!(done.0.len(), asked);
 }
 
+/// Tells each shm as many formats as half of an outbox holds.
+#[derive(Default)]
+struct Formats(Vec<WlShm>);
+
+impl wl_registry::Requests for Formats {
+    fn bind(
+        &mut self,
+        server: &ServerWriter,
+        _: WlRegistry,
+        _: u32,
+        interface: &CStr,
+        _: u32,
+        object: Object,
+    ) {
+        assert_eq!(interface.to_str(), Ok(wl_shm::NAME));
+        for format in 0..2048 / 12 {
+            WlShm(object).send_format(server, wl_shm::Format(format)).unwrap();
+        }
+        self.0.push(WlShm(object));
+    }
+}
+
+impl wl_shm::Events for Formats {
+    fn format(&mut self, _: &ClientWriter, shm: WlShm, _: wl_shm::Format) {
+        self.0.push(shm);
+    }
+}
+
+waywire::request_handler!(Formats: wl_registry);
+waywire::event_handler!(Formats: wl_shm);
+
+/// A server's link gives a handler its requests, and room for the answers.
+#[test]
+fn a_handler_answers_through_its_link() {
+    let tables = Tables::core().unwrap();
+    let (its, other) = UnixStream::pair().unwrap();
+    let sizes = Sizes { out_bytes: 4096, ..Sizes::default() };
+    let mut client = Link::new(Client::new(&tables, &Sizes::default()).unwrap(), its).unwrap();
+    let mut server = Link::new(Server::new(&tables, &sizes).unwrap(), other).unwrap();
+    server.add_global(tables.interface(wl_shm::NAME).unwrap(), 1).unwrap();
+    let registry = WlDisplay(client.display()).get_registry(&client).unwrap();
+    client.flush().unwrap();
+    let mut served = Formats::default();
+    assert_eq!(server.dispatch(&mut served).unwrap(), 0);
+    assert_eq!(server.wait(LONG).unwrap(), Came::Something);
+    assert_eq!(server.dispatch(&mut served).unwrap(), 1);
+    server.flush().unwrap();
+    let mut told = Formats::default();
+    assert_eq!(client.dispatch(&mut told, LONG).unwrap(), 1);
+    let bound: Vec<WlShm> = (0..5).map(|_| registry.bind(&client, 1, 1).unwrap()).collect();
+    client.flush().unwrap();
+    assert_eq!(server.fill().unwrap(), Came::Something);
+    assert_eq!(server.dispatch(&mut served).unwrap(), 5);
+    assert_eq!(served.0, bound);
+    server.flush().unwrap();
+    while told.0.len() < 5 * (2048 / 12) {
+        assert!(client.dispatch(&mut told, LONG).unwrap() > 0);
+    }
+    drop(client);
+    assert_eq!(server.wait(LONG).unwrap(), Came::End);
+}
+
 /// Takes its time with each event.
 struct Slow;
 
 impl wl_registry::Events for Slow {
-    fn global(&mut self, _: WlRegistry, _: u32, _: &[u8], _: u32) {
+    fn global(&mut self, _: &ClientWriter, _: WlRegistry, _: u32, _: &CStr, _: u32) {
         thread::sleep(SOON.unwrap());
     }
 }
@@ -165,7 +229,7 @@ waywire::event_handler!(Slow: wl_registry);
 #[test]
 fn a_round_trip_ends_in_time_while_events_come() {
     let (mut client, mut server) = pair();
-    WlDisplay(client.display()).get_registry(&mut client).unwrap();
+    WlDisplay(client.display()).get_registry(&client).unwrap();
     client.flush().unwrap();
     let telling = thread::spawn(move || {
         let seat = server.tables().interface("wl_seat").unwrap();
@@ -195,11 +259,11 @@ fn waiting_ends_in_time() {
     assert_eq!(server.wait(SOON).unwrap(), Came::Nothing);
     assert_eq!(server.fill().unwrap(), Came::Nothing);
     assert_eq!(client.dispatch(&mut (), SOON).unwrap(), 0);
-    let callback = WlDisplay(client.display()).sync(&mut client).unwrap();
+    let callback = WlDisplay(client.display()).sync(&client).unwrap();
     client.flush().unwrap();
     assert_eq!(server.wait(LONG).unwrap(), Came::Something);
-    assert!(Server::next(&mut server).unwrap().is_some());
-    callback.send_done(&mut server, 0).unwrap();
+    assert!(server.next_or_sync().unwrap().is_some());
+    callback.send_done(&server, 0).unwrap();
     server.flush().unwrap();
     // The callback that has ended is not that of the round trip.
     assert_eq!(client.round_trip(&mut (), SOON).unwrap_err().kind(), ErrorKind::TimedOut);
@@ -226,7 +290,7 @@ fn what_ends_a_connection_is_said() {
     assert_eq!((posted.id, posted.code), (1, 3));
     assert_eq!(posted.interface.as_deref(), Some("wl_display"));
     assert_eq!(posted.to_string(), "wl_display@1: error 3: no memory");
-    assert_eq!(WlDisplay(client.display()).sync(&mut client), Err(SendError::Failed));
+    assert_eq!(WlDisplay(client.display()).sync(&client), Err(SendError::Failed));
 
     // An error about an object that the client does not know.
     let (mut client, server) = pair();
@@ -266,7 +330,7 @@ fn a_socket_that_takes_no_more_is_waited_for() {
     let mut syncs = 0;
     let display = WlDisplay(client.display());
     while client.flush().unwrap() {
-        while display.sync(&mut client).is_ok() {
+        while display.sync(&client).is_ok() {
             syncs += 1;
         }
     }
@@ -276,11 +340,8 @@ fn a_socket_that_takes_no_more_is_waited_for() {
     let reader = thread::spawn(move || {
         let mut came = 0;
         while came < syncs && server.wait(LONG).unwrap() == Came::Something {
-            while Server::next(&mut server).unwrap().is_some() {
+            while server.next_or_sync().unwrap().is_some() {
                 came += 1;
-                // Nobody reads the answers.
-                let waits = server.goes(usize::MAX, 0).bytes;
-                server.sent(waits);
             }
         }
         let display = server.display();
@@ -319,15 +380,15 @@ fn a_link_with_too_little_room_is_refused() {
 /// The socket stays open, and what waits goes on waiting.
 #[test]
 fn a_link_is_taken_apart() {
-    let (mut client, mut server) = pair();
-    WlDisplay(client.display()).sync(&mut client).unwrap();
+    let (client, mut server) = pair();
+    WlDisplay(client.display()).sync(&client).unwrap();
     let (end, its) = client.into_parts();
     assert!(!end.is_drained());
     assert_eq!(server.fill().unwrap(), Came::Nothing);
     let mut client = Link::new(end, its).unwrap();
     assert!(client.flush().unwrap());
     assert_eq!(server.fill().unwrap(), Came::Something);
-    assert!(Server::next(&mut server).unwrap().is_some());
+    assert!(server.next_or_sync().unwrap().is_some());
 }
 
 /// Descriptors that belong to no message fill the inbox, and the next call that fills says so.
@@ -467,10 +528,10 @@ fn sockets_have_names() {
     other.set_read_timeout(LONG).unwrap();
     env::set_var("WAYLAND_SOCKET", its.as_raw_fd().to_string());
     let client = Client::new(&Tables::core().unwrap(), &Sizes::default()).unwrap();
-    let mut link = Link::new(client, socket::connect(None).unwrap()).unwrap();
+    let link = Link::new(client, socket::connect(None).unwrap()).unwrap();
     assert_eq!(env::var_os("WAYLAND_SOCKET"), None);
     assert_ne!(link.socket().as_raw_fd(), its.as_raw_fd());
-    WlDisplay(link.display()).sync(&mut link).unwrap();
+    WlDisplay(link.display()).sync(&link).unwrap();
     drop(link);
     let mut all = Vec::new();
     assert_eq!(other.read_to_end(&mut all).unwrap(), 12);

@@ -1,7 +1,12 @@
 //! Tables that threads share, and ends that go from one thread to another.
 
 use std::thread;
-use waywire::{request, Arg, Client, Decoded, Inspector, Server, Sizes, Tables};
+use waywire::socket::{Link, Listener};
+use waywire::wayland::wl_display;
+use waywire::{
+    Arg, AsClient, AsServer, Client, Decoded, Inspector, Object, ObjectMap, OwnedMessage, Server,
+    Sizes, Tables,
+};
 
 fn may_go_and_be_shared<T: Send + Sync>() {}
 
@@ -24,11 +29,11 @@ impl Pair {
     fn asks(&mut self) {
         let (mut bytes, display) = ([0; 64], self.client.display());
         let new = [Arg::NewId];
-        let made = self.client.send(display, request::wl_display::SYNC, &new).unwrap();
+        let made = self.client.send(display, wl_display::request::SYNC, &new).unwrap();
         let taken = self.client.take(&mut bytes, &mut Vec::new(), 0);
         assert_eq!(self.server.feed(&bytes[..taken.bytes], &mut Vec::new()), Ok(taken));
         let asked = self.server.next().unwrap().unwrap().opcode();
-        assert_eq!(asked, request::wl_display::SYNC);
+        assert_eq!(asked, wl_display::request::SYNC);
         assert!(self.server.live(made.unwrap()).is_some());
         assert_eq!(self.client.object_count(), self.server.object_count());
     }
@@ -41,6 +46,11 @@ fn tables_and_ends_may_go_to_other_threads() {
     may_go::<Client>();
     may_go::<Server>();
     may_go::<Inspector>();
+    may_go::<Link<AsClient>>();
+    may_go::<Link<AsServer>>();
+    may_go::<Listener>();
+    may_go_and_be_shared::<OwnedMessage>();
+    may_go_and_be_shared::<ObjectMap<Object, u32>>();
 }
 
 #[test]

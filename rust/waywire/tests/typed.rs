@@ -1,13 +1,14 @@
 //! Typed calls that no generated test covers: globals and binds, events for objects that are gone,
 //! messages of other interfaces. And what goes from end to end without a buffer between.
 
+use std::ffi::{CStr, CString};
 use waywire::wayland::{
-    wl_compositor, wl_display, wl_output, wl_registry, wl_seat, wl_shell_surface, wl_shm,
+    wl_compositor, wl_display, wl_output, wl_registry, wl_seat, wl_shell, wl_shell_surface, wl_shm,
     wl_surface,
 };
 use waywire::{
-    Amounts, Client, Connection, EventHandler, Handle, Incoming, Object, OwnedMessage, OwnedValue,
-    RequestHandler, Server, Sizes, Tables,
+    Amounts, Client, ClientWriter, Connection, EventHandler, Handle, Incoming, Object,
+    OwnedMessage, OwnedValue, RequestHandler, Server, ServerWriter, Sizes, Tables, Value,
 };
 
 /// All that handlers were called with.
@@ -17,15 +18,16 @@ struct Seen(Vec<String>);
 impl wl_registry::Events for Seen {
     fn global(
         &mut self,
+        _: &ClientWriter,
         _registry: wl_registry::WlRegistry,
         name: u32,
-        interface: &[u8],
+        interface: &CStr,
         version: u32,
     ) {
-        self.0.push(format!("global {name} {} {version}", String::from_utf8_lossy(interface)));
+        self.0.push(format!("global {name} {} {version}", interface.to_str().unwrap()));
     }
 
-    fn global_remove(&mut self, _registry: wl_registry::WlRegistry, name: u32) {
+    fn global_remove(&mut self, _: &ClientWriter, _registry: wl_registry::WlRegistry, name: u32) {
         self.0.push(format!("global_remove {name}"));
     }
 }
@@ -33,25 +35,31 @@ impl wl_registry::Events for Seen {
 impl wl_registry::Requests for Seen {
     fn bind(
         &mut self,
+        _: &ServerWriter,
         _registry: wl_registry::WlRegistry,
         name: u32,
-        interface: &[u8],
+        interface: &CStr,
         version: u32,
         id: Object,
     ) {
-        let interface = String::from_utf8_lossy(interface);
+        let interface = interface.to_str().unwrap();
         self.0.push(format!("bind {name} {interface} {version} {id:?}"));
     }
 }
 
 impl wl_surface::Events for Seen {
-    fn enter(&mut self, surface: wl_surface::WlSurface, output: wl_output::WlOutput) {
+    fn enter(
+        &mut self,
+        _: &ClientWriter,
+        surface: wl_surface::WlSurface,
+        output: wl_output::WlOutput,
+    ) {
         self.0.push(format!("enter {:?} {:?}", surface.0, output.0));
     }
 }
 
 impl wl_shm::Requests for Seen {
-    fn release(&mut self, _shm: wl_shm::WlShm) {
+    fn release(&mut self, _: &ServerWriter, _shm: wl_shm::WlShm) {
         self.0.push("release".into());
     }
 }
@@ -102,7 +110,7 @@ impl Pair {
             let place = tables.interface(interface).unwrap();
             server.add_global(place, tables.version(place).unwrap()).unwrap();
         }
-        let registry = wl_display::WlDisplay(client.display()).get_registry(&mut client).unwrap();
+        let registry = wl_display::WlDisplay(client.display()).get_registry(&client).unwrap();
         carry(&mut client, &mut server);
         assert!(server.next().unwrap().is_some());
         server.announce().unwrap();
@@ -115,18 +123,18 @@ impl Pair {
         carry(&mut self.server, &mut self.client);
         while let Some(incoming) = self.client.next().unwrap() {
             let Incoming::Event(mut event) = incoming else { continue };
-            assert!(seen.dispatch_event(&self.tables, &mut event));
+            assert!(seen.dispatch_event(event.writer(), &mut event));
         }
         seen.0
     }
 
     fn bind<T: Handle>(&mut self, name: u32) -> T {
         let version = T::VERSION;
-        let bound: T = self.registry.bind(&mut self.client, name, version).unwrap();
+        let bound: T = self.registry.bind(&self.client, name, version).unwrap();
         let mut seen = Seen::default();
         carry(&mut self.client, &mut self.server);
         let mut message = self.server.next().unwrap().unwrap();
-        assert!(wl_registry::dispatch_request(&mut seen, &self.tables, &mut message));
+        assert!(wl_registry::dispatch_request(&mut seen, message.writer(), &mut message));
         assert_eq!(seen.0, [format!("bind {name} {} {version} {:?}", T::NAME, bound.object())]);
         bound
     }
@@ -149,11 +157,11 @@ fn an_event_may_name_an_object_that_is_gone() {
     assert_eq!(pair.events().len(), 2);
     let compositor: wl_compositor::WlCompositor = pair.bind(1);
     let output: wl_output::WlOutput = pair.bind(2);
-    let surface = compositor.create_surface(&mut pair.client).unwrap();
+    let surface = compositor.create_surface(&pair.client).unwrap();
     carry(&mut pair.client, &mut pair.server);
     assert!(pair.server.next().unwrap().is_some());
-    surface.send_enter(&mut pair.server, output).unwrap();
-    output.release(&mut pair.client).unwrap();
+    surface.send_enter(&pair.server, output).unwrap();
+    output.release(&pair.client).unwrap();
     assert_eq!(pair.events(), [format!("enter {:?} {:?}", surface.0, output.0)]);
     assert!(pair.client.live(output.0).is_none());
 }
@@ -163,15 +171,15 @@ fn a_message_of_another_interface_is_not_dispatched() {
     let mut pair = Pair::new(&["wl_shm"]);
     assert_eq!(pair.events().len(), 1);
     let shm: wl_shm::WlShm = pair.bind(1);
-    shm.create_pool(&mut pair.client, std::io::stdin(), 4096).unwrap();
+    shm.create_pool(&pair.client, std::io::stdin(), 4096).unwrap();
     carry(&mut pair.client, &mut pair.server);
     let mut message = pair.server.next().unwrap().unwrap().into_owned();
     assert_eq!(message.opcode, wl_shm::request::CREATE_POOL);
     let mut seen = Seen::default();
-    assert!(!wl_registry::dispatch_request(&mut seen, &pair.tables, &mut message));
-    assert!(!().dispatch_request(&pair.tables, &mut message));
-    assert!(seen.dispatch_request(&pair.tables, &mut message));
-    assert!(!wl_shm::dispatch_request(&mut seen, &pair.tables, &mut message));
+    assert!(!wl_registry::dispatch_request(&mut seen, &pair.server, &mut message));
+    assert!(!().dispatch_request(&pair.server, &mut message));
+    assert!(seen.dispatch_request(&pair.server, &mut message));
+    assert!(!wl_shm::dispatch_request(&mut seen, &pair.server, &mut message));
     assert_eq!(seen.0, [""; 0]);
 }
 
@@ -190,15 +198,15 @@ fn a_message_with_more_arguments_is_not_dispatched() {
     let mut seen = Seen::default();
     let two = vec![OwnedValue::Uint(1), OwnedValue::Uint(2)];
     let mut event = message("wl_registry", wl_registry::event::GLOBAL_REMOVE, two);
-    assert!(!seen.dispatch_event(&pair.tables, &mut event));
+    assert!(!seen.dispatch_event(&pair.client, &mut event));
     let one = vec![OwnedValue::Uint(1)];
     let mut request = message("wl_shm", wl_shm::request::RELEASE, one);
-    assert!(!seen.dispatch_request(&pair.tables, &mut request));
+    assert!(!seen.dispatch_request(&pair.server, &mut request));
     assert_eq!(seen.0, [""; 0]);
     event.args.pop();
-    assert!(seen.dispatch_event(&pair.tables, &mut event));
+    assert!(seen.dispatch_event(&pair.client, &mut event));
     request.args.pop();
-    assert!(seen.dispatch_request(&pair.tables, &mut request));
+    assert!(seen.dispatch_request(&pair.server, &mut request));
     assert_eq!(seen.0, ["global_remove 1", "release"]);
 }
 
@@ -211,7 +219,7 @@ fn a_copy_says_what_is_forgotten() {
     for name in ["wl_seat", "wp_thing"] {
         server.add_global(more.interface(name).unwrap(), 1).unwrap();
     }
-    wl_display::WlDisplay(client.display()).get_registry(&mut client).unwrap();
+    wl_display::WlDisplay(client.display()).get_registry(&client).unwrap();
     carry(&mut client, &mut server);
     assert!(server.next().unwrap().is_some());
     server.announce().unwrap();
@@ -224,6 +232,102 @@ fn a_copy_says_what_is_forgotten() {
             other => panic!("{other:?}"),
         }
     }
+}
+
+/// Answers with all that fits, while what it was given is lent.
+#[derive(Default)]
+struct Answering {
+    pings: u32,
+    titles: Vec<CString>,
+}
+
+impl wl_shell_surface::Requests for Answering {
+    fn set_title(
+        &mut self,
+        server: &ServerWriter,
+        shell_surface: wl_shell_surface::WlShellSurface,
+        title: &CStr,
+    ) {
+        let seat = server.tables().interface("wl_seat").unwrap();
+        server.add_global(seat, 1).unwrap();
+        assert!(server.announce().unwrap().all);
+        while shell_surface.send_ping(server, self.pings).is_ok() {
+            self.pings += 1;
+        }
+        assert!(server.live(shell_surface.0).is_some());
+        self.titles.push(title.to_owned());
+    }
+}
+
+waywire::request_handler!(Answering: wl_shell_surface);
+
+/// Binds the first global that it hears of, by the name that is lent.
+#[derive(Default)]
+struct Binding(Option<(CString, wl_shell::WlShell)>);
+
+impl wl_registry::Events for Binding {
+    fn global(
+        &mut self,
+        client: &ClientWriter,
+        registry: wl_registry::WlRegistry,
+        name: u32,
+        interface: &CStr,
+        version: u32,
+    ) {
+        let bound = registry.bind(client, name, version).unwrap();
+        while wl_display::WlDisplay(client.display()).sync(client).is_ok() {}
+        self.0 = Some((interface.to_owned(), bound));
+    }
+}
+
+waywire::event_handler!(Binding: wl_registry);
+
+/// What a client's handler is given stays as it is while the handler fills the outbox.
+#[test]
+fn a_clients_handler_answers() {
+    let mut pair = Pair::new(&["wl_shell"]);
+    carry(&mut pair.server, &mut pair.client);
+    let mut binding = Binding::default();
+    let Some(Incoming::Event(mut event)) = pair.client.next().unwrap() else { panic!() };
+    assert!(binding.dispatch_event(event.writer(), &mut event));
+    assert!(event.args().any(|it| it == Value::Str(Some(c"wl_shell"))));
+    let (interface, shell) = binding.0.unwrap();
+    assert_eq!(interface.to_str(), Ok(wl_shell::NAME));
+    let mut bytes = [0; 4096];
+    let taken = pair.client.take(&mut bytes, &mut Vec::new(), 0);
+    assert_eq!(pair.server.feed(&bytes[..taken.bytes], &mut Vec::new()), Ok(taken));
+    let bind = pair.server.next().unwrap().unwrap();
+    assert_eq!(bind.opcode(), wl_registry::request::BIND);
+    assert!(pair.server.live(shell.0).is_some());
+}
+
+/// The same at a server, with a string that is not UTF-8.
+#[test]
+fn a_servers_handler_answers() {
+    let mut pair = Pair::new(&["wl_shell", "wl_compositor"]);
+    assert_eq!(pair.events().len(), 2);
+    let shell: wl_shell::WlShell = pair.bind(1);
+    let compositor: wl_compositor::WlCompositor = pair.bind(2);
+    let surface = compositor.create_surface(&pair.client).unwrap();
+    let shell_surface = shell.get_shell_surface(&pair.client, surface).unwrap();
+    let titles = [c"a title", c"\xff\xfe"];
+    for title in titles {
+        shell_surface.set_title(&pair.client, title.to_bytes()).unwrap();
+    }
+    carry(&mut pair.client, &mut pair.server);
+    let mut answering = Answering::default();
+    let mut gone = vec![0; Sizes::default().out_bytes];
+    while let Some(mut request) = pair.server.next().unwrap() {
+        if answering.dispatch_request(request.writer(), &mut request) {
+            let lent = Value::Str(Some(titles[answering.titles.len() - 1]));
+            assert!(request.args().eq([lent]));
+        }
+        pair.server.take(&mut gone, &mut Vec::new(), 0);
+    }
+    assert_eq!(answering.titles, titles);
+    assert!(answering.titles[0].to_str().is_ok() && answering.titles[1].to_str().is_err());
+    // Those of two outboxes.
+    assert!(answering.pings as usize > gone.len() / 12);
 }
 
 #[test]

@@ -1,17 +1,18 @@
-//! One client: its connection and its objects. It handles its own requests. What concerns other
+//! One client: its connection and its objects. It handles its own requests, and answers them. What concerns other
 //! clients too, it leaves to the compositor as an action.
 
 use crate::clipboard::{Board, Selection};
 #[cfg(data_control)]
 use crate::data_control;
 use crate::seat::Seat;
-use crate::wayland::{wl_data_device, wl_data_device_manager, wl_data_offer, wl_data_source};
 use crate::window::Windows;
 use crate::xdg_shell::{xdg_surface, xdg_wm_base};
 use crate::Failure;
+use std::ffi::{CStr, CString};
 use std::os::fd::OwnedFd;
 use std::os::unix::net::UnixStream;
 use std::time::Instant;
+use waywire::data_device::{wl_data_device, wl_data_device_manager, wl_data_offer, wl_data_source};
 use waywire::socket::Link;
 use waywire::wayland::wl_display;
 use waywire::wayland::wl_output::{self, Mode, Subpixel, Transform, WlOutput};
@@ -21,7 +22,7 @@ use waywire::wayland::wl_shm::{self, Format, WlShm};
 use waywire::wayland::{
     wl_buffer, wl_compositor, wl_keyboard, wl_pointer, wl_shm_pool, wl_subcompositor, wl_surface,
 };
-use waywire::{AsServer, Object, RequestHandler, SendError, Server, Sizes, Tables};
+use waywire::{AsServer, Object, RequestHandler, SendError, Server, ServerWriter, Sizes, Tables};
 
 const GLOBALS: &[(&str, u32)] = &[
     (wl_compositor::NAME, 4),
@@ -48,11 +49,17 @@ pub enum Action {
     /// This source of the client is the selection from here on; `None` is no selection.
     Select(Option<Object>),
     /// The client that has offered something is to write it to a descriptor, in some type.
-    Receive { offered: Selection, kind: Vec<u8>, fd: OwnedFd },
+    Receive { offered: Selection, kind: CString, fd: OwnedFd },
 }
 
-pub struct Client {
+/// A client, and the connection to it.
+pub struct Session {
     pub link: Link<AsServer>,
+    pub client: Client,
+}
+
+/// What is known of a client. It handles the requests.
+pub struct Client {
     pub windows: Windows,
     pub seat: Seat,
     pub board: Board,
@@ -66,16 +73,15 @@ pub struct Client {
     serial: u32,
 }
 
-impl Client {
+impl Session {
     /// The client at a socket, with all globals.
-    pub fn new(tables: &Tables, socket: UnixStream, began: Instant) -> Result<Client, Failure> {
-        let mut server = Server::new(tables, &Sizes::default())?;
+    pub fn new(tables: &Tables, socket: UnixStream, began: Instant) -> Result<Session, Failure> {
+        let server = Server::new(tables, &Sizes::default())?;
         for (interface, version) in GLOBALS {
             let interface = tables.interface(interface).ok_or("no such interface")?;
             server.add_global(interface, *version)?;
         }
-        Ok(Client {
-            link: Link::new(server, socket)?,
+        let client = Client {
             windows: Windows::default(),
             seat: Seat::default(),
             board: Board::default(),
@@ -84,9 +90,39 @@ impl Client {
             failure: None,
             began,
             serial: 0,
-        })
+        };
+        Ok(Session { link: Link::new(server, socket)?, client })
     }
 
+    /// Sends what was written for the client, as far as it reads.
+    pub fn flush(&mut self) {
+        if let Err(why) = self.link.flush() {
+            self.client.fail(why);
+        }
+    }
+
+    /// Reads one request, if one has come.
+    pub fn serve_next(&mut self) -> Result<bool, Failure> {
+        if self.link.object_count() > MOST_OBJECTS {
+            let display = self.link.display();
+            self.link.post_error(display, wl_display::Error::NO_MEMORY.0, "too many objects")?;
+            return Err("it has too many objects".into());
+        }
+        let Some(mut request) = self.link.next()? else {
+            return Ok(false);
+        };
+        let server = request.writer();
+        let _is_known = self.client.dispatch_request(server, &mut request);
+        #[cfg(data_control)]
+        data_control::dispatch(&mut self.client, server, &mut request);
+        // It may have made a registry.
+        self.link.announce()?;
+        self.link.flush()?;
+        Ok(self.client.failure.is_none())
+    }
+}
+
+impl Client {
     /// Ends the client later. The first reason counts.
     pub fn fail(&mut self, why: impl Into<Failure>) {
         self.failure.get_or_insert(why.into());
@@ -99,33 +135,6 @@ impl Client {
             Ok(()) | Err(SendError::Stale | SendError::TooOld) => {}
             Err(why) => self.fail(why),
         }
-    }
-
-    /// Sends what was written for the client, as far as it reads.
-    pub fn flush(&mut self) {
-        if let Err(why) = self.link.flush() {
-            self.fail(why);
-        }
-    }
-
-    /// Reads one request, if one has come.
-    pub fn serve_next(&mut self) -> Result<bool, Failure> {
-        if self.link.object_count() > MOST_OBJECTS {
-            let display = self.link.display();
-            self.link.post_error(display, wl_display::Error::NO_MEMORY.0, "too many objects")?;
-            return Err("it has too many objects".into());
-        }
-        let Some(mut request) = self.link.next()?.map(|it| it.into_owned()) else {
-            return Ok(false);
-        };
-        let tables = self.link.tables().clone();
-        let _is_known = self.dispatch_request(&tables, &mut request);
-        #[cfg(data_control)]
-        data_control::dispatch(self, &tables, &mut request);
-        // It may have made a registry.
-        self.link.announce()?;
-        self.link.flush()?;
-        Ok(self.failure.is_none())
     }
 
     pub fn next_serial(&mut self) -> u32 {
@@ -157,30 +166,33 @@ waywire::request_handler!(
 );
 
 impl wl_registry::Requests for Client {
-    fn bind(&mut self, _: WlRegistry, _: u32, interface: &[u8], _: u32, object: Object) {
-        let sent = match std::str::from_utf8(interface) {
-            Ok(wl_shm::NAME) => self.tell_formats(WlShm(object)),
+    fn bind(
+        &mut self,
+        server: &ServerWriter,
+        _: WlRegistry,
+        _: u32,
+        interface: &CStr,
+        _: u32,
+        object: Object,
+    ) {
+        self.must(match interface.to_str() {
+            Ok(wl_shm::NAME) => tell_formats(server, WlShm(object)),
             Ok(wl_seat::NAME) => {
-                let both = Capability::POINTER | Capability::KEYBOARD;
-                WlSeat(object).send_capabilities(&mut self.link, both)
+                WlSeat(object).send_capabilities(server, Capability::POINTER | Capability::KEYBOARD)
             }
-            Ok(wl_output::NAME) => self.tell_output(WlOutput(object)),
+            Ok(wl_output::NAME) => tell_output(server, WlOutput(object)),
             _ => Ok(()),
-        };
-        self.must(sent);
+        });
     }
 }
 
-impl Client {
-    fn tell_formats(&mut self, shm: WlShm) -> Result<(), SendError> {
-        shm.send_format(&mut self.link, Format::ARGB8888)?;
-        shm.send_format(&mut self.link, Format::XRGB8888)
-    }
+fn tell_formats(server: &ServerWriter, shm: WlShm) -> Result<(), SendError> {
+    shm.send_format(server, Format::ARGB8888)?;
+    shm.send_format(server, Format::XRGB8888)
+}
 
-    fn tell_output(&mut self, output: WlOutput) -> Result<(), SendError> {
-        let link = &mut self.link;
-        output.send_geometry(link, 0, 0, 340, 190, Subpixel::UNKNOWN, "", "", Transform::NORMAL)?;
-        output.send_mode(link, Mode::CURRENT, 1280, 720, 60_000)?;
-        output.send_done(link)
-    }
+fn tell_output(server: &ServerWriter, output: WlOutput) -> Result<(), SendError> {
+    output.send_geometry(server, 0, 0, 340, 190, Subpixel::UNKNOWN, "", "", Transform::NORMAL)?;
+    output.send_mode(server, Mode::CURRENT, 1280, 720, 60_000)?;
+    output.send_done(server)
 }

@@ -12,9 +12,10 @@ use device::{Error, ZwlrDataControlDeviceV1};
 use manager::ZwlrDataControlManagerV1;
 use offer::ZwlrDataControlOfferV1;
 use source::ZwlrDataControlSourceV1;
+use std::ffi::CStr;
 use std::os::fd::OwnedFd;
 use waywire::wayland::wl_seat::WlSeat;
-use waywire::{Object, Readable, SendError, Server, Tables};
+use waywire::{Object, Readable, SendError, ServerWriter};
 
 /// The name of its global.
 pub const MANAGER: &str = manager::NAME;
@@ -24,23 +25,24 @@ clipboard!(DataControl: ZwlrDataControlManagerV1 ZwlrDataControlSourceV1 ZwlrDat
     needs_focus: false, used_source: Some(Error::USED_SOURCE.0));
 
 /// Calls the method for a request, if its object is of this protocol.
-pub fn dispatch(client: &mut Client, tables: &Tables, request: &mut impl Readable) -> bool {
-    manager::dispatch_request(client, tables, request)
-        || source::dispatch_request(client, tables, request)
-        || device::dispatch_request(client, tables, request)
-        || offer::dispatch_request(client, tables, request)
+pub fn dispatch(client: &mut Client, server: &ServerWriter, request: &mut impl Readable) -> bool {
+    manager::dispatch_request(client, server, request)
+        || source::dispatch_request(client, server, request)
+        || device::dispatch_request(client, server, request)
+        || offer::dispatch_request(client, server, request)
 }
 
 impl device::Requests for Client {
     fn set_selection(
         &mut self,
+        server: &ServerWriter,
         device: ZwlrDataControlDeviceV1,
         source: Option<ZwlrDataControlSourceV1>,
     ) {
-        self.set_source(device.0, source.map(|it| it.0));
+        self.set_source(server, device.0, source.map(|it| it.0));
     }
 
-    fn destroy(&mut self, device: ZwlrDataControlDeviceV1) {
+    fn destroy(&mut self, _: &ServerWriter, device: ZwlrDataControlDeviceV1) {
         self.board.drop_device(device.0);
     }
 }

@@ -3,14 +3,15 @@
 
 use crate::client::Client;
 use crate::clipboard::{Protocol, Sent};
-use crate::wayland::wl_data_device::{self as device, WlDataDevice};
-use crate::wayland::wl_data_device_manager::{self as manager, WlDataDeviceManager};
-use crate::wayland::wl_data_offer::{self as offer, WlDataOffer};
-use crate::wayland::wl_data_source::{self as source, WlDataSource};
+use std::ffi::CStr;
 use std::os::fd::OwnedFd;
+use waywire::data_device::wl_data_device::{self as device, WlDataDevice};
+use waywire::data_device::wl_data_device_manager::{self as manager, WlDataDeviceManager};
+use waywire::data_device::wl_data_offer::{self as offer, WlDataOffer};
+use waywire::data_device::wl_data_source::{self as source, WlDataSource};
 use waywire::wayland::wl_seat::WlSeat;
 use waywire::wayland::wl_surface::WlSurface;
-use waywire::{Object, SendError, Server};
+use waywire::{Object, SendError, ServerWriter};
 
 /// A protocol's clipboard, by its typed calls: its events, and the requests of all objects but a
 /// device. In its module are the names `manager`, `source`, `device` and `offer` of their modules.
@@ -30,55 +31,72 @@ macro_rules! clipboard {
 
             fn send_data_offer(
                 &self,
-                to: &mut Server,
+                to: &ServerWriter,
                 device: Object,
             ) -> Result<Object, SendError> {
                 $device(device).send_data_offer(to).map(|it| it.0)
             }
 
-            fn send_offer(&self, to: &mut Server, offer: Object, kind: &[u8]) -> Sent {
-                $offer(offer).send_offer(to, kind)
+            fn send_offer(&self, to: &ServerWriter, offer: Object, kind: &CStr) -> Sent {
+                $offer(offer).send_offer(to, kind.to_bytes())
             }
 
-            fn send_selection(&self, to: &mut Server, device: Object, it: Option<Object>) -> Sent {
+            fn send_selection(
+                &self,
+                to: &ServerWriter,
+                device: Object,
+                it: Option<Object>,
+            ) -> Sent {
                 $device(device).send_selection(to, it.map($offer))
             }
 
-            fn send_send(&self, to: &mut Server, source: Object, kind: &[u8], fd: OwnedFd) -> Sent {
-                $source(source).send_send(to, kind, fd)
+            fn send_send(
+                &self,
+                to: &ServerWriter,
+                source: Object,
+                kind: &CStr,
+                fd: OwnedFd,
+            ) -> Sent {
+                $source(source).send_send(to, kind.to_bytes(), fd)
             }
 
-            fn send_cancelled(&self, to: &mut Server, source: Object) -> Sent {
+            fn send_cancelled(&self, to: &ServerWriter, source: Object) -> Sent {
                 $source(source).send_cancelled(to)
             }
         }
 
         impl manager::Requests for Client {
-            fn create_data_source(&mut self, _: $manager, source: $source) {
+            fn create_data_source(&mut self, _: &ServerWriter, _: $manager, source: $source) {
                 self.board.add_source(source.0, &$protocol);
             }
 
-            fn get_data_device(&mut self, _: $manager, device: $device, _: WlSeat) {
+            fn get_data_device(
+                &mut self,
+                _: &ServerWriter,
+                _: $manager,
+                device: $device,
+                _: WlSeat,
+            ) {
                 self.board.add_device(device.0, &$protocol);
             }
         }
 
         impl source::Requests for Client {
-            fn offer(&mut self, source: $source, kind: &[u8]) {
+            fn offer(&mut self, _: &ServerWriter, source: $source, kind: &CStr) {
                 self.board.add_type(source.0, kind);
             }
 
-            fn destroy(&mut self, source: $source) {
+            fn destroy(&mut self, _: &ServerWriter, source: $source) {
                 self.board.drop_source(source.0);
             }
         }
 
         impl offer::Requests for Client {
-            fn receive(&mut self, offer: $offer, kind: &[u8], fd: OwnedFd) {
+            fn receive(&mut self, _: &ServerWriter, offer: $offer, kind: &CStr, fd: OwnedFd) {
                 self.ask_for(offer.0, kind, fd);
             }
 
-            fn destroy(&mut self, offer: $offer) {
+            fn destroy(&mut self, _: &ServerWriter, offer: $offer) {
                 self.board.drop_offer(offer.0);
             }
         }
@@ -92,6 +110,7 @@ clipboard!(DataDevice: WlDataDeviceManager WlDataSource WlDataDevice WlDataOffer
 impl device::Requests for Client {
     fn start_drag(
         &mut self,
+        server: &ServerWriter,
         _: WlDataDevice,
         source: Option<WlDataSource>,
         _: WlSurface,
@@ -99,16 +118,21 @@ impl device::Requests for Client {
         _: u32,
     ) {
         if let Some(source) = source {
-            let sent = source.send_cancelled(&mut self.link);
-            self.must(sent);
+            self.must(source.send_cancelled(server));
         }
     }
 
-    fn set_selection(&mut self, device: WlDataDevice, source: Option<WlDataSource>, _: u32) {
-        self.set_source(device.0, source.map(|it| it.0));
+    fn set_selection(
+        &mut self,
+        server: &ServerWriter,
+        device: WlDataDevice,
+        source: Option<WlDataSource>,
+        _: u32,
+    ) {
+        self.set_source(server, device.0, source.map(|it| it.0));
     }
 
-    fn release(&mut self, device: WlDataDevice) {
+    fn release(&mut self, _: &ServerWriter, device: WlDataDevice) {
         self.board.drop_device(device.0);
     }
 }

@@ -29,8 +29,15 @@ mod data_control;
 mod data_device;
 mod seat;
 mod window;
+#[cfg(data_control)]
+#[path = "../protocols/wlr_data_control_unstable_v1.rs"]
+#[rustfmt::skip]
+mod wlr_data_control_unstable_v1;
+#[path = "../protocols/xdg_shell.rs"]
+#[rustfmt::skip]
+mod xdg_shell;
 
-use client::{Action, Client, ClientId};
+use client::{Action, Client, ClientId, Session};
 use clipboard::Selection;
 use seat::Script;
 use std::collections::BTreeMap;
@@ -42,11 +49,6 @@ use std::process::ExitCode;
 use std::time::{Duration, Instant};
 use waywire::socket::{self, has_gone, Came, Listener};
 use waywire::Tables;
-
-include!(concat!(env!("OUT_DIR"), "/xdg_shell.rs"));
-include!(concat!(env!("OUT_DIR"), "/wayland.rs"));
-#[cfg(data_control)]
-include!(concat!(env!("OUT_DIR"), "/wlr_data_control_unstable_v1.rs"));
 
 /// The time between two lines of the script.
 const STEP: Duration = Duration::from_millis(100);
@@ -62,7 +64,7 @@ struct Compositor {
     tables: Tables,
     began: Instant,
     /// By their ids: the last is the newest.
-    clients: BTreeMap<ClientId, Client>,
+    clients: BTreeMap<ClientId, Session>,
     next_id: ClientId,
     /// The client that has the keyboard and the pointer, over its window.
     focus: Option<ClientId>,
@@ -76,7 +78,7 @@ struct Compositor {
 
 impl Compositor {
     fn new() -> Result<Compositor, Failure> {
-        let tables = Tables::core()?.read(xdg_shell::TABLES)?.read(wayland::TABLES)?;
+        let tables = Tables::core()?.read(xdg_shell::TABLES)?.read(waywire::data_device::TABLES)?;
         #[cfg(data_control)]
         let tables = tables.read(wlr_data_control_unstable_v1::TABLES)?;
         Ok(Compositor {
@@ -93,8 +95,12 @@ impl Compositor {
     }
 
     /// A client that is still there.
-    fn client(&mut self, id: ClientId) -> &mut Client {
+    fn session(&mut self, id: ClientId) -> &mut Session {
         self.clients.get_mut(&id).expect("a client that is still there")
+    }
+
+    fn client(&mut self, id: ClientId) -> &mut Client {
+        &mut self.session(id).client
     }
 
     /// Serves clients until none is left of those that came, or without an end.
@@ -110,7 +116,8 @@ impl Compositor {
             self.settle();
             if let (Some(script), Some(id)) = (&mut script, self.focus) {
                 if let Some(line) = script.next_line()? {
-                    self.client(id).play(line);
+                    let Session { link, client } = self.session(id);
+                    client.play(link, line);
                 }
             }
         }
@@ -123,9 +130,7 @@ impl Compositor {
     /// would wait any more. So the next call leaves the listener out, and the one after that tries again.
     fn serve(&mut self, listener: &Listener, limit: Option<Duration>) -> Result<(), Failure> {
         let ids: Vec<ClientId> = self.clients.keys().copied().collect();
-        for client in self.clients.values_mut() {
-            client.flush();
-        }
+        self.clients.values_mut().for_each(Session::flush);
         let links = self.clients.values().map(|it| it.link.awaited());
         let accepts = self.has_place() && !self.pauses;
         let awaited = links.chain(accepts.then(|| (listener.as_fd(), false)));
@@ -142,12 +147,12 @@ impl Compositor {
 
     /// Reads all requests that a client has sent.
     fn serve_client(&mut self, id: ClientId) -> Result<(), Failure> {
-        match self.client(id).link.fill()? {
+        match self.session(id).link.fill()? {
             Came::End => return Err(io::Error::from(io::ErrorKind::UnexpectedEof).into()),
             Came::Something => self.client(id).has_asked = true,
             Came::Nothing => {}
         }
-        while self.client(id).serve_next()? {
+        while self.session(id).serve_next()? {
             match self.client(id).action.take() {
                 Some(Action::Focus) => self.focus_on(id),
                 Some(Action::Select(source)) => self.select(id, source),
@@ -160,7 +165,7 @@ impl Compositor {
 
     /// The oldest client that has never asked for anything.
     fn find_idle(&self) -> Option<ClientId> {
-        self.clients.iter().find(|(_, it)| !it.has_asked).map(|(id, _)| *id)
+        self.clients.iter().find(|(_, it)| !it.client.has_asked).map(|(id, _)| *id)
     }
 
     /// Whether another client can be served.
@@ -179,7 +184,8 @@ impl Compositor {
                 if let (true, Some(id)) = (self.clients.len() >= MOST_CLIENTS, self.find_idle()) {
                     self.client(id).fail("it has asked for nothing, and gives way to another");
                 }
-                self.clients.insert(self.next_id, Client::new(&self.tables, socket, self.began)?);
+                let session = Session::new(&self.tables, socket, self.began)?;
+                self.clients.insert(self.next_id, session);
                 self.next_id += 1;
                 Ok(true)
             }
@@ -194,7 +200,7 @@ impl Compositor {
             self.find_focus();
             self.find_selection();
             self.tell_selection();
-            if self.clients.values().all(|it| it.failure.is_none()) {
+            if self.clients.values().all(|it| it.client.failure.is_none()) {
                 return;
             }
         }
@@ -203,8 +209,8 @@ impl Compositor {
     /// Ends the clients that have failed, with all their objects. Prints why, unless the client has
     /// closed its connection.
     fn end_clients(&mut self) {
-        self.clients.retain(|_, client| {
-            let Some(why) = &client.failure else { return true };
+        self.clients.retain(|_, session| {
+            let Some(why) = &session.client.failure else { return true };
             if !why.downcast_ref().is_some_and(has_gone) {
                 eprintln!("a client has ended: {why}");
                 self.has_ended_a_client = true;

@@ -1,6 +1,6 @@
 //! The keyboard and the pointer: which window has them, and what a script does with them.
 
-use crate::client::{Client, ClientId};
+use crate::client::{Client, ClientId, Session};
 use crate::{Compositor, Failure, STEP};
 use std::fs::File;
 use std::io::{BufRead, BufReader};
@@ -12,7 +12,7 @@ use waywire::wayland::wl_keyboard::{self, KeyState, KeymapFormat, WlKeyboard};
 use waywire::wayland::wl_pointer::{self, ButtonState, WlPointer};
 use waywire::wayland::wl_seat::{self, WlSeat};
 use waywire::wayland::wl_surface::WlSurface;
-use waywire::{Fixed, SendError, Server};
+use waywire::{Fixed, SendError, ServerWriter};
 
 /// The keyboards and the pointers of a client.
 #[derive(Default)]
@@ -32,19 +32,20 @@ impl Compositor {
         self.take_focus();
         self.focus = Some(id);
         self.tell_selection_at_focus(id);
-        self.client(id).enter();
+        let Session { link, client } = self.session(id);
+        client.enter(link);
     }
 
     /// Takes them from the client that has them.
     fn take_focus(&mut self) {
-        if let Some(client) = self.focus.take().and_then(|it| self.clients.get_mut(&it)) {
-            client.leave();
+        if let Some(session) = self.focus.take().and_then(|it| self.clients.get_mut(&it)) {
+            session.client.leave(&session.link);
         }
     }
 
     /// Gives them to the newest client with a window, if the window that had them is gone.
     pub fn find_focus(&mut self) {
-        let has_window = |id: &ClientId| self.clients.get(id).is_some_and(|it| it.has_window());
+        let has_window = |id: &ClientId| self.clients.get(id).is_some_and(Session::has_window);
         if self.focus.is_some_and(|it| has_window(&it)) {
             return;
         }
@@ -55,107 +56,112 @@ impl Compositor {
     }
 }
 
-impl Client {
+impl Session {
     fn has_window(&self) -> bool {
-        self.window().is_some()
+        self.client.window(&self.link).is_some()
     }
+}
 
-    fn enter(&mut self) {
-        let Some(window) = self.window() else { return };
+impl Client {
+    fn enter(&mut self, server: &ServerWriter) {
+        let Some(window) = self.window(server) else { return };
         self.seat.entered = Some(window.surface);
         for keyboard in self.seat.keyboards.clone() {
-            self.enter_keyboard(keyboard);
+            self.enter_keyboard(server, keyboard);
         }
         for pointer in self.seat.pointers.clone() {
-            self.enter_pointer(pointer);
+            self.enter_pointer(server, pointer);
         }
     }
 
     /// The surface that has the focus, if it is still there.
-    fn entered(&self) -> Option<WlSurface> {
-        self.seat.entered.filter(|it| self.link.live(it.0).is_some())
+    fn entered(&self, server: &ServerWriter) -> Option<WlSurface> {
+        self.seat.entered.filter(|it| server.live(it.0).is_some())
     }
 
-    fn enter_keyboard(&mut self, keyboard: WlKeyboard) {
-        let Some(surface) = self.entered() else { return };
+    fn enter_keyboard(&mut self, server: &ServerWriter, keyboard: WlKeyboard) {
+        let Some(surface) = self.entered(server) else { return };
         let (serial, modifiers) = (self.next_serial(), self.seat.modifiers);
-        let sent = keyboard.send_enter(&mut self.link, serial, surface, []);
-        self.must(sent);
-        let sent = keyboard.send_modifiers(&mut self.link, serial, modifiers, 0, 0, 0);
-        self.must(sent);
+        self.must(keyboard.send_enter(server, serial, surface, []));
+        self.must(keyboard.send_modifiers(server, serial, modifiers, 0, 0, 0));
     }
 
-    fn enter_pointer(&mut self, pointer: WlPointer) {
-        let Some(surface) = self.entered() else { return };
+    fn enter_pointer(&mut self, server: &ServerWriter, pointer: WlPointer) {
+        let Some(surface) = self.entered(server) else { return };
         let (serial, at) = (self.next_serial(), Fixed::from(1.0));
-        let sent = pointer.send_enter(&mut self.link, serial, surface, at, at);
-        self.must(sent);
-        let sent = pointer.send_frame(&mut self.link);
-        self.must(sent);
+        self.must(pointer.send_enter(server, serial, surface, at, at));
+        self.must(pointer.send_frame(server));
     }
 
-    fn leave(&mut self) {
-        let entered = self.entered();
+    fn leave(&mut self, server: &ServerWriter) {
+        let entered = self.entered(server);
         self.seat.entered = None;
         let Some(surface) = entered else { return };
         let serial = self.next_serial();
-        self.each_keyboard(|it, server| it.send_leave(server, serial, surface));
-        self.each_pointer(|it, server| it.send_leave(server, serial, surface));
+        self.each_keyboard(|it| it.send_leave(server, serial, surface));
+        self.each_pointer(server, |it| it.send_leave(server, serial, surface));
     }
 
     /// Sends an event to each keyboard.
-    fn each_keyboard(&mut self, send: impl Fn(WlKeyboard, &mut Server) -> Result<(), SendError>) {
+    fn each_keyboard(&mut self, send: impl Fn(WlKeyboard) -> Result<(), SendError>) {
         for keyboard in self.seat.keyboards.clone() {
-            let sent = send(keyboard, &mut self.link);
-            self.must(sent);
+            self.must(send(keyboard));
         }
     }
 
     /// Sends an event to each pointer, and ends its frame.
-    fn each_pointer(&mut self, send: impl Fn(WlPointer, &mut Server) -> Result<(), SendError>) {
+    fn each_pointer(
+        &mut self,
+        server: &ServerWriter,
+        send: impl Fn(WlPointer) -> Result<(), SendError>,
+    ) {
         for pointer in self.seat.pointers.clone() {
-            let sent = send(pointer, &mut self.link);
-            self.must(sent);
-            let sent = pointer.send_frame(&mut self.link);
-            self.must(sent);
+            self.must(send(pointer));
+            self.must(pointer.send_frame(server));
         }
     }
 }
 
 impl wl_seat::Requests for Client {
-    fn get_keyboard(&mut self, _: WlSeat, keyboard: WlKeyboard) {
+    fn get_keyboard(&mut self, server: &ServerWriter, _: WlSeat, keyboard: WlKeyboard) {
         self.seat.keyboards.push(keyboard);
         match File::open("/dev/null") {
             Ok(nothing) => {
                 let kind = KeymapFormat::NO_KEYMAP;
-                let sent = keyboard.send_keymap(&mut self.link, kind, nothing, 0);
-                self.must(sent);
+                self.must(keyboard.send_keymap(server, kind, nothing, 0));
             }
             Err(error) => self.fail(error),
         }
-        let sent = keyboard.send_repeat_info(&mut self.link, 0, 0);
-        self.must(sent);
-        self.enter_keyboard(keyboard);
+        self.must(keyboard.send_repeat_info(server, 0, 0));
+        self.enter_keyboard(server, keyboard);
     }
 
-    fn get_pointer(&mut self, _: WlSeat, pointer: WlPointer) {
+    fn get_pointer(&mut self, server: &ServerWriter, _: WlSeat, pointer: WlPointer) {
         self.seat.pointers.push(pointer);
-        self.enter_pointer(pointer);
+        self.enter_pointer(server, pointer);
     }
 }
 
 impl wl_keyboard::Requests for Client {
-    fn release(&mut self, keyboard: WlKeyboard) {
+    fn release(&mut self, _: &ServerWriter, keyboard: WlKeyboard) {
         self.seat.keyboards.retain(|it| *it != keyboard);
     }
 }
 
 impl wl_pointer::Requests for Client {
-    fn set_cursor(&mut self, _: WlPointer, _: u32, _: Option<WlSurface>, _: i32, _: i32) {
+    fn set_cursor(
+        &mut self,
+        _: &ServerWriter,
+        _: WlPointer,
+        _: u32,
+        _: Option<WlSurface>,
+        _: i32,
+        _: i32,
+    ) {
         println!("a cursor");
     }
 
-    fn release(&mut self, pointer: WlPointer) {
+    fn release(&mut self, _: &ServerWriter, pointer: WlPointer) {
         self.seat.pointers.retain(|it| *it != pointer);
     }
 }
@@ -214,32 +220,31 @@ impl Script {
 
 impl Client {
     /// Plays a line at the client's window.
-    pub fn play(&mut self, line: Line) {
+    pub fn play(&mut self, server: &ServerWriter, line: Line) {
         let (time, serial) = (self.milliseconds(), self.next_serial());
         match line {
             Line::Key(code) => {
                 for state in [KeyState::PRESSED, KeyState::RELEASED] {
-                    self.each_keyboard(|it, server| it.send_key(server, serial, time, code, state));
+                    self.each_keyboard(|it| it.send_key(server, serial, time, code, state));
                 }
             }
             Line::Button(code) => {
                 for state in [ButtonState::PRESSED, ButtonState::RELEASED] {
-                    self.each_pointer(|it, server| {
+                    self.each_pointer(server, |it| {
                         it.send_button(server, serial, time, code, state)
                     });
                 }
             }
             Line::Modifiers(mask) => {
                 self.seat.modifiers = mask;
-                self.each_keyboard(|it, server| it.send_modifiers(server, serial, mask, 0, 0, 0));
+                self.each_keyboard(|it| it.send_modifiers(server, serial, mask, 0, 0, 0));
             }
             Line::Motion(x, y) => {
-                self.each_pointer(|it, server| it.send_motion(server, time, x.into(), y.into()));
+                self.each_pointer(server, |it| it.send_motion(server, time, x.into(), y.into()));
             }
             Line::Close => {
-                if let Some(window) = self.window() {
-                    let sent = window.toplevel.send_close(&mut self.link);
-                    self.must(sent);
+                if let Some(window) = self.window(server) {
+                    self.must(window.toplevel.send_close(server));
                 }
             }
         }

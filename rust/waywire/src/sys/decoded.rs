@@ -1,60 +1,30 @@
 //! The call that takes one message apart.
 
-use super::tables::{interface_or_any, RawTables};
-use super::{
-    fault_kind, lent, RawArg, Tables, ARRAY, BOUND, FAULT_BAD_SIZE, FAULT_TOO_MANY_OBJECTS, FIXED,
-    INT, MAX_ARGS, NEW, NEW_BY_SERVER, NO_ARG, NULL_OBJECT, NULL_STRING, OBJECT, OK, STRING, UINT,
-};
-use crate::args::Fixed;
+use super::tables::interface_or_any;
+use super::{fault_kind, lent, Tables, NO_ARG};
+use crate::args::{Fixed, MAX_ARGS};
 use crate::decoded::Spelled;
 use crate::error::FaultKind;
 use crate::inspector::Sender;
-use std::ffi::{c_char, c_void};
 use std::marker::PhantomData;
 use std::ptr;
-
-extern "C" {
-    fn waywire_tables_decode(
-        tables: *const RawTables,
-        interface: u16,
-        version: u32,
-        sender: u32,
-        bytes: *const c_void,
-        length: usize,
-        decoded: *mut RawDecoded,
-    ) -> u32;
-}
-
-/// `waywire_decoded`.
-#[derive(Clone, Copy, Debug)]
-#[repr(C)]
-pub struct RawDecoded {
-    target: u32,
-    opcode: u16,
-    size: u16,
-    name: *const c_char,
-    name_length: usize,
-    arg_count: usize,
-    place: usize,
-    spelling: u32,
-    interfaces: [u16; MAX_ARGS as usize],
-    args: [RawArg; MAX_ARGS as usize],
-}
+use waywire_sys as ffi;
 
 /// A message that was decoded. Its name lies in the tables, its strings and arrays in the bytes, and both
 /// are borrowed for `'a`.
 #[derive(Clone, Debug)]
 pub struct Decoded<'a> {
-    raw: RawDecoded,
+    raw: ffi::waywire_decoded,
     fault: Option<FaultKind>,
     lent: PhantomData<&'a [u8]>,
 }
 
-// Safety: it only lends a name of tables and slices of bytes, which nobody changes as long as `'a` lasts, and
+// SAFETY: it only lends a name of tables and slices of bytes, which nobody changes as long as `'a` lasts, and
 // nothing here writes through the pointers. The header says so of both: tables never change, and any thread
 // may read what the pointers of an inspector lead to, until a call that may change the inspector. Such a call
 // takes the inspector by a `&mut`.
 unsafe impl Send for Decoded<'_> {}
+// SAFETY: as for `Send`.
 unsafe impl Sync for Decoded<'_> {}
 
 impl<'a> Decoded<'a> {
@@ -67,11 +37,19 @@ impl<'a> Decoded<'a> {
         bytes: &'a [u8],
     ) -> Option<Decoded<'a>> {
         let (at, from, length) = (bytes.as_ptr().cast(), sender.number(), bytes.len());
-        // Safety: the tables are the library's, and all else lasts longer than the call. The name lies in
+        // SAFETY: the tables are the library's, and all else lasts longer than the call. The name lies in
         // the tables, and all else in the bytes, which both are borrowed for `'a`.
         unsafe {
             Decoded::by(|decoded| {
-                waywire_tables_decode(tables.at(), interface, version, from, at, length, decoded)
+                ffi::waywire_tables_decode(
+                    tables.at(),
+                    interface,
+                    version,
+                    from,
+                    at,
+                    length,
+                    decoded,
+                )
             })
         }
     }
@@ -82,8 +60,10 @@ impl<'a> Decoded<'a> {
     ///
     /// The call writes what the library decodes. The name lies in tables, and strings and arrays lie in
     /// bytes, which all stay as they are as long as `'a` lasts.
-    pub unsafe fn by(take_apart: impl FnOnce(*mut RawDecoded) -> u32) -> Option<Decoded<'a>> {
-        let mut raw = RawDecoded {
+    pub unsafe fn by(
+        take_apart: impl FnOnce(*mut ffi::waywire_decoded) -> u32,
+    ) -> Option<Decoded<'a>> {
+        let mut raw = ffi::waywire_decoded {
             target: 0,
             opcode: 0,
             size: 0,
@@ -92,13 +72,13 @@ impl<'a> Decoded<'a> {
             arg_count: 0,
             place: 0,
             spelling: 0,
-            interfaces: [0; MAX_ARGS as usize],
-            args: [NO_ARG; MAX_ARGS as usize],
+            interfaces: [0; MAX_ARGS],
+            args: [NO_ARG; MAX_ARGS],
         };
         let status = take_apart(&mut raw);
         let fault = match status {
-            OK => None,
-            FAULT_BAD_SIZE..=FAULT_TOO_MANY_OBJECTS => {
+            ffi::WAYWIRE_OK => None,
+            ffi::WAYWIRE_FAULT_BAD_SIZE..=ffi::WAYWIRE_FAULT_TOO_MANY_OBJECTS => {
                 Some(fault_kind(status, raw.place, raw.spelling))
             }
             _ => return None,
@@ -123,7 +103,7 @@ impl<'a> Decoded<'a> {
     }
 
     pub fn name(&self) -> &'a str {
-        // Safety: the name lies in the tables, which are borrowed for `'a`.
+        // SAFETY: the name lies in the tables, which are borrowed for `'a`.
         let bytes = unsafe { lent::<'a, u8>(self.raw.name.cast(), self.raw.name_length) };
         std::str::from_utf8(bytes).unwrap_or("")
     }
@@ -134,37 +114,23 @@ impl<'a> Decoded<'a> {
 
     pub fn arg(&self, place: usize) -> Option<Spelled<'a>> {
         let arg = self.raw.args[..self.raw.arg_count].get(place)?;
-        // Safety: they lie in the bytes that were decoded, which are borrowed for `'a`.
+        // SAFETY: they lie in the bytes that were decoded, which are borrowed for `'a`.
         let bytes = unsafe { lent::<'a, u8>(arg.bytes.cast(), arg.length) };
         let interface = interface_or_any(self.raw.interfaces[place]);
-        let id = arg.object.id();
+        let id = arg.object.id;
         Some(match arg.kind {
-            INT => Spelled::Int(arg.i),
-            UINT => Spelled::Uint(arg.u),
-            FIXED => Spelled::Fixed(Fixed::from_raw(arg.i)),
-            STRING => Spelled::Str(Some(bytes)),
-            NULL_STRING => Spelled::Str(None),
-            OBJECT | NULL_OBJECT => Spelled::Object { id, interface },
-            NEW => Spelled::NewId { id, interface, by_server: false },
-            NEW_BY_SERVER => Spelled::NewId { id, interface, by_server: true },
-            BOUND => Spelled::Bound { name: bytes, version: arg.u, id, interface },
-            ARRAY => Spelled::Array(bytes),
+            ffi::WAYWIRE_INT => Spelled::Int(arg.i),
+            ffi::WAYWIRE_UINT => Spelled::Uint(arg.u),
+            ffi::WAYWIRE_FIXED => Spelled::Fixed(Fixed::from_raw(arg.i)),
+            ffi::WAYWIRE_STRING => Spelled::Str(Some(bytes)),
+            ffi::WAYWIRE_NULL_STRING => Spelled::Str(None),
+            ffi::WAYWIRE_OBJECT | ffi::WAYWIRE_NULL_OBJECT => Spelled::Object { id, interface },
+            ffi::WAYWIRE_NEW => Spelled::NewId { id, interface, by_server: false },
+            ffi::WAYWIRE_NEW_BY_SERVER => Spelled::NewId { id, interface, by_server: true },
+            ffi::WAYWIRE_BOUND => Spelled::Bound { name: bytes, version: arg.u, id, interface },
+            ffi::WAYWIRE_ARRAY => Spelled::Array(bytes),
             // No argument has another kind.
             _ => Spelled::Fd,
         })
-    }
-}
-
-#[cfg(test)]
-pub(super) mod tests {
-    use super::super::tests::layout;
-    use super::RawDecoded;
-    use std::mem::{offset_of, size_of};
-
-    pub fn layout() -> Vec<(String, usize)> {
-        layout! {
-            RawDecoded, "waywire_decoded": target opcode size name name_length arg_count place
-                spelling interfaces args;
-        }
     }
 }

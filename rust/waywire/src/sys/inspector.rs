@@ -1,154 +1,42 @@
 //! The calls of an inspector.
 
-use super::decoded::{Decoded, RawDecoded};
+use super::decoded::Decoded;
 use super::tables::interface_or_any;
-use super::{fault_kind, lent, RawTables, Tables, ANY_INTERFACE, BAD_SIZES, FROM_CLIENT, OK};
+use super::{fault_kind, lent, Tables};
 use crate::error::{NewError, NoMemory};
-use crate::inspector::{Judgement, Known, Made, Sender};
+use crate::inspector::{Judgement, Known, Made, Sender, UndeservedDelete};
 use crate::tables::Interface;
-use std::ffi::{c_char, c_void};
 use std::ptr::{self, NonNull};
+use waywire_sys as ffi;
 
-type RawInspector = c_void;
-
-extern "C" {
-    fn waywire_inspector_new(
-        tables: *const RawTables,
-        limit: u32,
-        inspector: *mut *mut RawInspector,
-    ) -> u32;
-    fn waywire_inspector_free(inspector: *mut RawInspector);
-    fn waywire_inspector_pass(
-        inspector: *mut RawInspector,
-        sender: u32,
-        bytes: *const c_void,
-        length: usize,
-        token_count: usize,
-    ) -> u32;
-    fn waywire_inspector_lines(inspector: *const RawInspector, length: *mut usize)
-        -> *const c_char;
-    fn waywire_inspector_verdict(
-        inspector: *mut RawInspector,
-        line: *mut *const c_char,
-        length: *mut usize,
-        broken: *mut bool,
-    ) -> u32;
-    fn waywire_inspector_judgement(
-        inspector: *const RawInspector,
-        judgement: *mut RawJudgement,
-    ) -> u32;
-    fn waywire_inspector_judged(inspector: *const RawInspector) -> u64;
-    fn waywire_inspector_follow(
-        inspector: *mut RawInspector,
-        sender: u32,
-        bytes: *const c_void,
-        length: usize,
-    ) -> u32;
-    fn waywire_inspector_ahead(
-        inspector: *const RawInspector,
-        sender: u32,
-        message: *mut RawFollowed,
-    ) -> u32;
-    fn waywire_inspector_decode(
-        inspector: *const RawInspector,
-        sender: u32,
-        message: *const RawFollowed,
-        decoded: *mut RawDecoded,
-    ) -> u32;
-    fn waywire_inspector_go_past(inspector: *mut RawInspector, sender: u32) -> u32;
-    fn waywire_inspector_object(
-        inspector: *const RawInspector,
-        id: u32,
-        known: *mut RawKnown,
-    ) -> u32;
-    fn waywire_inspector_id_count(inspector: *const RawInspector, maker: u32) -> usize;
-    fn waywire_inspector_announced(
-        inspector: *const RawInspector,
-        name: u32,
-        interface: u16,
-    ) -> u32;
-}
-
-/// `waywire_judgement`.
-#[derive(Default)]
-#[repr(C)]
-struct RawJudgement {
-    requests: usize,
-    events: usize,
-    left_to_server: usize,
-    left_to_client: usize,
-    index: usize,
-    offset: usize,
-    place: usize,
-    fault: u32,
-    spelling: u32,
-    sender: u32,
-}
-
-impl RawJudgement {
-    fn judgement(&self) -> Judgement {
-        if self.fault == OK {
-            return Judgement::Lawful {
-                requests: self.requests,
-                events: self.events,
-                left_to_server: self.left_to_server,
-                left_to_client: self.left_to_client,
-            };
-        }
-        let sender = if self.sender == FROM_CLIENT { Sender::Client } else { Sender::Server };
-        let fault = fault_kind(self.fault, self.place, self.spelling);
-        Judgement::Broken { sender, index: self.index, offset: self.offset, fault }
+fn judged(raw: &ffi::waywire_judgement) -> Judgement {
+    if raw.fault == ffi::WAYWIRE_OK {
+        return Judgement::Lawful {
+            requests: raw.requests,
+            events: raw.events,
+            left_to_server: raw.left_to_server,
+            left_to_client: raw.left_to_client,
+        };
     }
+    let sender =
+        if raw.sender == ffi::WAYWIRE_FROM_CLIENT { Sender::Client } else { Sender::Server };
+    let fault = fault_kind(raw.fault, raw.place, raw.spelling);
+    Judgement::Broken { sender, index: raw.index, offset: raw.offset, fault }
 }
 
-/// `waywire_known`.
-#[derive(Clone, Copy, Debug)]
-#[repr(C)]
-struct RawKnown {
-    birth: u64,
-    version: u32,
-    interface: u16,
-    is_known: bool,
-    is_ending: bool,
+const NOT_KNOWN: ffi::waywire_known =
+    ffi::waywire_known { birth: 0, version: 0, interface: 0, is_known: false, is_ending: false };
+
+fn known(raw: &ffi::waywire_known) -> Option<Known> {
+    raw.is_known.then_some(Known {
+        birth: raw.birth,
+        interface: Interface(raw.interface),
+        version: raw.version,
+        is_ending: raw.is_ending,
+    })
 }
 
-const NOT_KNOWN: RawKnown =
-    RawKnown { birth: 0, version: 0, interface: 0, is_known: false, is_ending: false };
-
-impl RawKnown {
-    fn known(&self) -> Option<Known> {
-        self.is_known.then_some(Known {
-            birth: self.birth,
-            interface: Interface(self.interface),
-            version: self.version,
-            is_ending: self.is_ending,
-        })
-    }
-}
-
-/// `waywire_followed`.
-#[derive(Clone, Copy, Debug)]
-#[repr(C)]
-struct RawFollowed {
-    number: u64,
-    index: usize,
-    offset: usize,
-    bytes: *const u8,
-    length: usize,
-    descriptor_count: usize,
-    object: RawKnown,
-    target: u32,
-    opcode: u16,
-    size: u16,
-    made: u32,
-    made_version: u32,
-    destroyed: u32,
-    deleted: u32,
-    made_interface: u16,
-    is_read: bool,
-}
-
-const NO_MESSAGE: RawFollowed = RawFollowed {
+const NO_MESSAGE: ffi::waywire_followed = ffi::waywire_followed {
     number: 0,
     index: 0,
     offset: 0,
@@ -172,7 +60,7 @@ const NO_MESSAGE: RawFollowed = RawFollowed {
 pub struct Followed<'a> {
     inspector: &'a Inspector,
     sender: Sender,
-    raw: RawFollowed,
+    raw: ffi::waywire_followed,
 }
 
 impl<'a> Followed<'a> {
@@ -193,7 +81,7 @@ impl<'a> Followed<'a> {
     }
 
     pub fn bytes(&self) -> &'a [u8] {
-        // Safety: they are lent until the next `follow`, which takes the inspector by a `&mut`, and
+        // SAFETY: they are lent until the next `follow`, which takes the inspector by a `&mut`, and
         // it is borrowed for `'a`.
         unsafe { lent(self.raw.bytes, self.raw.length) }
     }
@@ -211,7 +99,7 @@ impl<'a> Followed<'a> {
     }
 
     pub fn object(&self) -> Option<Known> {
-        self.raw.object.known()
+        known(&self.raw.object)
     }
 
     pub fn is_read(&self) -> bool {
@@ -239,34 +127,36 @@ impl<'a> Followed<'a> {
     /// `None` if nothing is known of the object.
     pub fn decoded(&self) -> Option<Decoded<'a>> {
         let (at, sender) = (self.inspector.0.as_ptr(), self.sender.number());
-        // Safety: the message is one of this inspector's, which is borrowed since. Names lie in its
+        // SAFETY: the message is one of this inspector's, which is borrowed since. Names lie in its
         // tables, which last as long as it does, and the rest in the bytes, which it keeps until it is no
         // longer borrowed.
-        unsafe { Decoded::by(|decoded| waywire_inspector_decode(at, sender, &self.raw, decoded)) }
+        unsafe {
+            Decoded::by(|decoded| ffi::waywire_inspector_decode(at, sender, &self.raw, decoded))
+        }
     }
 }
 
 /// An inspector, freed when it is dropped.
 #[derive(Debug)]
-pub struct Inspector(NonNull<RawInspector>);
+pub struct Inspector(NonNull<ffi::waywire_inspector>);
 
-// Safety: the header says so: an inspector is bound to no thread, and used by one call at a time, which
+// SAFETY: the header says so: an inspector is bound to no thread, and used by one call at a time, which
 // it is since it is not `Sync`.
 unsafe impl Send for Inspector {}
 
 impl Drop for Inspector {
     fn drop(&mut self) {
-        // Safety: the inspector is the library's, and freed here alone.
-        unsafe { waywire_inspector_free(self.0.as_ptr()) }
+        // SAFETY: the inspector is the library's, and freed here alone.
+        unsafe { ffi::waywire_inspector_free(self.0.as_ptr()) }
     }
 }
 
-// Safety, for each call: as for the calls of an end.
 impl Inspector {
     pub fn new(tables: &Tables, limit: u32) -> Result<Inspector, NewError> {
         let mut made = ptr::null_mut();
-        match unsafe { waywire_inspector_new(tables.at(), limit, &mut made) } {
-            BAD_SIZES => Err(NewError::BadSizes),
+        // SAFETY: the tables are the library's and lent for the call, and `made` is local.
+        match unsafe { ffi::waywire_inspector_new(tables.at(), limit, &mut made) } {
+            ffi::WAYWIRE_BAD_SIZES => Err(NewError::BadSizes),
             _ => NonNull::new(made).map(Inspector).ok_or(NewError::NoMemory),
         }
     }
@@ -274,16 +164,19 @@ impl Inspector {
     pub fn pass(&mut self, sender: Sender, bytes: &[u8], tokens: usize) -> Result<(), NoMemory> {
         let from = sender.number();
         let (at, bytes, length) = (self.0.as_ptr(), bytes.as_ptr().cast(), bytes.len());
-        match unsafe { waywire_inspector_pass(at, from, bytes, length, tokens) } {
-            OK => Ok(()),
+        // SAFETY: the inspector is the library's, and lives as long as `self`; the slices are lent for the
+        // call.
+        match unsafe { ffi::waywire_inspector_pass(at, from, bytes, length, tokens) } {
+            ffi::WAYWIRE_OK => Ok(()),
             _ => Err(NoMemory),
         }
     }
 
     pub fn lines(&self) -> &[u8] {
         let mut length = 0;
-        let lines = unsafe { waywire_inspector_lines(self.0.as_ptr(), &mut length) };
-        // Safety: they are lent until the next `pass` or `verdict`, which take the inspector by a
+        // SAFETY: the inspector is the library's, and lives as long as `self`; `length` is local.
+        let lines = unsafe { ffi::waywire_inspector_lines(self.0.as_ptr(), &mut length) };
+        // SAFETY: they are lent until the next `pass` or `verdict`, which take the inspector by a
         // `&mut`, and this borrows it.
         unsafe { lent(lines.cast(), length) }
     }
@@ -292,74 +185,75 @@ impl Inspector {
     pub fn verdict(&mut self) -> Result<(&[u8], bool), NoMemory> {
         let (mut line, mut length, mut broken) = (ptr::null(), 0, false);
         let at = self.0.as_ptr();
-        match unsafe { waywire_inspector_verdict(at, &mut line, &mut length, &mut broken) } {
-            // Safety: as in `lines`.
-            OK => Ok((unsafe { lent(line.cast(), length) }, broken)),
+        // SAFETY: the inspector is the library's, and lives as long as `self`; what is written is local.
+        match unsafe { ffi::waywire_inspector_verdict(at, &mut line, &mut length, &mut broken) } {
+            // SAFETY: as in `lines`.
+            ffi::WAYWIRE_OK => Ok((unsafe { lent(line.cast(), length) }, broken)),
             _ => Err(NoMemory),
         }
     }
 
     pub fn judgement(&self) -> Judgement {
-        let mut judgement = RawJudgement::default();
-        unsafe { waywire_inspector_judgement(self.0.as_ptr(), &mut judgement) };
-        judgement.judgement()
+        let mut judgement = ffi::waywire_judgement::default();
+        // SAFETY: the inspector is the library's, and lives as long as `self`; what is written is local.
+        unsafe { ffi::waywire_inspector_judgement(self.0.as_ptr(), &mut judgement) };
+        judged(&judgement)
     }
 
     pub fn judged_count(&self) -> u64 {
-        unsafe { waywire_inspector_judged(self.0.as_ptr()) }
+        // SAFETY: the inspector is the library's, and lives as long as `self`.
+        unsafe { ffi::waywire_inspector_judged(self.0.as_ptr()) }
+    }
+
+    pub fn undeserved(&self) -> Option<UndeservedDelete> {
+        let mut id = 0;
+        // SAFETY: the inspector is the library's, and lives as long as `self`; `id` is local.
+        let number = unsafe { ffi::waywire_inspector_undeserved(self.0.as_ptr(), &mut id) };
+        (number != 0).then_some(UndeservedDelete { number, id })
     }
 
     pub fn follow(&mut self, sender: Sender, bytes: &[u8]) -> Result<(), NoMemory> {
         let (from, at, length) = (sender.number(), bytes.as_ptr().cast(), bytes.len());
-        match unsafe { waywire_inspector_follow(self.0.as_ptr(), from, at, length) } {
-            OK => Ok(()),
+        // SAFETY: the inspector is the library's, and lives as long as `self`; the bytes are lent for the
+        // call.
+        match unsafe { ffi::waywire_inspector_follow(self.0.as_ptr(), from, at, length) } {
+            ffi::WAYWIRE_OK => Ok(()),
             _ => Err(NoMemory),
         }
     }
 
     pub fn ahead(&self, sender: Sender) -> Option<Followed<'_>> {
         let mut raw = NO_MESSAGE;
-        let status = unsafe { waywire_inspector_ahead(self.0.as_ptr(), sender.number(), &mut raw) };
-        (status == OK).then_some(Followed { inspector: self, sender, raw })
+        // SAFETY: the inspector is the library's, and lives as long as `self`; what is written is local.
+        let status =
+            unsafe { ffi::waywire_inspector_ahead(self.0.as_ptr(), sender.number(), &mut raw) };
+        (status == ffi::WAYWIRE_OK).then_some(Followed { inspector: self, sender, raw })
     }
 
     pub fn go_past(&mut self, sender: Sender) -> Result<(), NoMemory> {
-        match unsafe { waywire_inspector_go_past(self.0.as_ptr(), sender.number()) } {
-            OK => Ok(()),
+        // SAFETY: the inspector is the library's, and lives as long as `self`.
+        match unsafe { ffi::waywire_inspector_go_past(self.0.as_ptr(), sender.number()) } {
+            ffi::WAYWIRE_OK => Ok(()),
             _ => Err(NoMemory),
         }
     }
 
     pub fn object(&self, id: u32) -> Option<Known> {
-        let mut known = NOT_KNOWN;
-        unsafe { waywire_inspector_object(self.0.as_ptr(), id, &mut known) };
-        known.known()
+        let mut found = NOT_KNOWN;
+        // SAFETY: the inspector is the library's, and lives as long as `self`; what is written is local.
+        unsafe { ffi::waywire_inspector_object(self.0.as_ptr(), id, &mut found) };
+        known(&found)
     }
 
     pub fn id_count(&self, maker: Sender) -> usize {
-        unsafe { waywire_inspector_id_count(self.0.as_ptr(), maker.number()) }
+        // SAFETY: the inspector is the library's, and lives as long as `self`.
+        unsafe { ffi::waywire_inspector_id_count(self.0.as_ptr(), maker.number()) }
     }
 
     /// The newest version, 0 if there is none.
     pub fn announced(&self, name: u32, interface: Option<Interface>) -> u32 {
-        let index = interface.map_or(ANY_INTERFACE as u16, |it| it.0);
-        unsafe { waywire_inspector_announced(self.0.as_ptr(), name, index) }
-    }
-}
-
-#[cfg(test)]
-pub(super) mod tests {
-    use super::super::tests::layout;
-    use super::{RawFollowed, RawJudgement, RawKnown};
-    use std::mem::{offset_of, size_of};
-
-    pub fn layout() -> Vec<(String, usize)> {
-        layout! {
-            RawJudgement, "waywire_judgement": requests events left_to_server left_to_client index
-                offset place fault spelling sender;
-            RawKnown, "waywire_known": birth version interface is_known is_ending;
-            RawFollowed, "waywire_followed": number index offset bytes length descriptor_count object
-                target opcode size made made_version destroyed deleted made_interface is_read;
-        }
+        let index = interface.map_or(ffi::WAYWIRE_ANY_INTERFACE as u16, |it| it.0);
+        // SAFETY: the inspector is the library's, and lives as long as `self`.
+        unsafe { ffi::waywire_inspector_announced(self.0.as_ptr(), name, index) }
     }
 }

@@ -1,11 +1,12 @@
 //! What an end has read, with the descriptors that came with it.
 
-use super::{ArgsOf, Report, MAX_ARGS};
+use super::{ArgsOf, Report};
+use crate::args::MAX_ARGS;
 use std::os::fd::{FromRawFd, OwnedFd, RawFd};
 use std::slice;
 
 /// The most descriptors of a message.
-const MOST: usize = MAX_ARGS as usize;
+const MOST: usize = MAX_ARGS;
 
 /// The report of the last message that was read, and those of its descriptors that nobody has taken
 /// yet. They are closed when the next one is read, or with the end.
@@ -19,7 +20,7 @@ pub struct Reading {
 
 impl Reading {
     /// A reading that `next` is to fill.
-    pub(super) fn nothing() -> Reading {
+    pub fn nothing() -> Reading {
         Reading { report: Report::nothing(), held: [const { None }; MOST], count: 0 }
     }
 
@@ -49,8 +50,8 @@ impl Reading {
     /// The report is new, its tokens are descriptors that its end owned, and the reading holds none.
     #[inline]
     pub(super) unsafe fn hold(&mut self) {
-        if self.report.token_count > 0 {
-            // Safety: the caller says so.
+        if self.report.0.token_count > 0 {
+            // SAFETY: the caller says so.
             unsafe { self.hold_all() };
         }
     }
@@ -62,9 +63,9 @@ impl Reading {
     /// As for `hold`.
     #[cold]
     unsafe fn hold_all(&mut self) {
-        self.count = self.report.token_count.min(MOST);
+        self.count = self.report.0.token_count.min(MOST);
         for (held, token) in self.held.iter_mut().zip(self.report.tokens()) {
-            // Safety: the end has given the descriptor away with the report, once.
+            // SAFETY: the end has given the descriptor away with the report, once.
             *held = Some(unsafe { OwnedFd::from_raw_fd(*token as RawFd) });
         }
     }

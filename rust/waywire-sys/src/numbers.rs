@@ -1,0 +1,84 @@
+//! The numbers of waywire.h and waywire-socket.h.
+
+macro_rules! numbers {
+    ($($name:ident = $number:expr;)*) => {
+        $(pub const $name: u32 = $number;)*
+
+        /// Each number, with its name.
+        #[cfg(test)]
+        pub(crate) const NUMBERS: &[(&str, u32)] = &[$((stringify!($name), $name)),*];
+    };
+}
+
+numbers! {
+    WAYWIRE_OK = 0;
+    WAYWIRE_FAILED = 1;
+    WAYWIRE_STALE = 2;
+    WAYWIRE_NO_SUCH_MESSAGE = 3;
+    WAYWIRE_TOO_OLD = 4;
+    WAYWIRE_WRONG_ARGS = 5;
+    WAYWIRE_BAD_OBJECT = 6;
+    WAYWIRE_BAD_BIND = 7;
+    WAYWIRE_TOO_LONG = 8;
+    WAYWIRE_FULL = 9;
+    WAYWIRE_NO_IDS = 10;
+    WAYWIRE_NO_MEMORY = 11;
+    WAYWIRE_NOT_DROPPABLE = 12;
+    WAYWIRE_BAD_GLOBAL = 22;
+    WAYWIRE_TOO_MANY_GLOBALS = 23;
+    WAYWIRE_NO_SUCH_GLOBAL = 25;
+    WAYWIRE_FAULT_BAD_SIZE = 31;
+    WAYWIRE_FAULT_UNKNOWN_OBJECT = 32;
+    WAYWIRE_FAULT_UNKNOWN_MESSAGE = 33;
+    WAYWIRE_FAULT_BAD_ARGUMENT = 34;
+    WAYWIRE_FAULT_BAD_OBJECT = 35;
+    WAYWIRE_FAULT_BAD_NEW_ID = 36;
+    WAYWIRE_FAULT_TRAILING_BYTES = 37;
+    WAYWIRE_FAULT_MISSING_DESCRIPTOR = 38;
+    WAYWIRE_FAULT_BAD_BIND = 39;
+    WAYWIRE_FAULT_TOO_MANY_OBJECTS = 40;
+    WAYWIRE_OUT_FULL = 51;
+    WAYWIRE_NULL = 61;
+    WAYWIRE_BAD_VALUE = 62;
+    WAYWIRE_BAD_SIZES = 63;
+    WAYWIRE_NOT_FOUND = 64;
+    WAYWIRE_TOO_LARGE = 65;
+    WAYWIRE_OTHER_END = 66;
+    WAYWIRE_BAD_LINE = 71;
+    WAYWIRE_BAD_TABLE = 72;
+    WAYWIRE_FIRST_SERVER_OBJECT = 73;
+    WAYWIRE_FIRST_SERVER_ID = 0xff00_0000;
+    WAYWIRE_INT = 1;
+    WAYWIRE_UINT = 2;
+    WAYWIRE_FIXED = 3;
+    WAYWIRE_STRING = 4;
+    WAYWIRE_NULL_STRING = 5;
+    WAYWIRE_OBJECT = 6;
+    WAYWIRE_NULL_OBJECT = 7;
+    WAYWIRE_NEW = 8;
+    WAYWIRE_ARRAY = 9;
+    WAYWIRE_FD = 10;
+    WAYWIRE_DEAD_OBJECT = 11;
+    WAYWIRE_BOUND = 12;
+    WAYWIRE_NEW_BY_SERVER = 13;
+    WAYWIRE_ANY_INTERFACE = 65_535;
+    WAYWIRE_DESTROYS_NOTHING = 0;
+    WAYWIRE_DESTROYS_TARGET = 1;
+    WAYWIRE_DESTROYS_ARG = 2;
+    WAYWIRE_NOTHING = 0;
+    WAYWIRE_MESSAGE = 1;
+    WAYWIRE_DISCARDED = 2;
+    WAYWIRE_DELETED = 3;
+    WAYWIRE_STRAY = 4;
+    WAYWIRE_ERROR = 5;
+    WAYWIRE_FAULT = 6;
+    WAYWIRE_MAX_ARGS = 20;
+    WAYWIRE_MAX_ERROR_TEXT = 127;
+    WAYWIRE_FROM_CLIENT = 0;
+    WAYWIRE_FROM_SERVER = 1;
+    WAYWIRE_USUAL_LIMIT = 4096;
+    WAYWIRE_SOCKET_DESCRIPTORS = 28;
+}
+
+/// The most arguments of a message, as the length of an array.
+pub(crate) const MAX_ARGS: usize = WAYWIRE_MAX_ARGS as usize;
