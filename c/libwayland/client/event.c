@@ -440,8 +440,8 @@ int event_take(struct wl_display *display, const waywire_report *report, size_t 
 
 static void print_event(const struct event *event, bool is_discarded)
 {
-	struct printed_message printed = { &event->proxy->object, event->message, event->args, 0,
-		false, is_discarded };
+	struct printed_message printed = { &event->proxy->object, event->message, event->args,
+		true, false, is_discarded };
 	if (is_debugging())
 		log_message(&printed);
 }
@@ -492,36 +492,6 @@ static void hear_display(struct wl_display *display, const struct event *event)
 		log_line("delete_id of an id that has no object: %u\n", event->args[0].u);
 }
 
-typedef uintptr_t word;
-
-/* The type of a listener's function. On x86-64 each argument of an event is in a register, or in 8
- * bytes of the stack, and a function that takes fewer does not see the others. */
-typedef void call_4(void *data, void *proxy, word, word, word, word);
-typedef void call_8(void *data, void *proxy, word, word, word, word, word, word, word, word);
-typedef void call_20(void *data, void *proxy, word, word, word, word, word, word, word, word, word,
-	word, word, word, word, word, word, word, word, word, word, word);
-
-static void call_listener(void (*function)(void), void *data, const struct event *event)
-{
-	word v[WAYWIRE_MAX_ARGS] = { 0 };
-	size_t count = event->signature->count;
-	void *proxy = event->proxy;
-	for (size_t i = 0; i < count; i++) {
-		const union wl_argument *arg = &event->args[i];
-		char letter = event->signature->letters[i];
-		bool is_pointer = letter == 's' || letter == 'a' || is_object(event, i);
-		v[i] = is_pointer ? (word)arg->s : arg->u;
-	}
-	if (count <= 4)
-		((call_4 *)function)(data, proxy, v[0], v[1], v[2], v[3]);
-	else if (count <= 8)
-		((call_8 *)function)(data, proxy, v[0], v[1], v[2], v[3], v[4], v[5], v[6], v[7]);
-	else
-		((call_20 *)function)(data, proxy, v[0], v[1], v[2], v[3], v[4], v[5], v[6], v[7],
-			v[8], v[9], v[10], v[11], v[12], v[13], v[14], v[15], v[16], v[17], v[18],
-			v[19]);
-}
-
 /* Calls what listens to a proxy, without the lock. */
 static void hear(struct event *event)
 {
@@ -539,7 +509,8 @@ static void hear(struct event *event)
 			proxy->object.interface->name, proxy->object.id, event->message->name);
 		abort();
 	}
-	call_listener(functions[event->opcode], proxy->user_data, event);
+	arguments_call(functions[event->opcode], proxy->user_data, proxy, event->signature,
+		event->args, true);
 }
 
 void queue_dispatch_first(struct wl_display *display, struct wl_event_queue *queue)

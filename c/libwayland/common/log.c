@@ -14,9 +14,9 @@ static void print_to_stderr(const char *format, va_list args)
 }
 
 static wl_log_func_t handler = print_to_stderr;
-bool log_debugging_clients;
+bool log_is_debugging;
 
-EXPORT void wl_log_set_handler_client(wl_log_func_t new_handler)
+void log_set_handler(wl_log_func_t new_handler)
 {
 	handler = new_handler ? new_handler : print_to_stderr;
 }
@@ -31,16 +31,15 @@ void log_line(const char *format, ...)
 	errno = error;
 }
 
-void log_read_debug(void)
+void log_read_debug(const char *side)
 {
 	const char *wanted = getenv("WAYLAND_DEBUG");
 	/* It is written once, so threads that connect later do not disturb those that read it. */
-	if (wanted && !log_debugging_clients && (strstr(wanted, "client") || strstr(wanted, "1")))
-		log_debugging_clients = true;
+	if (wanted && !log_is_debugging && (strstr(wanted, side) || strstr(wanted, "1")))
+		log_is_debugging = true;
 }
 
-/* The time in microseconds, of which libwayland prints 32 bits. */
-static uint32_t microseconds(void)
+uint32_t log_time(void)
 {
 	struct timespec now;
 	clock_gettime(CLOCK_REALTIME, &now);
@@ -60,8 +59,8 @@ static void print_fixed(FILE *line, wl_fixed_t number)
 static void print_new(FILE *line, const struct printed_message *printed, size_t index)
 {
 	const struct wl_interface **types = printed->message->types;
-	const struct wl_object *object = printed->is_request ? NULL : printed->args[index].o;
-	uint32_t id = object ? object->id : printed->made;
+	const union wl_argument *arg = &printed->args[index];
+	uint32_t id = !printed->is_event ? arg->n : arg->o ? arg->o->id : 0;
 	fprintf(line, "new id %s@", types && types[index] ? types[index]->name : "[unknown]");
 	if (id)
 		fprintf(line, "%u", id);
@@ -148,9 +147,9 @@ void log_message(const struct printed_message *printed)
 	FILE *line = open_memstream(&text, &length);
 	if (line) {
 		const struct wl_object *target = printed->target;
-		uint32_t time = microseconds();
+		uint32_t time = log_time();
 		fprintf(line, "[%7u.%03u] %s%s%s@%u.%s(", time / 1000, time % 1000,
-			printed->is_discarded ? "discarded " : "", printed->is_request ? " -> " : "",
+			printed->is_discarded ? "discarded " : "", printed->is_sent ? " -> " : "",
 			target->interface->name, target->id, printed->message->name);
 		print_arguments(line, printed);
 		fputs(")\n", line);
@@ -158,16 +157,5 @@ void log_message(const struct printed_message *printed)
 			fputs(text, stderr);
 		free(text);
 	}
-	errno = error;
-}
-
-/* The id is printed as a signed number, as libwayland does. */
-void log_discarded(bool is_known, uint32_t id, uint32_t opcode, size_t descriptors, size_t bytes)
-{
-	int error = errno;
-	uint32_t time = microseconds();
-	fprintf(stderr, "[%7u.%03u] discarded [%s]@%d.[event %d](%d fd, %d byte)\n", time / 1000,
-		time % 1000, is_known ? "zombie" : "unknown", (int)id, (int)opcode, (int)descriptors,
-		(int)bytes);
 	errno = error;
 }

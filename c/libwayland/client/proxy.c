@@ -40,7 +40,7 @@ void proxy_give_object(struct wl_proxy *proxy, waywire_object object)
 {
 	proxy->handle = object;
 	proxy->object.id = object.id;
-	proxy->known = known_find(proxy->display, proxy->object.interface);
+	proxy->known = known_find(&proxy->display->known, proxy->object.interface);
 	proxy->is_registry = !strcmp(proxy->object.interface->name, wl_registry_interface.name);
 	if (waywire_end_set_user(proxy->display->client.end, object, proxy)) {
 		display_fail(proxy->display, ENOMEM);

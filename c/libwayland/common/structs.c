@@ -1,18 +1,15 @@
-/* The tables of a client, which grow with the wl_interface structs that the program passes in. See client.h.
+/* Table texts from wl_interface structs: see structs.h.
  *
- * Before the program makes its first object with an interface, this file writes a table text: the interface and
- * all interfaces that its messages name, unless the tables have them already. The client reads the text. So the
- * tables have an interface before an event can come for it.
- *
- * A struct does not say which messages destroy an object, so nothing is marked `D` except in the core. A delete_id
- * then ends a live object, and the server may reuse the id of a live object of its own. No message has a since
- * number: libwayland delivers an event that is newer than its object, and leaves it to the server to refuse a
- * request that is. */
-#include "client.h"
+ * A struct does not say which messages destroy an object, so nothing is marked `D` here. No message has a since
+ * number: libwayland passes on an event that is newer than its object, and its server tests requests itself. */
+#include "structs.h"
+
+#include "log.h"
 
 #include <errno.h>
 #include <stdio.h>
 #include <stdlib.h>
+#include <string.h>
 
 /* The version of every interface. That of a struct is no limit, because programs bind above it. */
 #define ANY_VERSION "4294967295"
@@ -234,95 +231,75 @@ static bool agrees(const waywire_tables *tables, const struct wl_interface *inte
 	return true;
 }
 
-bool tables_agree(struct wl_display *display, const struct wl_interface *interface)
+bool structs_agree(const waywire_tables *tables, struct known_interfaces *known,
+	const struct wl_interface *interface)
 {
-	if (known_find(display, interface))
+	if (known_find(known, interface))
 		return true;
 	errno = EINVAL;
-	return agrees(waywire_end_tables(display->client.end), interface)
-		&& known_add(display, interface);
+	return agrees(tables, interface) && known_add(known, interface);
 }
 
 /* ---- a table text */
 
-struct text {
-	char *bytes;
-	size_t length, room;
-	bool has_failed; /* there was no memory for all of it */
-};
-
-static void add_bytes(struct text *text, const char *bytes, size_t length)
+static void add_bytes(struct growth *growth, const char *bytes, size_t length)
 {
-	if (text->has_failed)
+	if (growth->has_failed)
 		return;
-	if (length > text->room - text->length) {
-		size_t room = 2 * (text->length + length) + 1024;
-		char *more = realloc(text->bytes, room);
+	if (length > growth->text_room - growth->length) {
+		size_t room = 2 * (growth->length + length) + 1024;
+		char *more = realloc(growth->text, room);
 		if (!more) {
-			text->has_failed = true;
+			growth->has_failed = true;
 			return;
 		}
-		text->bytes = more;
-		text->room = room;
+		growth->text = more;
+		growth->text_room = room;
 	}
-	memcpy(text->bytes + text->length, bytes, length);
-	text->length += length;
+	memcpy(growth->text + growth->length, bytes, length);
+	growth->length += length;
 }
 
-static void add(struct text *text, const char *words)
+static void add(struct growth *growth, const char *words)
 {
-	add_bytes(text, words, strlen(words));
+	add_bytes(growth, words, strlen(words));
 }
 
 /* Null is allowed wherever it can be: copies of an interface may differ in that, and the struct of
  * each proxy decides for its own messages. */
-static void add_argument(struct text *text, const struct described_argument *arg)
+static void add_argument(struct growth *growth, const struct described_argument *arg)
 {
-	add(text, arg->letter == 's' || arg->letter == 'o' ? " ?" : " ");
-	add_bytes(text, &arg->letter, 1);
+	add(growth, arg->letter == 's' || arg->letter == 'o' ? " ?" : " ");
+	add_bytes(growth, &arg->letter, 1);
 	if (arg->interface) {
-		add(text, "(");
-		add_bytes(text, arg->interface, arg->length);
-		add(text, ")");
+		add(growth, "(");
+		add_bytes(growth, arg->interface, arg->length);
+		add(growth, ")");
 	}
 }
 
 /* Messages are named by their opcodes, because some names have capitals, which tables do not accept. */
-static void add_message(struct text *text, waywire_sender sender, size_t opcode,
+static void add_message(struct growth *growth, waywire_sender sender, size_t opcode,
 	const struct wl_message *message)
 {
 	struct described_message described;
 	char name[32];
 	describe_struct(&described, message, sender);
 	snprintf(name, sizeof name, "%s m%zu", sender ? "event" : "request", opcode);
-	add(text, name);
+	add(growth, name);
 	for (size_t i = 0; i < described.count; i++)
-		add_argument(text, &described.args[i]);
-	add(text, "\n");
+		add_argument(growth, &described.args[i]);
+	add(growth, "\n");
 }
 
-static void add_head(struct text *text, const char *kind, const char *name, size_t length)
+static void add_head(struct growth *growth, const char *kind, const char *name, size_t length)
 {
-	add(text, kind);
-	add_bytes(text, name, length);
-	add(text, " " ANY_VERSION "\n");
+	add(growth, kind);
+	add_bytes(growth, name, length);
+	add(growth, " " ANY_VERSION "\n");
 }
 
 /* ---- what is to be added */
-
-/* An interface that is added, or looked through for others. */
-struct reached {
-	const struct wl_interface *interface;
-	bool is_written; /* the text or the tables have all of it */
-};
-
-struct growth {
-	struct wl_display *display;
-	const waywire_tables *tables;
-	struct reached *reached;
-	size_t count, room;
-	struct text text;
-};
 
 /* Lists an interface, unless it is listed or known. False with errno. */
 static bool reach(struct growth *growth, const struct wl_interface *interface)
@@ -330,7 +307,7 @@ static bool reach(struct growth *growth, const struct wl_interface *interface)
 	for (size_t i = 0; i < growth->count; i++)
 		if (growth->reached[i].interface == interface)
 			return true;
-	if (known_find(growth->display, interface))
+	if (known_find(growth->known, interface))
 		return true;
 	if (growth->count == growth->room) {
 		size_t room = 2 * growth->room + 16;
@@ -364,13 +341,12 @@ static bool reach_named(struct growth *growth, const struct wl_interface *interf
 	return true;
 }
 
-/* Lists an interface and all that can be reached from it. False with errno. */
-static bool reach_all(struct growth *growth, const struct wl_interface *interface)
+bool growth_reach(struct growth *growth, const struct wl_interface *interface)
 {
 	if (!reach(growth, interface))
 		return false;
-	for (size_t i = 0; i < growth->count; i++) {
-		const struct wl_interface *reached = growth->reached[i].interface;
+	for (; growth->looked_through < growth->count; growth->looked_through++) {
+		const struct wl_interface *reached = growth->reached[growth->looked_through].interface;
 		if (!is_well_formed(reached)) {
 			errno = EINVAL;
 			return false;
@@ -460,89 +436,57 @@ static void write_interface(struct growth *growth, size_t index)
 		|| (size_t)interface->event_count > known.counts[WAYWIRE_FROM_SERVER];
 	if (!known.is_new && !is_longer)
 		return;
-	add_head(&growth->text, known.is_new ? "interface " : "extend ", interface->name,
+	add_head(growth, known.is_new ? "interface " : "extend ", interface->name,
 		strlen(interface->name));
 	for (int sender = 0; sender < 2; sender++) {
 		size_t count;
 		const struct wl_message *messages = messages_of(interface, sender, &count);
 		for (size_t opcode = known.counts[sender]; opcode < count; opcode++)
-			add_message(&growth->text, sender, opcode, &messages[opcode]);
+			add_message(growth, sender, opcode, &messages[opcode]);
 	}
 }
 
-/* Writes what the tables lack of an interface, and of all that can be reached from it. False with
- * errno. */
-static bool write_growth(struct growth *growth, const struct wl_interface *interface)
+bool growth_write(struct growth *growth)
 {
-	if (!reach_all(growth, interface))
-		return false;
 	for (size_t i = 0; i < growth->count; i++)
 		write_interface(growth, i);
-	if (growth->text.has_failed)
+	if (growth->has_failed)
 		errno = ENOMEM;
-	return !growth->text.has_failed;
+	return !growth->has_failed;
 }
 
-static void end_growth(struct growth *growth)
+void growth_end(struct growth *growth)
 {
 	free(growth->reached);
-	free(growth->text.bytes);
+	free(growth->text);
 }
 
-/* Makes the interfaces known that the tables have completely, once they have the text. False with errno. */
-static bool add_written(const struct growth *growth)
+bool growth_know(const struct growth *growth)
 {
 	for (size_t i = 0; i < growth->count; i++)
 		if (growth->reached[i].is_written
-			&& !known_add(growth->display, growth->reached[i].interface))
+			&& !known_add(growth->known, growth->reached[i].interface))
 			return false;
 	return true;
 }
 
-/* Whether a text was read. If not, sets errno, and says on stderr which line breaks which rule. */
-static bool was_read(const struct text *text, const struct wl_interface *interface,
-	waywire_status status, size_t line, uint32_t rule)
+bool growth_was_read(const struct growth *growth, waywire_status status, size_t line, uint32_t rule)
 {
 	if (!status)
 		return true;
 	errno = status == WAYWIRE_NO_MEMORY ? ENOMEM : EINVAL;
 	if (status == WAYWIRE_NO_MEMORY)
 		return false;
-	const char *at = text->bytes, *end = text->bytes + text->length;
+	const char *at = growth->text, *end = growth->text + growth->length;
 	for (size_t before = 1; before < line && at < end; at++)
 		before += *at == '\n';
 	const char *behind = at < end ? memchr(at, '\n', (size_t)(end - at)) : NULL;
-	log_line("%s cannot be known: %s V%u: %.*s\n", interface->name, waywire_strerror(status),
-		rule, behind ? (int)(behind - at) : 0, behind ? at : "");
+	log_line("%s cannot be known: %s V%u: %.*s\n", growth->reached[0].interface->name,
+		waywire_strerror(status), rule, behind ? (int)(behind - at) : 0, behind ? at : "");
 	return false;
 }
 
-/* Gives the client tables that have the text. False with errno. */
-static bool read_growth(const struct growth *growth, const struct wl_interface *interface)
-{
-	const struct text *text = &growth->text;
-	size_t line = 0;
-	uint32_t rule = 0;
-	if (!text->length)
-		return true;
-	waywire_status status = waywire_client_more_tables(growth->display->client, text->bytes,
-		text->length, &line, &rule);
-	return was_read(text, interface, status, line, rule);
-}
-
-bool tables_learn(struct wl_display *display, const struct wl_interface *interface)
-{
-	if (known_find(display, interface))
-		return true;
-	struct growth growth = { .display = display };
-	growth.tables = waywire_end_tables(display->client.end);
-	bool has_grown = write_growth(&growth, interface) && read_growth(&growth, interface)
-		&& add_written(&growth);
-	end_growth(&growth);
-	return has_grown && tables_agree(display, interface);
-}
-
-/* ---- the tables that every display begins with */
+/* ---- the tables that a display begins with */
 
 /* Gives the interfaces of the core versions without an end. */
 static void write_versions(struct growth *growth)
@@ -552,41 +496,24 @@ static void write_versions(struct growth *growth)
 	uint16_t index = 0;
 	for (; !waywire_tables_name(growth->tables, index, &name, &length); index++)
 		if (!is_fixed(index))
-			add_head(&growth->text, "extend ", name, length);
+			add_head(growth, "extend ", name, length);
 }
 
-/* Tables of the core and of data transfer: they have an event that makes an object, so the client
- * knows the server's ids from the beginning. Null with errno. */
-static waywire_tables *first_tables(struct wl_display *display, const waywire_tables *core)
+waywire_tables *structs_first_tables(const waywire_tables *core, struct known_interfaces *known)
 {
 	waywire_tables *more = NULL;
 	size_t line = 0;
 	uint32_t rule = 0;
-	struct growth growth = { .display = display, .tables = core };
+	struct growth growth = { .tables = core, .known = known };
 	write_versions(&growth);
-	if (write_growth(&growth, &wl_data_device_manager_interface)) {
-		waywire_status status = waywire_tables_read(core, growth.text.bytes,
-			growth.text.length, &more, &line, &rule);
-		if (was_read(&growth.text, &wl_data_device_manager_interface, status, line, rule)
-			&& !add_written(&growth)) {
+	if (growth_reach(&growth, &wl_data_device_manager_interface) && growth_write(&growth)) {
+		waywire_status status = waywire_tables_read(core, growth.text, growth.length, &more,
+			&line, &rule);
+		if (growth_was_read(&growth, status, line, rule) && !growth_know(&growth)) {
 			waywire_tables_free(more);
 			more = NULL;
 		}
 	}
-	end_growth(&growth);
+	growth_end(&growth);
 	return more;
-}
-
-bool tables_make_client(struct wl_display *display, const waywire_sizes *sizes)
-{
-	waywire_tables *core;
-	errno = ENOMEM;
-	if (waywire_tables_core(&core))
-		return false;
-	waywire_tables *tables = first_tables(display, core);
-	waywire_tables_free(core);
-	waywire_status status = tables ? waywire_client_new(tables, sizes, &display->client)
-		: WAYWIRE_NO_MEMORY;
-	waywire_tables_free(tables); /* the client keeps them */
-	return !status;
 }

@@ -1,6 +1,6 @@
-/* What waits behind a socket that takes no more. The client's outbox has a fixed size; what it cannot hold is moved
- * here, and is sent before what is in the outbox. See client.h. */
-#include "client.h"
+/* What waits behind a socket that takes no more. An outbox has a fixed size; what it cannot hold is moved here, and is
+ * sent before what is in the outbox. See backlog.h. */
+#include "backlog.h"
 
 #include <errno.h>
 #include <stdlib.h>

@@ -1,5 +1,5 @@
-/* The signatures of messages, which programs pass in as text: see client.h. */
-#include "client.h"
+/* The signatures of messages, which programs pass in as text: see structs.h. */
+#include "structs.h"
 
 #include <limits.h>
 
@@ -11,13 +11,16 @@ enum letter_class {
 	PLAIN = 1,
 	WITH_NULL = 2, /* a `?` may precede it */
 	NEW = 4,
-	QUESTION = 8 /* the `?` */
+	OBJECT = 8,
+	QUESTION = 16, /* the `?` */
+	NUMBER = 32
 };
 
 /* Each request and each event asks, so it is a table. */
 static const uint8_t classes[UCHAR_MAX + 1] = {
-	['i'] = PLAIN, ['u'] = PLAIN, ['f'] = PLAIN, ['h'] = PLAIN,
-	['s'] = WITH_NULL, ['o'] = WITH_NULL, ['n'] = WITH_NULL | NEW, ['a'] = WITH_NULL,
+	['i'] = NUMBER, ['u'] = NUMBER, ['f'] = NUMBER, ['h'] = PLAIN,
+	['s'] = WITH_NULL, ['o'] = WITH_NULL | OBJECT, ['n'] = WITH_NULL | OBJECT | NEW,
+	['a'] = WITH_NULL,
 	['?'] = QUESTION,
 };
 
@@ -26,8 +29,8 @@ static bool is_digit(char letter)
 	return letter >= '0' && letter <= '9';
 }
 
-/* The text after the number at the front of a signature; null if the number is above UINT32_MAX. */
-static const char *behind_number(const char *text)
+/* Reads the number at the front of a signature. Returns the text after it; null if the number is above UINT32_MAX. */
+static const char *read_number(const char *text, uint32_t *since)
 {
 	uint64_t number = 0;
 	for (int digits = 0; is_digit(*text); text++) {
@@ -35,6 +38,7 @@ static const char *behind_number(const char *text)
 		if (++digits > MOST_DIGITS || number > UINT32_MAX)
 			return NULL;
 	}
+	*since = (uint32_t)number;
 	return text;
 }
 
@@ -42,14 +46,14 @@ bool signature_read(struct signature *signature, const char *text)
 {
 	size_t count = 0;
 	unsigned found = 0;
-	text = behind_number(text);
+	text = read_number(text, &signature->since);
 	if (!text)
 		return false;
 	for (; *text; text++) {
 		uint8_t class = classes[(unsigned char)*text];
 		bool nullable = class == QUESTION;
 		if (nullable)
-			class = classes[(unsigned char)*++text] & (WITH_NULL | NEW);
+			class = classes[(unsigned char)*++text] & (WITH_NULL | OBJECT | NEW);
 		if (!class || count == WAYWIRE_MAX_ARGS)
 			return false;
 		found |= class;
@@ -59,5 +63,7 @@ bool signature_read(struct signature *signature, const char *text)
 	}
 	signature->count = count;
 	signature->has_new = found & NEW;
+	signature->has_object = found & OBJECT;
+	signature->is_of_numbers = !(found & ~(unsigned)NUMBER);
 	return true;
 }

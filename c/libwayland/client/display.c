@@ -79,17 +79,17 @@ static void free_display(struct wl_display *display)
 	waywire_end_free(display->client.end);
 	pthread_mutex_destroy(&display->mutex);
 	pthread_cond_destroy(&display->has_read);
-	known_drop(display);
+	known_drop(&display->known);
 	free(display);
 }
 
 EXPORT struct wl_display *wl_display_connect_to_fd(int fd)
 {
-	log_read_debug();
+	log_read_debug("client");
 	struct wl_display *display = calloc(1, sizeof *display);
 	if (!display || !tables_make_client(display, &display_sizes)) {
 		if (display)
-			known_drop(display);
+			known_drop(&display->known);
 		free(display);
 		waywire_socket_close(fd, NULL);
 		return NULL;

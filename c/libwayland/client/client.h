@@ -7,26 +7,14 @@
 #ifndef WAYWIRE_WAYLAND_CLIENT_H
 #define WAYWIRE_WAYLAND_CLIENT_H
 
+#include "arguments.h"
+#include "backlog.h"
 #include "log.h"
-#include "wayland-abi.h"
+#include "structs.h"
+#include "wayland-client-abi.h"
 
 #include <pthread.h>
 #include <waywire-socket.h>
-
-/* ---- signatures (signature.c) */
-
-/* The arguments of a message, by its signature. */
-struct signature {
-	size_t count;
-	bool has_new; /* whether one is a new object */
-	char letters[WAYWIRE_MAX_ARGS];
-	bool nullable[WAYWIRE_MAX_ARGS];
-};
-
-/* Reads a signature. False if it is malformed: a number that is too large, a character that is no
- * letter of an argument, a `?` that is not before `s`, `o`, `n` or `a`, or more than
- * WAYWIRE_MAX_ARGS arguments. */
-bool signature_read(struct signature *signature, const char *text);
 
 /* ---- what the types of libwayland-client are here */
 
@@ -62,23 +50,6 @@ struct wl_event_queue {
 	char *name; /* null if it has none */
 };
 
-/* What waits behind a socket that takes no more. It goes before what is in the outbox. */
-struct backlog {
-	struct wl_list parcels;
-	size_t bytes; /* in all parcels, without those that were sent */
-};
-
-/* An interface that agrees with the tables, as it was when that was found out. A plug-in may be
- * unloaded, and another interface lie at its address. */
-struct known_interface {
-	struct known_interface *next; /* in its bucket */
-	const struct wl_interface *at;
-	struct wl_interface was;
-	struct signature signatures[]; /* those of the requests, and then those of the events */
-};
-
-#define KNOWN_BUCKETS 256
-
 struct wl_display {
 	struct wl_proxy proxy; /* first, since a display is a proxy, too */
 	waywire_client client;
@@ -96,7 +67,7 @@ struct wl_display {
 	int reader_count;     /* threads that have prepared to read */
 	uint32_t read_serial; /* goes on whenever those that wait for a reader are woken */
 	int deleted_count;    /* delete_id that were read, and that no dispatch has counted */
-	struct known_interface *known[KNOWN_BUCKETS];
+	struct known_interfaces known;
 };
 
 /* ---- tables (tables.c) */
@@ -112,17 +83,6 @@ bool tables_agree(struct wl_display *display, const struct wl_interface *interfa
  * with errno if that cannot be, or if the interface contradicts the tables; then it has said why on stderr.
  * Reports become invalid. */
 bool tables_learn(struct wl_display *display, const struct wl_interface *interface);
-
-/* ---- known interfaces (known.c) */
-
-/* Finds an interface, as it is now. Null if it is not known. */
-const struct known_interface *known_find(struct wl_display *display,
-	const struct wl_interface *interface);
-
-/* Makes an interface known that agrees with the tables. False with errno. */
-bool known_add(struct wl_display *display, const struct wl_interface *interface);
-
-void known_drop(struct wl_display *display);
 
 /* ---- proxies (proxy.c) */
 
@@ -170,17 +130,6 @@ size_t display_waiting_bytes(const struct wl_display *display);
 /* Closes the descriptors of a report. */
 void report_close_descriptors(const waywire_report *report);
 
-/* ---- the backlog (backlog.c) */
-
-/* Moves the outbox into the backlog. False with errno if there is no memory for all of it: the rest stays. */
-bool backlog_take(struct backlog *backlog, waywire_end *end);
-
-/* Sends the backlog. Returns 0 when nothing is left, or -1 with errno, as waywire_socket_send. */
-int backlog_send(struct backlog *backlog, int socket);
-
-/* Closes the descriptors of the backlog, and frees all. */
-void backlog_drop(struct backlog *backlog);
-
 /* ---- events (event.c) */
 
 struct event {
@@ -209,5 +158,16 @@ void queue_init(struct wl_event_queue *queue, struct wl_display *display);
 
 /* Detaches the proxies of a queue. */
 void queue_detach_all(struct wl_event_queue *queue);
+
+/* ---- what is printed (log.c) */
+
+/* Prints the line of an event whose object has no proxy any more, so its message is not known:
+ *
+ *     [1234567.890] discarded [zombie]@3.[event 1](0 fd, 12 byte)
+ *
+ * `is_known` says whether libwayland would know the id as a zombie. If not, the line has
+ * [unknown]. */
+void log_discarded(bool is_known, uint32_t id, uint32_t opcode, size_t descriptors,
+	size_t bytes);
 
 #endif

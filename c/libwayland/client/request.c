@@ -3,9 +3,7 @@
 #include "client.h"
 
 #include <errno.h>
-#include <fcntl.h>
 #include <stdarg.h>
-#include <unistd.h>
 
 /* The opcode of wl_registry.bind, its signature, and its arguments. */
 #define REGISTRY_BIND 0
@@ -151,81 +149,24 @@ static bool can_be_made(const struct request *request)
 
 /* ---- arguments */
 
-/* Duplicates a descriptor: the duplicate belongs to the outbox. -1 with errno. */
-static int duplicate(int descriptor)
+static waywire_object handle_of(const struct wl_object *object)
 {
-	return fcntl(descriptor, F_DUPFD_CLOEXEC, 0);
-}
-
-static void close_duplicates(const waywire_arg *args, size_t count)
-{
-	for (size_t i = 0; i < count; i++)
-		if (args[i].kind == WAYWIRE_FD)
-			close((int)args[i].u);
-}
-
-static waywire_arg object_argument(const struct wl_object *object)
-{
-	/* An object that was never made has id 0, and is refused as one that is gone. */
-	return object ? waywire_of(((const struct wl_proxy *)(const void *)object)->handle)
-		: waywire_no_object();
-}
-
-static waywire_arg array_argument(const struct wl_array *array)
-{
-	return array ? waywire_array(array->data, array->size) : waywire_array(NULL, 0);
-}
-
-/* Converts an argument to the client's form. Returns 0, or an errno: EINVAL for null if that is not allowed,
- * else why a descriptor cannot be duplicated. */
-static int convert_argument(char letter, bool nullable, const union wl_argument *arg,
-	waywire_arg *out)
-{
-	switch (letter) {
-	case 'i':
-		*out = waywire_int(arg->i);
-		return 0;
-	case 'u':
-		*out = waywire_uint(arg->u);
-		return 0;
-	case 'f':
-		*out = waywire_fixed(arg->f);
-		return 0;
-	case 'n':
-		*out = waywire_new();
-		return 0;
-	case 'h':
-		*out = waywire_fd((uint32_t)duplicate(arg->h));
-		return (int)out->u < 0 ? errno : 0;
-	case 's':
-		*out = waywire_string(arg->s);
-		break;
-	case 'o':
-		*out = object_argument(arg->o);
-		break;
-	case 'a':
-		*out = array_argument(arg->a);
-		break;
-	}
-	return arg->s || nullable ? 0 : EINVAL; /* each of these three is a pointer */
-}
-
-/* Converts the arguments of a request to the client's form. Returns 0, or an errno. */
-static int convert(const struct request *request, waywire_arg out[WAYWIRE_MAX_ARGS])
-{
-	const struct signature *signature = request->signature;
-	for (size_t i = 0; i < signature->count; i++) {
-		int error = convert_argument(signature->letters[i], signature->nullable[i],
-			&request->args[i], &out[i]);
-		if (error) {
-			close_duplicates(out, i);
-			return error;
-		}
-	}
-	return 0;
+	return ((const struct wl_proxy *)(const void *)object)->handle;
 }
 
 /* ---- writing */
+
+/* Writes a request whose arguments are numbers alone, if there is room. */
+static waywire_status write_words(const struct request *request)
+{
+	const struct wl_proxy *proxy = request->proxy;
+	size_t count = request->signature->count;
+	uint32_t words[WAYWIRE_MAX_ARGS];
+	for (size_t i = 0; i < count; i++)
+		words[i] = request->args[i].u;
+	return waywire_end_send_words(proxy->display->client.end, proxy->handle, (uint16_t)request->opcode,
+		words, count, NULL);
+}
 
 /* Writes a request to the outbox, if there is room. */
 static waywire_status write_once(const struct request *request, const waywire_arg *args,
@@ -234,6 +175,8 @@ static waywire_status write_once(const struct request *request, const waywire_ar
 	const struct wl_proxy *proxy = request->proxy;
 	waywire_client client = proxy->display->client;
 	const union wl_argument *given = request->args;
+	if (request->signature->is_of_numbers)
+		return write_words(request);
 	if (!request->is_bind)
 		return waywire_end_send(client.end, proxy->handle, (uint16_t)request->opcode, args,
 			request->signature->count, made, NULL);
@@ -258,10 +201,12 @@ static void print_request(const struct request *request, const waywire_arg *args
 {
 	union wl_argument printed_args[WAYWIRE_MAX_ARGS];
 	struct printed_message printed = { &request->proxy->object, request->message, printed_args,
-		made, true, false };
+		false, true, false };
 	for (size_t i = 0; i < request->signature->count; i++)
 		if (request->signature->letters[i] == 'h')
 			printed_args[i].h = (int32_t)args[i].u;
+		else if (request->signature->letters[i] == 'n')
+			printed_args[i].n = made;
 		else
 			printed_args[i] = request->args[i];
 	log_message(&printed);
@@ -272,15 +217,19 @@ static void send_request(const struct request *request)
 {
 	waywire_arg args[WAYWIRE_MAX_ARGS];
 	waywire_object made = { 0, 0 };
+	bool is_of_numbers = request->signature->is_of_numbers; /* these are written as they are */
+	size_t index;
 	if (request->made && !can_be_made(request))
 		return;
-	int error = convert(request, args);
+	int error = is_of_numbers ? 0
+		: arguments_convert(request->signature, request->args, handle_of, args, &index);
 	if (error) {
 		refuse(request, error, "an argument cannot be sent");
 		return;
 	}
 	if (!write_request(request, args, &made)) {
-		close_duplicates(args, request->signature->count);
+		if (!is_of_numbers)
+			arguments_close(args, request->signature->count);
 		return;
 	}
 	if (request->made)
@@ -332,35 +281,6 @@ static struct wl_proxy *make_request(struct request *request, const struct wl_in
 	return interface ? request->made : NULL;
 }
 
-/* Reads the arguments that follow a call's last one. */
-static void read_arguments(const struct signature *signature, union wl_argument *args,
-	va_list given)
-{
-	for (size_t i = 0; i < signature->count; i++) {
-		union wl_argument *arg = &args[i];
-		switch (signature->letters[i]) {
-		case 'i':
-		case 'f':
-		case 'h':
-			arg->i = va_arg(given, int32_t);
-			break;
-		case 'u':
-			arg->u = va_arg(given, uint32_t);
-			break;
-		case 's':
-			arg->s = va_arg(given, const char *);
-			break;
-		case 'o':
-		case 'n':
-			arg->o = va_arg(given, struct wl_object *);
-			break;
-		case 'a':
-			arg->a = va_arg(given, struct wl_array *);
-			break;
-		}
-	}
-}
-
 EXPORT struct wl_proxy *wl_proxy_marshal_array_flags(struct wl_proxy *proxy, uint32_t opcode,
 	const struct wl_interface *interface, uint32_t version, uint32_t flags,
 	union wl_argument *args)
@@ -395,7 +315,7 @@ static struct wl_proxy *make_listed(struct wl_proxy *proxy, uint32_t opcode,
 	struct request request;
 	union wl_argument args[WAYWIRE_MAX_ARGS];
 	begin_request(&request, proxy, opcode);
-	read_arguments(request.signature, args, given);
+	arguments_read(request.signature, args, given);
 	return make_request(&request, interface, version, flags, args);
 }
 
