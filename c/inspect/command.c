@@ -15,7 +15,7 @@
 /* How many the tool and one client have open besides. */
 #define ALWAYS_OPEN 16
 
-volatile sig_atomic_t stopped_by, was_typed, child_ended;
+volatile sig_atomic_t stopped_by, was_typed, child_ended, is_to_go_on;
 
 /* ---- signals */
 
@@ -50,6 +50,21 @@ void take_signals(sigset_t *before)
 	print_waits_with(&while_printing);
 	signal(SIGCHLD, on_child);
 	signal(SIGPIPE, SIG_IGN);
+}
+
+static void on_going_on(int number)
+{
+	(void)number;
+	is_to_go_on = 1;
+}
+
+void take_going_on(void)
+{
+	sigset_t blocked;
+	sigemptyset(&blocked);
+	sigaddset(&blocked, SIGUSR1);
+	signal(SIGUSR1, on_going_on);
+	sigprocmask(SIG_BLOCK, &blocked, NULL);
 }
 
 /* ---- the command */

@@ -99,12 +99,15 @@ static void take_apart(const struct follower *follower, struct message *message,
 {
 	waywire_decoded decoded;
 	waywire_sender sender = (waywire_sender)message->from;
-	message->status = waywire_inspector_decode(follower->inspector, sender, followed, &decoded);
+	message->status = message->shown = waywire_inspector_decode(follower->inspector, sender, followed, &decoded);
 	if (message->status == WAYWIRE_NOT_FOUND)
 		return;
-	if (!waywire_tables_message(follower->tables, message->target.interface, sender, message->opcode,
-			&message->signature, &message->name.bytes, &message->name.length)
-		&& message->status != WAYWIRE_FAULT_BAD_SIZE)
+	bool has_name = !waywire_tables_message(follower->tables, message->target.interface, sender, message->opcode,
+		&message->signature, &message->name.bytes, &message->name.length);
+	if (has_name && message->status == WAYWIRE_FAULT_UNKNOWN_MESSAGE)
+		message->shown = waywire_tables_decode(follower->tables, message->target.interface, UINT32_MAX, sender,
+			message->bytes, message->length, &decoded);
+	if (has_name && message->status != WAYWIRE_FAULT_BAD_SIZE)
 		message->arg_count = decoded.arg_count;
 	for (size_t i = 0; i < message->arg_count; i++)
 		read_argument(follower, message, i, &decoded);
@@ -133,11 +136,18 @@ bool read_message(const struct follower *follower, int from, struct message *mes
 	if (waywire_inspector_ahead(follower->inspector, (waywire_sender)from, &followed))
 		return false;
 	const struct given *before = &follower->before;
-	*message = (struct message){ .from = from, .number = followed.number - before->count,
-		.index = followed.index - before->counts[from], .offset = followed.offset - before->bytes[from],
-		.piece = follower->piece_count, .seconds = follower->seconds,
-		.size = followed.size, .bytes = followed.bytes, .length = followed.length,
-		.opcode = followed.opcode, .bound = WAYWIRE_ANY_INTERFACE };
+	memset(message, 0, offsetof(struct message, args));
+	message->from = from;
+	message->number = followed.number - before->count;
+	message->index = followed.index - before->counts[from];
+	message->offset = followed.offset - before->bytes[from];
+	message->piece = follower->piece_count;
+	message->seconds = follower->seconds;
+	message->size = followed.size;
+	message->bytes = followed.bytes;
+	message->length = followed.length;
+	message->opcode = followed.opcode;
+	message->bound = WAYWIRE_ANY_INTERFACE;
 	message->is_bad_size = message->size < 8 || message->size % 4 || message->size > follower->limit;
 	message->target = object_as(follower, followed.target, &followed.object);
 	take_apart(follower, message, &followed);

@@ -28,12 +28,15 @@ struct object {
 
 /* ---- messages */
 
+struct closed;
+
 /* What the values of an argument mean (names.c). */
 struct meaning {
 	struct name enumeration; /* such as wl_shm.format; none if it has none */
 	const char *entries;     /* values and names, with spaces between; null if they are not known */
 	bool is_bitfield;
 	bool is_numbers;         /* an array of 32-bit numbers */
+	bool is_unknown;         /* an array whose bytes are not known */
 };
 
 struct argument {
@@ -41,6 +44,7 @@ struct argument {
 	struct object object; /* the object that it names, as before the message, or that it makes */
 	uint64_t descriptor;  /* the number of a descriptor in its direction; 0 if that is not known */
 	struct name name;
+	bool is_plain;        /* the name stands in JSON as it is */
 	struct meaning meaning;
 };
 
@@ -60,13 +64,17 @@ struct message {
 	struct name name;         /* none if the tables have no such message */
 	waywire_message signature;
 	waywire_status status;    /* of decoding it */
-	size_t arg_count;
-	struct argument args[WAYWIRE_MAX_ARGS];
+	waywire_status shown;     /* the same, but a message that is newer than its object is decoded too */
 	uint16_t bound;           /* of wl_registry.bind: the index of the interface */
 	struct object made, destroyed, freed; /* with id 0 if there is none */
 	size_t descriptor_count;
 	uint64_t answers;          /* the number of the message that it answers; 0 if there is none */
+	const struct closed *closed; /* the questions that end with it */
+	size_t closed_count;
+	bool is_kept;              /* a commit that waits for the one of a parent */
 	bool is_judged;
+	size_t arg_count;
+	struct argument args[WAYWIRE_MAX_ARGS]; /* so many of them are there */
 };
 
 /* What the library's inspector was given before the first message of the session (reopen.c). */

@@ -8,6 +8,7 @@
 #define INSPECT_H
 
 #include "judge.h"
+#include "pieces.h"
 
 #include <poll.h>
 #include <signal.h>
@@ -18,8 +19,12 @@
 #define PIECE_BYTES 65536
 /* The kernel passes at most this number of descriptors at once. */
 #define PIECE_DESCRIPTORS 253
+/* After how many milliseconds something is tried again that could not be done. */
+#define SOON 20
 /* The exit status if nothing could be inspected. */
 #define NOTHING_INSPECTED 125
+/* The exit status if --strict refuses a session that is not broken. */
+#define NOT_STRICT 123
 
 /* What a line begins with. */
 enum front { TIME_NONE, TIME_SINCE, TIME_DELTA, TIME_CLOCK };
@@ -31,18 +36,29 @@ struct options {
 	uint32_t limit;
 	const char *record;  /* null if nothing is recorded */
 	int record_last;     /* also keep the last part of a long session */
+	off_t record_limit;  /* the most bytes of a recording; 0 if there is no limit */
 	const char *read;    /* the recording that is read; null if there is none */
+	int follow;          /* at the end of the recording, wait for more */
+	const char *debug_log; /* the log of WAYLAND_DEBUG that is read; null if there is none */
 	const char *output;  /* null if it is standard output */
 	const char *picture; /* null if none is made */
-	struct filter only, except;
+	const char *filters_file; /* with lines of filters; null if there is none */
+	struct shown *shown; /* as it is now: that file may change it (filter_lines.c) */
 	enum front time;
-	int json, stats, stop_when_broken, verbose;
+	int json, stats, strict, stop_when_broken, verbose;
+	struct fault_lines faults;
+	struct filter stop;      /* the messages at which both sides stop */
+	const char *faults_file; /* with lines of faults; null if there is none */
 	int no_names; /* lines without the names of values */
+	double late;  /* what has waited for so many seconds is said to wait, and refused by --strict; 0 if nothing is */
 	bool colour;
 	char **command; /* ends with a null; null if there is none */
 };
 
 /* ---- what is said (output.c) */
+
+/* The tool's name, which its main defines: waywire-replay has these files in it too. */
+extern const char tool_name[];
 
 /* Writes a line to standard error, after the tool's name. */
 void notice(const char *format, ...) __attribute__((format(printf, 1, 2)));
@@ -50,8 +66,15 @@ void notice(const char *format, ...) __attribute__((format(printf, 1, 2)));
 /* Writes a line to standard error, and ends the tool with the status for nothing inspected. */
 void fail(const char *format, ...) __attribute__((format(printf, 1, 2), noreturn));
 
-/* From now on, output goes to a file. Ends the tool if that fails. */
+/* From now on, output goes to a file, which is emptied when the first line comes. Ends the tool if it cannot be
+ * opened. */
 void print_to(const char *path);
+
+/* As `print_to`, but the file stays as it was until `print_end`. */
+void print_whole_to(const char *path);
+
+/* Ends the output: what was printed is in the file. */
+void print_end(void);
 
 /* Whether it goes to a terminal. */
 bool prints_to_terminal(void);
@@ -71,6 +94,44 @@ void print_waits_with(const sigset_t *signals);
 
 /* From now on, standard output is waited for at most a second. */
 void print_briefly(void);
+
+/* ---- the lines of --filters (filter_lines.c) */
+
+/* Reads the file of --filters, if there is one. Ends the tool if it has a bad line. */
+void filters_begin(const struct options *options, const waywire_tables *tables);
+
+/* Reads it again if it has changed since. If it has a bad line, all is printed that was, and a line says so. */
+void filters_look(const struct options *options, const waywire_tables *tables);
+
+/* How often it is looked at, in milliseconds; -1 if there is none. */
+int filters_due(const struct options *options);
+
+void filters_free(const struct options *options);
+
+/* ---- what is read and what is written (files.c) */
+
+/* Ends the tool if a file would be read and written, or written twice. */
+void check_files(const struct options *options);
+
+/* Whether a path leads to a file that is read. */
+bool is_input(const struct options *options, const char *path);
+
+/* A file that is written beside its target, which it replaces once it is whole. A pipe or a device is written as it
+ * is. */
+struct replacement {
+	int file;     /* -1 if none is open */
+	char *target;
+	char *path;   /* null if the target is written as it is */
+};
+
+/* Begins one. False with errno set if that fails. */
+bool replacement_open(struct replacement *made, const char *path);
+
+/* Replaces the target. False with errno set if that fails; then it is as it was. */
+bool replacement_end(struct replacement *made);
+
+/* Leaves the target as it was. */
+void replacement_drop(struct replacement *made);
 
 /* ---- where things are (folders.c) */
 
@@ -100,6 +161,12 @@ void known_read(struct known *known, const struct options *options);
 
 void known_free(struct known *known);
 
+/* Whether a message that the tables lack was left out of them because no text can hold it; then its name (unheld.c). */
+bool is_unheld(const struct known *known, const struct message *message, struct name *name);
+
+/* Whether an event ends objects of an interface, though no text can hold that (unheld.c). */
+bool is_ended_unmarked(const struct known *known, struct name interface);
+
 /* A table text. */
 struct source {
 	char *path;
@@ -108,7 +175,7 @@ struct source {
 	bool is_given; /* by --tables */
 };
 
-/* The longest file that `waywire` reads. */
+/* The longest file that `waywire` reads, and the longest line of a recording. */
 #define LONGEST_FILE 16777216
 
 /* Adds a file to a text, but stops once the text is longer than LONGEST_FILE. False with errno set if that fails. */
@@ -146,6 +213,9 @@ void source_without(struct source *source, const struct source *other);
 
 /* Whether a file is a protocol's XML, by its name. */
 bool is_xml(const char *path);
+
+/* Finds the path of the names beside a table text; false if its name does not end with .tables. */
+bool find_names_beside(char *path, size_t size, const char *tables);
 
 /* Reads the names that stand beside the files of --tables. From now on messages get names; those that are installed
  * are read with the first (names.c). */
@@ -197,6 +267,9 @@ double moment_now(void);
 /* Whether a file can be written. Leaves it as it is, and reports it if it cannot be. */
 bool can_write(const char *path);
 
+/* The same of a recording and its tables. */
+bool can_record(const char *path);
+
 /* Begins the recording of a client: the file of --record, followed by `.2` for the second client, and so on. With the
  * first it also writes the tables. If that fails, it is reported, and nothing is recorded. */
 void recording_begin(struct recording *recording, const struct options *options, const struct known *known,
@@ -215,8 +288,14 @@ struct recorded {
  * on in a second file; `follower` is what the session has come to, null if it is not followed any more. */
 void recording_add(struct recording *recording, const struct follower *follower, const struct recorded *piece);
 
+/* Adds a fault that was done. */
+void recording_add_fault(struct recording *recording, const struct fault_done *done);
+
 /* Ends the recording with the time at which the session ended. */
 void recording_end(struct recording *recording, double seconds);
+
+/* Writes all; false with errno set. */
+bool write_whole(int file, const char *text, size_t length);
 
 /* The file of --record for a client, to be freed; null if memory runs out. */
 char *numbered(const char *path, unsigned number);
@@ -226,6 +305,9 @@ char *numbered(const char *path, unsigned number);
 /* Puts the comments at its head: its time, the objects that there are, and the fronts of messages that are not
  * whole, of each direction. */
 void part_put(struct text *text, const struct follower *follower, const struct text fronts[2], double seconds);
+
+/* Makes the objects known that comments of a text name, if there are any. To be called before any message. */
+void part_reopen(struct judging *judging, char *text, size_t length);
 
 /* Takes these comments from a text. What follows is not judged, which is said. */
 void part_read(struct judging *judging, char *text, size_t length, double seconds);
@@ -257,21 +339,50 @@ void reopen_end(struct reopening *reopening);
 
 /* ---- a recording that is read (read.c) */
 
+/* Puts the texts of the folders of --tables in place of these. Ends the tool if a folder has none (texts.c). Returns the
+ * paths, which end with a null and are to be freed. */
+char **tables_of_folders(struct options *options);
+
 /* Uses the tables beside the recording, unless --tables names others. Returns their path, to be freed. */
 char *tables_beside(struct options *options);
 
 /* Notes each comment of a text, from behind its `#` up to a NUL that stands in place of its end for that long. */
 void each_comment(char *text, size_t length, void (*note)(void *to, const char *comment), void *to);
 
+/* Which client a recording is, and whether there are others. */
+struct numbered {
+	unsigned number;
+	bool has_others;
+};
+
 /* Reads the recording of --read. Returns the exit status. */
-int read_recording(const struct options *options, const struct known *known);
+int read_recording(const struct options *options, const struct known *known, const struct numbered *which);
+
+/* ---- a log of WAYLAND_DEBUG (debug_log.c) */
+
+/* Reads the log of --read-debug. Returns the exit status. */
+int read_debug_log(const struct options *options, const struct known *known);
+
+/* Begins to judge what was made of a log, by the comments before its first piece. Of any other recording nothing is
+ * noted. */
+void log_begin(struct judging *judging, char *text, size_t length);
+
+/* Notes a later comment. */
+void log_comment(struct judging *judging, const char *comment);
+
+/* What the arrays of a message hold is not known. */
+void log_hide_arrays(struct message *message);
+
+/* Puts the verdict as far as the log shows it. `verdict` is that of the recording. */
+void log_put_lawful(const struct judging *judging, struct text *words);
+void log_put_broken(struct text *words, const char *verdict, size_t length);
 
 /* ---- a picture (picture.c) */
 
-/* Prepares --picture: unless --record names a file, a recording is made in a folder of its own. */
+/* Prepares --picture and --read-debug: unless --record names a file, a recording is made in a folder of its own. */
 void picture_begin(struct options *options);
 
-/* Makes the pages of the recordings of so many clients. */
+/* Makes the pages of the recordings of so many clients, if pages are asked for. */
 void picture_end(const struct options *options, unsigned client_count);
 
 /* ---- sockets (sockets.c) */
@@ -320,6 +431,29 @@ bool way_waits(const struct way *way);
 /* Closes the descriptors that wait; those that were sent are the target's own. */
 void way_close_descriptors(struct way *way);
 
+/* ---- whether a side reads (unread.c) */
+
+struct reader {
+	int side, socket;
+	double look;  /* when it is looked at again; -1 if all that was written was read */
+	double since; /* it has read nothing since then; -1 if that is not known */
+	double longest; /* for how long it was seen to read nothing, at most */
+	int unread;   /* how much, as the kernel counts it */
+	bool is_said; /* that it reads nothing */
+};
+
+void reader_begin(struct reader *reader, int side, int socket);
+
+/* To be called around each write to the side. */
+void reader_before_write(struct reader *reader, const struct printer *printer, double now);
+void reader_after_write(struct reader *reader, const struct printer *printer, double now, size_t written);
+
+/* Prints it if the side has read nothing for too long. To be called when it is to be looked at. */
+void reader_look(struct reader *reader, const struct printer *printer, double now);
+
+/* Prints it if the side has read nothing for a while when its session ends. */
+void reader_end(struct reader *reader, const struct printer *printer, double now);
+
 /* ---- a session (session.c) */
 
 struct session {
@@ -330,8 +464,12 @@ struct session {
 	int sockets[2];
 	struct way ways[2];
 	double connected; /* in seconds after the first client */
+	uint64_t descriptors[2];   /* that have come from each side */
+	struct reader readers[2];  /* by side */
+	struct moment moment;      /* when it was looked at last, for what has waited too long */
 	struct judging judging;
 	struct recording recording;
+	struct faults *faults;     /* null if there are none */
 };
 
 /* What all sessions share. */
@@ -343,7 +481,8 @@ struct shared {
 	sigset_t while_waiting; /* the signals that are blocked while the tool waits */
 	pid_t command;          /* the process of the command; 0 if there is none */
 	unsigned session_count; /* how many were begun */
-	bool is_stopping, any_has_failed;
+	uint64_t message_count; /* of the sessions that have ended */
+	bool is_stopping, any_has_failed, any_is_refused;
 };
 
 /* Begins the session of a client, and takes over its sockets. Null if memory runs out. */
@@ -351,6 +490,12 @@ struct session *session_new(struct shared *shared, int client, int compositor);
 
 /* What a session waits for at its two sockets. True if it is to be stepped soon in any case. */
 bool session_wants(const struct session *session, struct pollfd *polled);
+
+/* In how many milliseconds something may have waited too long; -1 if nothing waits. */
+int session_due(const struct session *session, const struct shared *shared);
+
+/* Prints what has waited too long. `polled` is what the sockets are ready for. */
+void session_waits(struct session *session, const struct shared *shared, const struct pollfd *polled);
 
 /* Moves what can be moved without waiting. */
 void session_step(struct session *session, struct shared *shared, const struct pollfd *polled);
@@ -366,10 +511,30 @@ int run(const struct options *options, const struct known *known);
 /* ---- the command and its signals (command.c) */
 
 /* The signals that came since they were last checked. */
-extern volatile sig_atomic_t stopped_by, was_typed, child_ended;
+extern volatile sig_atomic_t stopped_by, was_typed, child_ended, is_to_go_on;
 
 /* Blocks the signals that the tool waits for, and sets their handlers. `before` gets those that were blocked. */
 void take_signals(sigset_t *before);
+
+/* Takes the signal with which what --stop-at stopped goes on. To be called after the others were taken. */
+void take_going_on(void);
+
+/* ---- a key that goes on (terminal.c) */
+
+/* Opens the terminal at which the tool was started, if there is one. To be called after take_going_on. */
+void terminal_open(void);
+
+/* The terminal, if Enter can be typed for the tool there; -1 if not, as while the tool is in the background. */
+int terminal_polled(void);
+
+/* Whether the tool has a terminal, where that may change. */
+bool terminal_is_there(void);
+
+/* Drops what was typed so far. */
+void terminal_drop(void);
+
+/* Takes what was typed. False if nothing was. */
+bool terminal_was_typed(void);
 
 /* Starts the command with the tool's socket as its WAYLAND_DISPLAY. If `is_aside`, its standard output goes to standard
  * error. Returns the result of posix_spawnp. */

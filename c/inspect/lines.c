@@ -7,7 +7,8 @@
 void put_object(struct text *text, const struct object *object)
 {
 	text_put_name(text, object->name);
-	text_format(text, "@%" PRIu32, object->id);
+	text_add(text, "@");
+	text_number(text, object->id);
 }
 
 static void put_fixed(struct text *text, int32_t parts)
@@ -27,8 +28,8 @@ void put_printed_argument(struct text *text, const struct argument *argument)
 {
 	const waywire_arg *value = &argument->value;
 	switch (value->kind) {
-	case WAYWIRE_INT: text_format(text, "%" PRId32, value->i); break;
-	case WAYWIRE_UINT: text_format(text, "%" PRIu32, value->u); break;
+	case WAYWIRE_INT: text_signed(text, value->i); break;
+	case WAYWIRE_UINT: text_number(text, value->u); break;
 	case WAYWIRE_FIXED: put_fixed(text, value->i); break;
 	case WAYWIRE_STRING: text_put_quoted(text, value->bytes, value->length); break;
 	case WAYWIRE_OBJECT: put_object(text, &argument->object); break;
@@ -50,8 +51,8 @@ void put_printed_argument(struct text *text, const struct argument *argument)
 /* Whether a message could be decoded, at least in part. */
 static bool has_arguments(const struct message *message)
 {
-	return message->name.bytes && message->status != WAYWIRE_FAULT_UNKNOWN_MESSAGE
-		&& message->status != WAYWIRE_FAULT_BAD_SIZE;
+	return message->name.bytes && message->shown != WAYWIRE_FAULT_UNKNOWN_MESSAGE
+		&& message->shown != WAYWIRE_FAULT_BAD_SIZE;
 }
 
 void put_front_of_message(struct text *text, const struct message *message)
@@ -76,7 +77,7 @@ void put_message(struct text *text, const struct message *message)
 		text_add(text, i ? ", " : "");
 		put_printed_argument(text, &message->args[i]);
 	}
-	if (message->status)
+	if (message->shown)
 		text_add(text, message->arg_count ? ", .." : "..");
 	text_add(text, ")");
 }

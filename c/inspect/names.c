@@ -6,8 +6,9 @@
 #include <limits.h>
 #include <stdio.h>
 
-/* For how many messages the line is cached. */
-#define KEPT 1024
+/* For so many messages the names are kept: a power of two. */
+#define KEPT_BITS 10
+#define KEPT (1 << KEPT_BITS)
 
 /* Lines as tools/waywire/protocol_names.py makes them, each ended by a NUL, and where each begins, in order. */
 struct lines {
@@ -19,10 +20,18 @@ struct lines {
 static struct lines given, installed;
 static bool is_wanted, is_installed_read;
 
-/* The line of a message, by its interface's index, its sender and its opcode. */
+/* What an argument is called, and what its values mean. */
+struct called {
+	struct name name;
+	bool is_plain;
+	struct meaning meaning;
+};
+
+/* The arguments of a message, by its interface's index, its sender and its opcode. */
 static struct kept {
-	uint64_t key; /* 0 if nothing is kept */
-	const char *names;
+	uint64_t key;          /* 0 if nothing is kept */
+	struct called *called; /* null if their names are not known */
+	size_t count;
 } kept[KEPT];
 
 /* ---- files */
@@ -75,17 +84,21 @@ static void add_xml(struct lines *lines, const struct options *options)
 	free(words);
 }
 
+bool find_names_beside(char *path, size_t size, const char *tables)
+{
+	const char *end = strrchr(tables, '.');
+	return end && !strcmp(end, ".tables")
+		&& snprintf(path, size, "%.*s.names", (int)(end - tables), tables) < (int)size;
+}
+
 void names_read(const struct options *options)
 {
 	char path[PATH_MAX];
 	is_wanted = true;
 	add_xml(&given, options);
-	for (size_t i = 0; i < options->table_count; i++) {
-		const char *name = options->tables[i], *end = strrchr(name, '.');
-		if (end && !strcmp(end, ".tables")
-			&& snprintf(path, sizeof path, "%.*s.names", (int)(end - name), name) < (int)sizeof path)
+	for (size_t i = 0; i < options->table_count; i++)
+		if (find_names_beside(path, sizeof path, options->tables[i]))
 			add_file(&given, path);
-	}
 	sort_lines(&given);
 }
 
@@ -117,6 +130,8 @@ void names_free(void)
 {
 	free_lines(&given);
 	free_lines(&installed);
+	for (size_t i = 0; i < KEPT; i++)
+		free(kept[i].called);
 	memset(kept, 0, sizeof kept);
 	is_wanted = is_installed_read = false;
 }
@@ -164,15 +179,6 @@ static const char *find_names(const struct message *message)
 	return count == message->signature.arg_count ? names : NULL;
 }
 
-static const char *names_of(const struct message *message)
-{
-	uint64_t key = ((uint64_t)message->target.interface << 17 | (uint64_t)message->from << 16 | message->opcode) + 1;
-	struct kept *its = &kept[key % KEPT];
-	if (its->key != key)
-		*its = (struct kept){ key, find_names(message) };
-	return its->names;
-}
-
 /* What the values of an enum mean, which is named `interface.enum`. */
 static struct meaning meaning_of(struct name name)
 {
@@ -194,6 +200,36 @@ static struct meaning meaning_of(struct name name)
 	return meaning;
 }
 
+/* Takes the line of a message apart. */
+static void take_names(struct kept *its, const struct message *message, const char *names)
+{
+	size_t count = message->signature.arg_count;
+	struct called *called = names && count ? calloc(count, sizeof *called) : NULL;
+	for (size_t i = 0; called && i < count; i++) {
+		size_t length = strcspn(names, " ");
+		const char *colon = memchr(names, ':', length);
+		called[i].name = (struct name){ names, colon ? (size_t)(colon - names) : length };
+		called[i].is_plain = plain_length((const unsigned char *)names, called[i].name.length) == called[i].name.length;
+		if (colon)
+			called[i].meaning = meaning_of((struct name){ colon + 1, length - called[i].name.length - 1 });
+		names += length + (names[length] == ' ');
+	}
+	its->called = called;
+	its->count = called ? count : 0;
+}
+
+static const struct kept *names_of(const struct message *message)
+{
+	uint64_t key = ((uint64_t)message->target.interface << 17 | (uint64_t)message->from << 16 | message->opcode) + 1;
+	struct kept *its = &kept[key * 0x9e3779b97f4a7c15u >> (64 - KEPT_BITS)];
+	if (its->key == key)
+		return its;
+	free(its->called);
+	its->key = key;
+	take_names(its, message, find_names(message));
+	return its;
+}
+
 /* The code of a wl_display.error is of the enum `error` of the object's interface. */
 static void name_code(struct message *message)
 {
@@ -211,15 +247,11 @@ void name_arguments(struct message *message)
 {
 	if (!is_wanted || !message->name.bytes || !message->target.name.bytes)
 		return;
-	const char *names = names_of(message);
-	for (size_t i = 0; names && i < message->arg_count; i++) {
-		struct argument *argument = &message->args[i];
-		size_t length = strcspn(names, " ");
-		const char *colon = memchr(names, ':', length);
-		argument->name = (struct name){ names, colon ? (size_t)(colon - names) : length };
-		if (colon)
-			argument->meaning = meaning_of((struct name){ colon + 1, length - argument->name.length - 1 });
-		names += length + (names[length] == ' ');
+	const struct kept *its = names_of(message);
+	for (size_t i = 0; i < its->count && i < message->arg_count; i++) {
+		message->args[i].name = its->called[i].name;
+		message->args[i].is_plain = its->called[i].is_plain;
+		message->args[i].meaning = its->called[i].meaning;
 	}
 	if (is_error(message) && message->arg_count == 3)
 		name_code(message);

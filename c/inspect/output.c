@@ -8,6 +8,7 @@
 #include <stdarg.h>
 #include <stdio.h>
 #include <stdlib.h>
+#include <sys/stat.h>
 #include <unistd.h>
 
 /* A pipe that accepts anything accepts this much at once. */
@@ -17,14 +18,16 @@
 static char waiting[MOST_AT_ONCE];
 static size_t waiting_length;
 static bool is_closed, is_brief;
+static bool is_old; /* the output still has what was in the file before */
 static int output = STDOUT_FILENO;
+static struct replacement replacement = { .file = -1 };
 static const char *output_name = "standard output";
 static sigset_t signals_while_waiting;
 
 static void notice_with(const char *format, va_list words)
 {
-	char line[1024] = "waywire-inspect: ";
-	size_t length = strlen(line);
+	char line[1024];
+	size_t length = (size_t)snprintf(line, sizeof line, "%s: ", tool_name);
 	vsnprintf(line + length, sizeof line - length - 1, format, words);
 	length = strlen(line);
 	line[length++] = '\n';
@@ -60,9 +63,20 @@ static bool wait_for_output(void)
 	return ready > 0;
 }
 
+/* Empties a file, if it is one. */
+static void empty_output(void)
+{
+	struct stat of;
+	if (!fstat(output, &of) && S_ISREG(of.st_mode) && ftruncate(output, 0))
+		notice("cannot empty %s: %s", output_name, strerror(errno));
+	is_old = false;
+}
+
 static void write_waiting(void)
 {
 	const char *from = waiting;
+	if (waiting_length && is_old)
+		empty_output();
 	while (waiting_length && !is_closed) {
 		ssize_t written = wait_for_output() ? write(output, from, waiting_length) : -1;
 		if (written < 0 && errno != EINTR && errno != EAGAIN) {
@@ -79,10 +93,44 @@ static void write_waiting(void)
 
 void print_to(const char *path)
 {
-	output = open(path, O_WRONLY | O_CREAT | O_TRUNC | O_CLOEXEC, 0666);
+	output = open(path, O_WRONLY | O_CREAT | O_CLOEXEC, 0666);
 	output_name = path;
+	is_old = true;
 	if (output < 0)
 		fail("cannot write %s: %s", path, strerror(errno));
+}
+
+/* Ends the tool by a signal, without the file that is not whole. */
+static void on_end(int number)
+{
+	if (replacement.path)
+		unlink(replacement.path);
+	raise(number); /* it has its usual effect again */
+}
+
+static void drop_replacement(void)
+{
+	replacement_drop(&replacement);
+}
+
+void print_whole_to(const char *path)
+{
+	static const int ending[] = { SIGINT, SIGTERM, SIGHUP };
+	struct sigaction action = { .sa_handler = on_end, .sa_flags = (int)SA_RESETHAND };
+	output_name = path;
+	if (!replacement_open(&replacement, path))
+		fail("cannot write %s: %s", path, strerror(errno));
+	output = replacement.file;
+	atexit(drop_replacement);
+	for (size_t i = 0; i < sizeof ending / sizeof *ending; i++)
+		sigaction(ending[i], &action, NULL);
+}
+
+void print_end(void)
+{
+	print_now();
+	if (replacement.file >= 0 && !is_closed && !replacement_end(&replacement))
+		notice("cannot write %s: %s", output_name, strerror(errno));
 }
 
 bool prints_to_terminal(void)

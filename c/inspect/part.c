@@ -40,7 +40,9 @@ void part_put(struct text *text, const struct follower *follower, const struct t
 {
 	size_t client_ids = waywire_inspector_id_count(follower->inspector, WAYWIRE_FROM_CLIENT);
 	size_t server_ids = waywire_inspector_id_count(follower->inspector, WAYWIRE_FROM_SERVER);
-	text_format(text, "# from %.6f\n# ids %zu %zu\n", seconds, client_ids, server_ids);
+	text_add(text, "# from ");
+	text_seconds(text, seconds);
+	text_format(text, "\n# ids %zu %zu\n", client_ids, server_ids);
 	put_known_objects(text, follower, 0, client_ids);
 	put_known_objects(text, follower, WAYWIRE_FIRST_SERVER_ID, server_ids);
 	put_pending(text, &fronts[CLIENT], '>');
@@ -128,8 +130,25 @@ static void leave_unjudged(struct judging *judging, double seconds)
 	judging->is_part = true;
 	text_add(&judging->reason, "the recording begins in the middle of its session");
 	text_format(&words, "not judged: the recording begins %.6f s after its session", seconds);
-	print_words(&judging->printer, seconds, &words, false);
+	if (!judging->is_counting)
+		print_words(&judging->printer, seconds, &words, false);
 	text_free(&words);
+}
+
+/* Reopens the objects of a text's comments. */
+static void reopen(struct part *part, char *text, size_t length)
+{
+	reopen_begin(&part->reopening, part->follower, part->client_ids, part->server_ids);
+	each_comment(text, length, take_object, part);
+	reopen_end(&part->reopening);
+}
+
+void part_reopen(struct judging *judging, char *text, size_t length)
+{
+	struct part part = { .follower = &judging->follower };
+	each_comment(text, length, take_ids, &part);
+	if (part.client_ids)
+		reopen(&part, text, length);
 }
 
 void part_read(struct judging *judging, char *text, size_t length, double seconds)
@@ -138,9 +157,7 @@ void part_read(struct judging *judging, char *text, size_t length, double second
 	if (judging->standing == LOST)
 		return;
 	each_comment(text, length, take_ids, &part);
-	reopen_begin(&part.reopening, part.follower, part.client_ids, part.server_ids);
-	each_comment(text, length, take_object, &part);
-	reopen_end(&part.reopening);
+	reopen(&part, text, length);
 	each_comment(text, length, take_pending, &part);
 	leave_unjudged(judging, seconds);
 }

@@ -13,9 +13,9 @@ static char *recorded; /* in that folder; null if --record names a file */
 void picture_begin(struct options *options)
 {
 	const char *temporary = getenv("TMPDIR");
-	if (!options->picture)
+	if (!options->picture && !options->debug_log)
 		return;
-	if (!can_write(options->picture))
+	if (options->picture && !can_write(options->picture))
 		exit(NOTHING_INSPECTED);
 	if (options->record)
 		return;
@@ -73,10 +73,9 @@ static void remove_recorded(unsigned client_count)
 void picture_end(const struct options *options, unsigned client_count)
 {
 	char tool[PATH_MAX];
-	if (!options->picture)
-		return;
-	find_tool(tool, sizeof tool, "waywire-picture");
-	for (unsigned number = 1; number <= client_count; number++)
+	if (options->picture)
+		find_tool(tool, sizeof tool, "waywire-picture");
+	for (unsigned number = 1; options->picture && number <= client_count; number++)
 		make_page(options, tool, number);
 	remove_recorded(client_count);
 }

@@ -67,6 +67,7 @@ static void put_coloured(struct text *text, const struct message *message, const
 	size_t name = ARROW + message->target.name.length;
 	if (!message->target.name.bytes || line->length < name) {
 		text_put(text, line->bytes, line->length);
+		text_add(text, "\n");
 		return;
 	}
 	text_add(text, message->from == CLIENT ? "\033[32m" : "\033[34m");
@@ -75,6 +76,7 @@ static void put_coloured(struct text *text, const struct message *message, const
 	text_put(text, line->bytes + ARROW, name - ARROW);
 	text_add(text, PLAIN);
 	text_put(text, line->bytes + name, line->length - name);
+	text_add(text, "\n");
 }
 
 /* Puts a message's line, with the known names unless --no-names is given. */
@@ -84,7 +86,7 @@ static void put_line(struct text *text, const struct printer *printer, const str
 	if (printer->options->no_names)
 		text_put(text, line->bytes, line->length);
 	else
-		put_line_with_names(text, message, line);
+		put_line_with_names(text, message, line, &printer->room->part);
 }
 
 static void print_and_free(struct text *text)
@@ -139,22 +141,26 @@ static void print_before(const struct printer *printer, double seconds, const st
 void print_message(const struct printer *printer, const struct message *message, const struct text *line,
 	const struct beside *beside)
 {
-	struct text text = { NULL, 0, 0 }, named = { NULL, 0, 0 };
-	bool is_asked = beside->is_red || beside->note || is_printed(printer->options, message);
+	struct text *text = &printer->room->whole, *named = &printer->room->named;
+	bool is_asked = beside->is_red
+		|| (!beside->is_outside && (beside->note || is_printed(printer->options->shown, message)));
 	if (is_asked && printer->options->json) {
 		json_message(printer, message, line, beside);
 	} else if (is_asked) {
-		put_front(&text, printer, message->seconds);
-		text_add(&text, beside->is_marked ? "? " : "");
-		put_line(&named, printer, message, line);
-		if (beside->is_red || !printer->options->colour)
-			put_red(&text, printer, &named, beside->is_red);
-		else {
-			put_coloured(&text, message, &named);
-			text_add(&text, "\n");
+		text->length = named->length = 0;
+		put_front(text, printer, message->seconds);
+		text_add(text, beside->is_marked ? "? " : "");
+		if (!printer->options->colour) {
+			put_line(text, printer, message, line);
+			text_add(text, "\n");
+		} else {
+			put_line(named, printer, message, line);
+			if (beside->is_red)
+				put_red(text, printer, named, true);
+			else
+				put_coloured(text, message, named);
 		}
-		text_free(&named);
-		print_and_free(&text);
+		print(text->bytes, text->length);
 		if (beside->note)
 			print_note(printer, message, beside->note);
 		if (is_error(message) && message->arg_count)

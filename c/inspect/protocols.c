@@ -1,6 +1,7 @@
 /* The XML of protocols that is installed on the system. What no table text has is converted to a text. */
 #define _GNU_SOURCE
 #include "inspect.h"
+#include "xml.h"
 
 #include <dirent.h>
 #include <errno.h>
@@ -14,7 +15,8 @@ static const char *const folders[] = {
 #define USUAL_DATA "/usr/local/share:/usr/share"
 /* The most folders within each other. */
 #define MOST_DEPTH 4
-#define SPACES " \t\r\n"
+/* What may precede a number. */
+#define SPACES " \t\n\v\f\r"
 
 /* An installed XML. */
 struct protocol {
@@ -109,61 +111,50 @@ static void declare(struct search *search, struct name name, uint32_t version, s
 	search->declared[search->declared_count++] = (struct declared){ name, version, protocol };
 }
 
-/* The value of an attribute of a tag; none if it has none. */
-static struct name attribute(const char *at, const char *end, const char *name)
-{
-	static const struct name none;
-	size_t its = strlen(name);
-	while ((at = memmem(at, (size_t)(end - at), name, its))) {
-		bool begins = strchr(SPACES, at[-1]);
-		at += its;
-		const char *is = at + strspn(at, SPACES);
-		if (!begins || *is != '=')
-			continue;
-		is += 1 + strspn(is + 1, SPACES);
-		const char *close = *is == '"' || *is == '\'' ? strchr(is + 1, *is) : NULL;
-		return close && close < end ? (struct name){ is + 1, (size_t)(close - is - 1) } : none;
-	}
-	return none;
-}
-
-/* What follows the next of these words in a tag; null if there is no such word. */
-static const char *next_tag(const char *at, const char *word, const char **end)
-{
-	while ((at = strstr(at, word))) {
-		at += strlen(word);
-		*end = strchr(at, '>');
-		if (*end && strchr(SPACES, *at))
-			return at;
-	}
-	return NULL;
-}
-
 static bool can_be_in_tables(struct name name)
 {
 	return name.length && strspn(name.bytes, "abcdefghijklmnopqrstuvwxyz0123456789_") >= name.length;
 }
 
+/* Where the text of an XML ends. */
+static char *end_of(const struct protocol *protocol)
+{
+	return protocol->text.bytes + protocol->text.length;
+}
+
 /* Whether an XML has a name that tables cannot have. */
 static bool is_malformed(const struct protocol *protocol)
 {
-	static const char *const words[] = { "<interface", "<request", "<event" };
-	const char *end;
-	for (size_t i = 0; i < sizeof words / sizeof *words; i++)
-		for (const char *at = protocol->text.bytes; (at = next_tag(at, words[i], &end));)
-			if (!can_be_in_tables(attribute(at, end, "name")))
-				return true;
+	struct tag tag;
+	for (char *at = protocol->text.bytes; xml_next(&at, end_of(protocol), &tag);) {
+		bool is_named = is_name(tag.name, "interface") || is_name(tag.name, "request") || is_name(tag.name, "event");
+		if (is_named && !can_be_in_tables(xml_attribute(&tag, "name")))
+			return true;
+	}
 	return false;
+}
+
+/* A version, as the tool for XML reads it; 0 if it is none. */
+static uint32_t version_in(struct name value)
+{
+	const char *at = value.bytes ? value.bytes + strspn(value.bytes, SPACES) : "";
+	at += *at == '+';
+	size_t digits = strspn(at, "0123456789");
+	unsigned long version = strtoul(at, NULL, 10);
+	return digits && at + digits == value.bytes + value.length && version <= INT32_MAX ? (uint32_t)version : 0;
 }
 
 static void declare_protocol(struct search *search, size_t index)
 {
-	struct protocol *protocol = &search->protocols[index];
-	const char *at = protocol->text.bytes, *end;
-	while ((at = next_tag(at, "<interface", &end))) {
-		struct name name = attribute(at, end, "name"), version = attribute(at, end, "version");
-		if (name.bytes && version.bytes)
-			declare(search, name, (uint32_t)strtoul(version.bytes, NULL, 10), index);
+	const struct protocol *protocol = &search->protocols[index];
+	struct tag tag;
+	for (char *at = protocol->text.bytes; xml_next(&at, end_of(protocol), &tag);) {
+		if (!is_name(tag.name, "interface"))
+			continue;
+		struct name name = xml_attribute(&tag, "name");
+		uint32_t version = version_in(xml_attribute(&tag, "version"));
+		if (name.bytes && version)
+			declare(search, name, version, index);
 	}
 }
 
@@ -239,9 +230,9 @@ static bool stands_beside(const struct search *search, const struct source *sour
 /* Whether an XML has an argument of an interface that a text declares. */
 static bool names_one_of(const struct protocol *protocol, const struct source *source)
 {
-	const char *at = protocol->text.bytes, *end;
-	while ((at = next_tag(at, "<arg", &end))) {
-		struct name name = attribute(at, end, "interface");
+	struct tag tag;
+	for (char *at = protocol->text.bytes; xml_next(&at, end_of(protocol), &tag);) {
+		struct name name = is_name(tag.name, "arg") ? xml_attribute(&tag, "interface") : (struct name){ NULL, 0 };
 		if (name.bytes && source_declares(source, name))
 			return true;
 	}

@@ -1,117 +1,28 @@
-/* Finds out which messages ask, and which answer.
- *
- * An object that an event ends is a question, such as a wl_callback or a wp_presentation_feedback: the message that
- * makes it asks, and that event answers. The tables say which interfaces have such an event. Messages that are
- * answered in another way are known by name: those with a serial, which the answer repeats, and `pairs`. */
+/* Keeps the questions without an answer: by what answers them, by the object that they are about, and for each kind in
+ * the order in which they began to wait. */
 #define _GNU_SOURCE
-#include "questions.h"
+#include "asking.h"
 
 #include <string.h>
 
-/* A request that events of the same object answer. */
-struct pair {
-	const char *interface;
-	const char *request; /* null if the message that makes the object is the question */
-	const char *answers[3];
-};
-
-static const struct pair pairs[] = {
-	{ "ext_image_copy_capture_frame_v1", "capture", { "ready", "failed", NULL } },
-	{ "ext_session_lock_v1", NULL, { "locked", "finished", NULL } },
-	{ "wp_drm_lease_v1", NULL, { "lease_fd", "finished", NULL } },
-	{ "xdg_activation_token_v1", "commit", { "done", NULL, NULL } },
-	{ "zkde_screencast_stream_unstable_v1", NULL, { "created", "failed", NULL } },
-	{ "zwlr_export_dmabuf_frame_v1", NULL, { "ready", "cancel", NULL } },
-	{ "zwlr_output_configuration_v1", "apply", { "succeeded", "failed", "cancelled" } },
-	{ "zwlr_output_configuration_v1", "test", { "succeeded", "failed", "cancelled" } },
-	{ "zwlr_screencopy_frame_v1", "copy", { "ready", "failed", NULL } },
-	{ "zwlr_screencopy_frame_v1", "copy_with_damage", { "ready", "failed", NULL } },
-	{ "zwp_linux_buffer_params_v1", "create", { "created", "failed", NULL } },
-};
-#define PAIR_COUNT (sizeof pairs / sizeof *pairs)
-
-/* How an interface asks and answers. */
-struct role {
-	bool is_known;
-	bool ends_by_event;        /* an event ends its objects */
-	bool has_pong, has_ack;    /* requests that repeat the serial of ping and configure */
-	const struct pair *pairs;  /* null if it has none */
-	size_t pair_count;
-};
-
-/* The questions that were put to an object, the oldest first. */
-struct target {
+/* The questions about an object, in the order in which they were asked. */
+struct subject {
 	struct question *first, *last;
 };
 
-/* ---- interfaces */
-
-static bool is_called(const struct message *message, const char *name)
+void questions_begin(struct questions *questions)
 {
-	return is_name(message->name, name);
+	*questions = (struct questions){ .seconds = -1, .look = -1, .look_at_pipes = -1 };
 }
 
-static void find_messages(struct role *role, const waywire_tables *tables, uint16_t interface, int from)
-{
-	waywire_message message;
-	struct name name;
-	for (unsigned opcode = 0; opcode <= UINT16_MAX; opcode++) {
-		if (waywire_tables_message(tables, interface, (waywire_sender)from, (uint16_t)opcode, &message, &name.bytes,
-				&name.length))
-			return;
-		role->ends_by_event |= from == COMPOSITOR && message.destroys == WAYWIRE_DESTROYS_TARGET;
-		role->has_pong |= from == CLIENT && is_name(name, "pong");
-		role->has_ack |= from == CLIENT && is_name(name, "ack_configure");
-	}
-}
-
-static void find_pairs(struct role *role, const waywire_tables *tables, uint16_t interface)
-{
-	struct name name;
-	if (waywire_tables_name(tables, interface, &name.bytes, &name.length))
-		return;
-	for (size_t i = 0; i < PAIR_COUNT; i++) {
-		if (!is_name(name, pairs[i].interface))
-			continue;
-		role->pairs = role->pairs ? role->pairs : &pairs[i];
-		role->pair_count++;
-	}
-}
-
-/* How an interface asks; not at all if the tables lack it or memory runs out. */
-static struct role role_of(struct questions *questions, const waywire_tables *tables, uint16_t interface)
-{
-	static const struct role none;
-	if (interface == WAYWIRE_ANY_INTERFACE)
-		return none;
-	if (interface >= questions->role_count) {
-		size_t count = (size_t)interface + 64;
-		struct role *roles = realloc(questions->roles, count * sizeof *roles);
-		if (!roles)
-			return none;
-		for (; questions->role_count < count; questions->role_count++)
-			roles[questions->role_count] = none;
-		questions->roles = roles;
-	}
-	struct role *role = &questions->roles[interface];
-	if (role->is_known)
-		return *role;
-	role->is_known = true;
-	find_messages(role, tables, interface, CLIENT);
-	find_messages(role, tables, interface, COMPOSITOR);
-	find_pairs(role, tables, interface);
-	return *role;
-}
-
-/* ---- questions */
+/* ---- kinds */
 
 static uint64_t kind_key(uint16_t interface, int from, uint16_t opcode)
 {
 	return (uint64_t)interface << 32 | (uint64_t)from << 16 | opcode;
 }
 
-/* The kind of a message; null if memory runs out. */
-static struct question_kind *kind_of(struct questions *questions, const struct message *message)
+struct question_kind *kind_of(struct questions *questions, const struct message *message, const char *awaited)
 {
 	uint64_t key = kind_key(message->target.interface, message->from, message->opcode);
 	struct question_kind *kind = keyed_find(&questions->kinds, key);
@@ -120,183 +31,267 @@ static struct question_kind *kind_of(struct questions *questions, const struct m
 	kind = malloc(sizeof *kind);
 	if (!kind)
 		return NULL;
-	*kind = (struct question_kind){ message->target.name, message->name, message->from, 0, 0, 0, message->seconds, 0,
-		0 };
+	*kind = (struct question_kind){ .interface = message->target.name, .message = message->name, .awaited = awaited,
+		.from = message->from, .first = message->seconds, .last_said = -1 };
 	if (keyed_put(&questions->kinds, key, kind))
 		return kind;
 	free(kind);
 	return NULL;
 }
 
-/* Removes a question. */
-static void close_question(struct questions *questions, struct question *question)
+/* The question is the newest of its kind that needs an answer. */
+static void enter_kind(struct question *question)
 {
-	struct target *target = keyed_find(&questions->targets, question->id);
-	keyed_drop(&questions->open, question->key);
-	question->kind->open--;
-	*(question->before ? &question->before->next : &target->first) = question->next;
-	*(question->next ? &question->next->before : &target->last) = question->before;
-	if (!target->first) {
-		keyed_drop(&questions->targets, question->id);
-		free(target);
-	}
-	free(question);
+	struct question_kind *kind = question->kind;
+	question->is_due = true;
+	question->older = kind->newest;
+	question->newer = NULL;
+	*(kind->newest ? &kind->newest->newer : &kind->oldest) = question;
+	kind->newest = question;
+	kind->open++;
 }
 
-/* Appends a question to those for the same object. False if memory runs out. */
-static bool add_to_target(struct questions *questions, struct question *question)
+static void leave_kind(struct question *question)
 {
-	struct target *target = keyed_find(&questions->targets, question->id);
-	if (!target) {
-		target = calloc(1, sizeof *target);
-		if (!target || !keyed_put(&questions->targets, question->id, target)) {
-			free(target);
+	struct question_kind *kind = question->kind;
+	if (!question->is_due)
+		return;
+	question->is_due = false;
+	*(question->older ? &question->older->newer : &kind->oldest) = question->newer;
+	*(question->newer ? &question->newer->older : &kind->newest) = question->older;
+	kind->open--;
+}
+
+/* ---- what they are about */
+
+/* False if memory runs out. */
+static bool enter_subject(struct questions *questions, struct question *question)
+{
+	struct subject *subject = keyed_find(&questions->about, question->about);
+	if (!question->about)
+		return true;
+	if (!subject) {
+		subject = calloc(1, sizeof *subject);
+		if (!subject || !keyed_put(&questions->about, question->about, subject)) {
+			free(subject);
 			return false;
 		}
 	}
-	question->before = target->last;
-	*(target->last ? &target->last->next : &target->first) = question;
-	target->last = question;
+	question->before = subject->last;
+	*(subject->last ? &subject->last->next : &subject->first) = question;
+	subject->last = question;
 	return true;
 }
 
-static void ask(struct questions *questions, const struct message *message, uint64_t key)
+static void leave_subject(struct questions *questions, struct question *question)
 {
-	const struct object *target = &message->target;
-	if (keyed_find(&questions->icons, target->id))
+	struct subject *subject = question->about ? keyed_find(&questions->about, question->about) : NULL;
+	if (!subject)
 		return;
-	struct question_kind *kind = kind_of(questions, message);
-	struct question *last = keyed_find(&questions->open, key);
-	if (last)
-		close_question(questions, last);
-	struct question *question = kind ? malloc(sizeof *question) : NULL;
+	*(question->before ? &question->before->next : &subject->first) = question->next;
+	*(question->next ? &question->next->before : &subject->last) = question->before;
+	if (!subject->first) {
+		keyed_drop(&questions->about, question->about);
+		free(subject);
+	}
+	question->before = question->next = NULL;
+	question->about = 0;
+}
+
+struct question *newest_about(const struct questions *questions, uint32_t id)
+{
+	const struct subject *subject = keyed_find(&questions->about, id);
+	return subject ? subject->last : NULL;
+}
+
+/* ---- what answers them */
+
+/* The newest question with a key comes first. False if memory runs out. */
+static bool enter_key(struct keyed *keyed, struct question *question)
+{
+	question->again = keyed_find(keyed, question->key);
+	return keyed_put(keyed, question->key, question);
+}
+
+static void leave_key(struct keyed *keyed, struct question *question)
+{
+	struct question *at = keyed_find(keyed, question->key);
+	if (at == question && question->again)
+		keyed_put(keyed, question->key, question->again); /* it has room */
+	else if (at == question)
+		keyed_drop(keyed, question->key);
+	while (at && at->again != question)
+		at = at->again;
+	if (at)
+		at->again = question->again;
+}
+
+static struct keyed *keyed_of(struct questions *questions, const struct question *question)
+{
+	return question->is_pipe ? &questions->pipes : &questions->open;
+}
+
+/* ---- a question */
+
+/* Nothing that begins to wait now is late before this time. */
+static void look_again(struct questions *questions, double seconds)
+{
+	if (seconds >= 0 && (questions->look < 0 || seconds < questions->look))
+		questions->look = seconds;
+}
+
+struct question *ask(struct questions *questions, const struct message *message, const struct asking *asking)
+{
+	struct question *question = asking->kind ? malloc(sizeof *question) : NULL;
 	if (!question)
+		return NULL;
+	*question = (struct question){ .kind = asking->kind, .pair = asking->pair, .key = asking->key,
+		.number = asking->number, .since = message->number, .seconds = message->seconds,
+		.id = asking->target.id, .birth = asking->target.birth, .about = asking->about, .stage = asking->stage,
+		.is_pipe = asking->is_pipe };
+	if (!enter_key(keyed_of(questions, question), question)) {
+		free(question);
+		return NULL;
+	}
+	if (!enter_subject(questions, question)) {
+		leave_key(keyed_of(questions, question), question);
+		free(question);
+		return NULL;
+	}
+	if (asking->is_due)
+		enter_kind(question);
+	look_again(questions, message->seconds);
+	return question;
+}
+
+/* What is said of a question that ends, or waits anew. */
+static struct closed closed_at(const struct question *question, double seconds)
+{
+	return (struct closed){ .kind = question->kind, .number = question->number, .since = question->since,
+		.replaced = question->replaced, .id = question->id,
+		.waited = question->seconds < 0 || seconds < 0 ? 0 : seconds - question->seconds };
+}
+
+/* Notes the question that has waited longest for an answer that it needed. */
+static void note_longest(struct questions *questions, const struct question *question, double seconds)
+{
+	struct closed closed = closed_at(question, seconds);
+	if (question->is_due && closed.waited > questions->longest.waited)
+		questions->longest = closed;
+}
+
+/* Notes that a question has ended, or needs no answer any more. */
+static void note_closed(struct questions *questions, const struct question *question, double seconds,
+	const struct closed *how)
+{
+	note_longest(questions, question, seconds);
+	if (questions->closed_count == questions->closed_room) {
+		size_t room = questions->closed_room ? 2 * questions->closed_room : 16;
+		struct closed *more = realloc(questions->closed, room * sizeof *more);
+		if (!more)
+			return;
+		questions->closed = more;
+		questions->closed_room = room;
+	}
+	struct closed *closed = &questions->closed[questions->closed_count++];
+	*closed = closed_at(question, seconds);
+	closed->is_answered = how->is_answered;
+	closed->is_open = how->is_open;
+	closed->was_said = question->kind->said == question;
+	if (!closed->was_said)
 		return;
-	*question = (struct question){ NULL, NULL, kind, key, message->number, message->seconds, target->id,
-		target->birth };
-	if (!keyed_put(&questions->open, key, question)) {
-		free(question);
-	} else if (!add_to_target(questions, question)) {
-		keyed_drop(&questions->open, key);
-		free(question);
-	} else {
-		kind->asked++;
-		kind->open++;
+	question->kind->said = NULL;
+	question->kind->last_said = seconds;
+	look_again(questions, seconds);
+}
+
+void close_question(struct questions *questions, struct question *question, double seconds, bool is_answered)
+{
+	struct question_kind *kind = question->kind;
+	double waited = closed_at(question, seconds).waited;
+	if (is_answered) {
+		kind->answered++;
+		kind->all_waits += waited;
+		kind->longest = waited > kind->longest ? waited : kind->longest;
+	}
+	note_closed(questions, question, seconds, &(struct closed){ .is_answered = is_answered });
+	surfaces_released(questions, question);
+	leave_kind(question);
+	leave_subject(questions, question);
+	leave_key(keyed_of(questions, question), question);
+	free(question);
+}
+
+void question_waits(struct questions *questions, struct question *question, const struct message *message)
+{
+	note_longest(questions, question, message->seconds);
+	leave_kind(question);
+	question->stage = WAITS;
+	question->seconds = message->seconds;
+	enter_kind(question);
+	look_again(questions, message->seconds);
+}
+
+void question_rests(struct questions *questions, struct question *question)
+{
+	note_longest(questions, question, questions->seconds);
+	if (question->kind->said == question)
+		note_closed(questions, question, questions->seconds, &(struct closed){ .is_open = true });
+	leave_kind(question);
+}
+
+void forget_about(struct questions *questions, uint32_t id)
+{
+	struct question *question;
+	while ((question = newest_about(questions, id))) {
+		if (question->key > UINT32_MAX || question->key == id) {
+			close_question(questions, question, questions->seconds, false);
+			continue;
+		}
+		question_rests(questions, question);
+		leave_subject(questions, question);
 	}
 }
 
-/* A message answers the question with this key. Returns the number of the question's message. */
-static uint64_t answer(struct questions *questions, const struct message *message, uint64_t key)
+/* ---- what waits */
+
+/* When the oldest question of a kind is late; less than 0 if there is none, or one is said to wait. */
+static double late_at(const struct question_kind *kind, double late)
 {
-	struct question *question = keyed_find(&questions->open, key);
-	if (!question)
-		return 0;
-	uint64_t number = question->number;
-	double waited = question->seconds < 0 || message->seconds < 0 ? 0 : message->seconds - question->seconds;
-	question->kind->answered++;
-	question->kind->all_waits += waited;
-	if (waited > question->kind->longest)
-		question->kind->longest = waited;
-	close_question(questions, question);
-	return number;
+	const struct question *oldest = kind->said ? NULL : kind->oldest;
+	if (!oldest || oldest->seconds < 0)
+		return -1;
+	return late + (kind->last_said > oldest->seconds ? kind->last_said : oldest->seconds);
 }
 
-/* As `answer`. Earlier questions of this kind that were put to the object need no answer any more. */
-static uint64_t answer_last(struct questions *questions, const struct message *message, uint64_t key)
+const struct question *questions_waiting(struct questions *questions, const struct moment *moment, double late)
 {
-	struct question *question = keyed_find(&questions->open, key);
-	for (struct question *earlier = question ? question->before : NULL; earlier;) {
-		struct question *before = earlier->before;
-		if (earlier->kind == question->kind)
-			close_question(questions, earlier);
-		earlier = before;
+	if (questions->look < 0 || moment->now < questions->look + late)
+		return NULL;
+	questions->look = -1;
+	for (size_t i = 0; i < questions->kinds.room; i++) {
+		struct question_kind *kind = questions->kinds.slots[i].value;
+		double at = kind ? late_at(kind, late) : -1;
+		if (at < 0)
+			continue;
+		look_again(questions, at - late);
+		if (at > (kind->oldest->is_pipe ? moment->now : moment->all_read[!kind->from]))
+			continue;
+		kind->said = kind->oldest;
+		return kind->said;
 	}
-	return answer(questions, message, key);
+	return NULL;
 }
 
-/* No question that was put to an object is answered any more. */
-static void close_target(struct questions *questions, uint32_t id)
+void questions_look_at_pipes(struct questions *questions, double now, double soon)
 {
-	struct target *target;
-	while ((target = keyed_find(&questions->targets, id)))
-		close_question(questions, target->first);
-}
-
-/* An object has ended: no answer can come for it, or for the questions that were put to it. */
-static void forget_object(struct questions *questions, uint32_t id)
-{
-	struct question *question = keyed_find(&questions->open, id);
-	if (question)
-		close_question(questions, question);
-	close_target(questions, id);
-	keyed_drop(&questions->icons, id);
-}
-
-/* ---- messages */
-
-/* The key of an object and of the serial that is the first argument of a message; 0 if it has none. */
-static uint64_t serial_key(const struct message *message)
-{
-	return message->arg_count && message->args[0].value.kind == WAYWIRE_UINT
-		? (uint64_t)message->target.id << 32 | message->args[0].value.u : 0;
-}
-
-/* A surface becomes the surface of a cursor or a drag. */
-static void note_icon(struct questions *questions, const struct message *message)
-{
-	static char is_icon;
-	size_t index = is_called(message, "set_cursor") ? 1 : is_called(message, "start_drag") ? 2 : 0;
-	const struct object *icon = index && index < message->arg_count ? &message->args[index].object : NULL;
-	if (!icon || !icon->id || icon->state != LIVE || !is_name(icon->name, "wl_surface"))
-		return;
-	if (keyed_put(&questions->icons, icon->id, &is_icon))
-		close_target(questions, icon->id);
-}
-
-static uint64_t note_request(struct questions *questions, const waywire_tables *tables,
-	const struct message *message)
-{
-	struct role role = role_of(questions, tables, message->target.interface);
-	note_icon(questions, message);
-	if (role.has_pong && is_called(message, "pong"))
-		return answer(questions, message, serial_key(message));
-	if (role.has_ack && is_called(message, "ack_configure"))
-		return answer_last(questions, message, serial_key(message));
-	for (size_t i = 0; i < role.pair_count; i++)
-		if (role.pairs[i].request && is_called(message, role.pairs[i].request))
-			ask(questions, message, message->target.id);
-	if (!message->made.id)
-		return 0;
-	role = role_of(questions, tables, message->made.interface);
-	if (role.ends_by_event || (role.pairs && !role.pairs->request))
-		ask(questions, message, message->made.id);
-	return 0;
-}
-
-static uint64_t note_event(struct questions *questions, const waywire_tables *tables,
-	const struct message *message)
-{
-	struct role role = role_of(questions, tables, message->target.interface);
-	bool has_serial = (role.has_pong && is_called(message, "ping"))
-		|| (role.has_ack && is_called(message, "configure"));
-	if (has_serial && message->target.state == LIVE && serial_key(message))
-		ask(questions, message, serial_key(message));
-	bool is_answer = message->destroyed.id;
-	for (size_t i = 0; i < (role.pairs ? 3 : 0) && role.pairs->answers[i]; i++)
-		is_answer |= is_called(message, role.pairs->answers[i]);
-	return is_answer ? answer(questions, message, message->target.id) : 0;
-}
-
-uint64_t questions_note(struct questions *questions, const waywire_tables *tables, const struct message *message)
-{
-	questions->seconds = message->seconds;
-	if (message->status || !message->name.bytes || message->target.state == UNKNOWN)
-		return 0;
-	uint64_t answered = message->from == CLIENT ? note_request(questions, tables, message)
-		: note_event(questions, tables, message);
-	if (message->destroyed.id)
-		forget_object(questions, message->destroyed.id);
-	return answered;
+	questions->closed_count = 0;
+	for (size_t i = questions->pipes.room; i-- > 0;) {
+		struct question *question = questions->pipes.count ? questions->pipes.slots[i].value : NULL;
+		if (question && !pipe_is_open((ino_t)question->key))
+			close_question(questions, question, now, true);
+	}
+	questions->look_at_pipes = questions->pipes.count ? soon : -1;
 }
 
 /* ---- the end */
@@ -308,22 +303,55 @@ static int by_number(const void *one, const void *other)
 	return first->number < second->number ? -1 : first->number > second->number;
 }
 
-const struct question **questions_open(const struct questions *questions, size_t *count)
+/* The questions of a map that need an answer, or the others. */
+static void add_open(const struct keyed *keyed, bool is_due, const struct question ***made, size_t *count)
 {
-	const struct keyed *open = &questions->open;
-	const struct question **made = open->count ? malloc(open->count * sizeof *made) : NULL;
+	for (size_t i = 0; i < keyed->room; i++) {
+		for (const struct question *it = keyed->slots[i].value; it; it = it->again) {
+			const struct question **more = it->is_due == is_due ? room_for_one(*made, *count, sizeof **made) : NULL;
+			if (!more)
+				continue;
+			*made = more;
+			more[(*count)++] = it;
+		}
+	}
+}
+
+static const struct question **all_open(const struct questions *questions, bool is_due, size_t *count)
+{
+	const struct question **made = NULL;
 	*count = 0;
-	for (size_t i = 0; made && i < open->room; i++)
-		if (open->slots[i].value)
-			made[(*count)++] = open->slots[i].value;
+	add_open(&questions->open, is_due, &made, count);
+	add_open(&questions->pipes, is_due, &made, count);
 	if (made)
 		qsort(made, *count, sizeof *made, by_number);
 	return made;
 }
 
+const struct question **questions_due(const struct questions *questions, size_t *count)
+{
+	return all_open(questions, true, count);
+}
+
+const struct question **questions_at_rest(const struct questions *questions, size_t *count)
+{
+	return all_open(questions, false, count);
+}
+
 const struct question_kind *questions_syncs(const struct questions *questions)
 {
 	return keyed_find(&questions->kinds, kind_key(0, CLIENT, 0)); /* wl_display is the first interface */
+}
+
+static void free_open(struct keyed *keyed)
+{
+	for (size_t i = 0; i < keyed->room; i++) {
+		for (struct question *it = keyed->slots[i].value, *next; it; it = next) {
+			next = it->again;
+			free(it);
+		}
+	}
+	keyed_free(keyed);
 }
 
 static void free_values(struct keyed *keyed)
@@ -335,10 +363,15 @@ static void free_values(struct keyed *keyed)
 
 void questions_free(struct questions *questions)
 {
-	free_values(&questions->open);
-	free_values(&questions->targets);
+	surfaces_free(questions);
+	free_open(&questions->open);
+	free_open(&questions->pipes);
+	free_values(&questions->about);
 	free_values(&questions->kinds);
 	keyed_free(&questions->icons);
+	free(questions->came[CLIENT].came);
+	free(questions->came[COMPOSITOR].came);
 	free(questions->roles);
-	*questions = (struct questions){ .seconds = -1 };
+	free(questions->closed);
+	questions_begin(questions);
 }

@@ -4,20 +4,33 @@
 
 #include <errno.h>
 #include <fcntl.h>
+#include <inttypes.h>
 #include <stdio.h>
 #include <sys/socket.h>
 #include <sys/stat.h>
 #include <unistd.h>
 
-/* The most bytes of a recording. */
-#define LONGEST LONGEST_FILE
 /* The most bytes of a piece beside its digits: a line with its time; an arrow, two spaces, `+`, 3 digits, a line
  * feed. */
 #define BESIDE_DIGITS 64
 /* The room for the last line, which says when the session ended, or that the recording was cut. */
 #define LAST_LINE 64
-/* At the end two parts of --record-last are joined to one recording. */
-#define LONGEST_PART (LONGEST / 2)
+
+/* The most bytes of a file; -1 if there is no limit. At the end two parts of --record-last are joined to one
+ * recording. */
+static off_t most_bytes(const struct recording *recording)
+{
+	const struct options *options = recording->options;
+	off_t most = options->record_limit ? options->record_limit : options->record_last ? LONGEST_FILE : -1;
+	return recording->parts ? most / 2 : most;
+}
+
+/* Whether so much more fits into a recording, and its last line behind it. */
+static bool has_room(const struct recording *recording, size_t length)
+{
+	off_t most = most_bytes(recording);
+	return most < 0 || recording->length + (off_t)length <= most - LAST_LINE;
+}
 
 /* ---- the client */
 
@@ -88,8 +101,7 @@ double read_moment(const char *text)
 
 /* ---- files */
 
-/* Writes all; false with errno set. */
-static bool write_whole(int file, const char *text, size_t length)
+bool write_whole(int file, const char *text, size_t length)
 {
 	while (length) {
 		ssize_t written = write(file, text, length);
@@ -103,6 +115,16 @@ static bool write_whole(int file, const char *text, size_t length)
 	return true;
 }
 
+/* Whether a path leads to a folder; then errno says so. */
+static bool is_folder(const char *path)
+{
+	struct stat of;
+	if (stat(path, &of) || !S_ISDIR(of.st_mode))
+		return false;
+	errno = EISDIR;
+	return true;
+}
+
 bool can_write(const char *path)
 {
 	int made = open(path, O_WRONLY | O_CREAT | O_EXCL | O_CLOEXEC, 0666);
@@ -111,10 +133,25 @@ bool can_write(const char *path)
 		unlink(path);
 		return true;
 	}
-	if (errno == EEXIST && !access(path, W_OK))
+	if (errno == EEXIST && !access(path, W_OK) && !is_folder(path))
 		return true;
 	notice("cannot write %s: %s", path, strerror(errno));
 	return false;
+}
+
+bool can_record(const char *path)
+{
+	struct stat of;
+	char *tables;
+	if (!can_write(path))
+		return false;
+	if (!stat(path, &of) && !S_ISREG(of.st_mode))
+		return true;
+	if (asprintf(&tables, "%s.tables", path) < 0)
+		return false;
+	bool can = can_write(tables);
+	free(tables);
+	return can;
 }
 
 char *numbered(const char *path, unsigned number)
@@ -127,16 +164,17 @@ char *numbered(const char *path, unsigned number)
 /* Writes the tables beside a recording. */
 static void write_tables(const struct options *options, const struct known *known)
 {
+	struct replacement made;
 	char *path;
 	if (asprintf(&path, "%s.tables", options->record) < 0) {
 		notice("the tables are not recorded: out of memory");
 		return;
 	}
-	int file = open(path, O_WRONLY | O_CREAT | O_TRUNC | O_CLOEXEC, 0666);
-	if (file < 0 || !write_whole(file, known->joined.bytes, known->joined.length))
+	if (!replacement_open(&made, path))
 		notice("cannot write %s: %s", path, strerror(errno));
-	if (file >= 0)
-		close(file);
+	else if (!write_whole(made.file, known->joined.bytes, known->joined.length) || !replacement_end(&made))
+		notice("cannot write %s: %s", path, strerror(errno));
+	replacement_drop(&made);
 	free(path);
 }
 
@@ -179,6 +217,8 @@ static void write_head(struct recording *recording, const struct follower *follo
 		(long)client->process, moment);
 	text_put(&head, names->bytes, names->length);
 	text_add(&head, "\n");
+	for (size_t i = 0; i < recording->options->faults.count; i++)
+		text_format(&head, "# fault %zu %s\n", i + 1, recording->options->faults.lines[i].words);
 	if (follower)
 		part_put(&head, follower, recording->fronts, seconds);
 	if (write_whole(recording->file, head.bytes, head.length))
@@ -193,6 +233,11 @@ static bool open_file(struct recording *recording, char *path)
 {
 	close_file(recording);
 	recording->path = path;
+	if (path && is_input(recording->options, path)) {
+		notice("%s is read too, and is not written over", path);
+		close_file(recording);
+		return false;
+	}
 	recording->file = path ? open(path, O_WRONLY | O_CREAT | O_TRUNC | O_CLOEXEC, 0666) : -1;
 	if (recording->file < 0) {
 		notice("cannot write %s: %s", path ? path : "a recording", strerror(errno));
@@ -239,7 +284,8 @@ void recording_begin(struct recording *recording, const struct options *options,
 static size_t lines_of(char *text, const struct recorded *piece)
 {
 	static const char digits[] = "0123456789abcdef";
-	char *at = text + sprintf(text, "# %.6f\n", piece->seconds);
+	uint64_t time = microseconds_of(piece->seconds);
+	char *at = text + sprintf(text, "# %" PRIu64 ".%06" PRIu64 "\n", time / 1000000, time % 1000000);
 	*at++ = piece->from == CLIENT ? '>' : '<';
 	*at++ = ' ';
 	for (size_t i = 0; i < piece->length; i++) {
@@ -256,7 +302,8 @@ static size_t lines_of(char *text, const struct recorded *piece)
 static bool write_last(struct recording *recording, const char *what, double seconds)
 {
 	char line[LAST_LINE];
-	int length = snprintf(line, sizeof line, "# %s %.6f\n", what, seconds);
+	uint64_t time = microseconds_of(seconds);
+	int length = snprintf(line, sizeof line, "# %s %" PRIu64 ".%06" PRIu64 "\n", what, time / 1000000, time % 1000000);
 	bool is_written = write_whole(recording->file, line, (size_t)length);
 	if (is_written)
 		recording->length += length;
@@ -272,8 +319,8 @@ static void cut(struct recording *recording, double seconds)
 {
 	if (!write_last(recording, "cut", seconds))
 		return;
-	notice("%s has %jd bytes, and %d is the most that is read; the recording ends there", recording->path,
-		(intmax_t)recording->length, LONGEST);
+	notice("%s has %jd bytes, and %jd is the limit; the recording ends there", recording->path,
+		(intmax_t)recording->length, (intmax_t)most_bytes(recording));
 	close_file(recording);
 }
 
@@ -350,11 +397,11 @@ void recording_add(struct recording *recording, const struct follower *follower,
 	if (recording->file < 0)
 		return;
 	size_t written = lines_of(text, piece);
-	off_t most = (recording->parts ? LONGEST_PART : LONGEST) - LAST_LINE;
+	bool is_full = !has_room(recording, written);
 	bool can_go_on = recording->options->record_last && follower && trim_fronts(recording, follower);
-	if (recording->length + (off_t)written > most && can_go_on)
+	if (is_full && can_go_on)
 		begin_part(recording, follower, piece->seconds);
-	else if (recording->length + (off_t)written > most)
+	else if (is_full)
 		cut(recording, piece->seconds);
 	if (can_go_on) {
 		text_put(&recording->fronts[piece->from], piece->bytes, piece->length);
@@ -366,6 +413,22 @@ void recording_add(struct recording *recording, const struct follower *follower,
 		recording->length += (off_t)written;
 	else
 		give_up(recording);
+}
+
+void recording_add_fault(struct recording *recording, const struct fault_done *done)
+{
+	struct text line = { NULL, 0, 0 };
+	if (recording->file < 0)
+		return;
+	text_format(&line, "# did %zu ", done->line + 1);
+	text_seconds(&line, done->seconds);
+	text_format(&line, " %s\n", done->words);
+	bool fits = has_room(recording, line.length); /* if not, the next piece does not fit either */
+	if (fits && write_whole(recording->file, line.bytes, line.length))
+		recording->length += (off_t)line.length;
+	else if (fits)
+		give_up(recording);
+	text_free(&line);
 }
 
 void recording_end(struct recording *recording, double seconds)

@@ -10,13 +10,15 @@
 
 /* How long the command may take to end after each signal, in milliseconds. */
 #define GRACE 2000
-/* After how many milliseconds a way is tried again for which the kernel had no room. */
-#define SOON 20
+/* How often it is looked whether the tool has the terminal, in milliseconds. */
+#define TERMINAL_LOOK 200
+/* What is waited for beside the sessions: the listener, and the terminal. */
+#define BESIDE 2
 
 struct run {
 	struct shared shared;
 	struct session *sessions;
-	struct pollfd *polled; /* the listener, followed by two for each session */
+	struct pollfd *polled; /* the listener and the terminal, followed by two for each session */
 	size_t session_count;
 	waywire_listening_socket *listener;
 	int connected;      /* to the compositor, for the first client; -1 once it is used */
@@ -51,7 +53,7 @@ static int left_until(const struct timespec *time)
 /* Makes room for the polling of a further session. */
 static bool make_room(struct run *run)
 {
-	struct pollfd *polled = realloc(run->polled, (1 + 2 * (run->session_count + 1)) * sizeof *polled);
+	struct pollfd *polled = realloc(run->polled, (BESIDE + 2 * (run->session_count + 1)) * sizeof *polled);
 	if (polled)
 		run->polled = polled;
 	return polled;
@@ -154,14 +156,32 @@ static bool is_done(const struct run *run)
 	return !run->sessions && !run->children.is_running && !may_connect(run) && (run->has_command || run->stops);
 }
 
+/* The shorter of two times in milliseconds; -1 is none. */
+static int sooner(int one, int other)
+{
+	return one < 0 || (other >= 0 && other < one) ? other : one;
+}
+
+/* Whether a session stands still because of --stop-at. */
+static bool is_held(const struct run *run)
+{
+	const struct session *session = run->sessions;
+	while (session && !(session->faults && faults_are_stopped(session->faults)))
+		session = session->next;
+	return session;
+}
+
 /* How long to wait, in milliseconds; -1 for no limit. */
 static int patience(const struct run *run)
 {
+	int waits = sooner(filters_due(run->shared.options), is_held(run) && terminal_is_there() ? TERMINAL_LOOK : -1);
+	for (struct session *session = run->sessions; session; session = session->next)
+		waits = sooner(waits, session_due(session, &run->shared));
 	if (is_done(run) || is_ending(run))
 		return 0;
 	if (run->is_later)
 		return SOON;
-	return run->stops ? left_until(&run->stop_again) : -1;
+	return sooner(run->stops ? left_until(&run->stop_again) : -1, waits);
 }
 
 /* Waits until something can be done. Returns what ppoll does: 0 if nothing is ready in time,
@@ -169,23 +189,28 @@ static int patience(const struct run *run)
 static int wait_for_any(struct run *run)
 {
 	bool is_closed = run->is_full || is_ending(run);
-	size_t count = 1;
+	size_t count = BESIDE;
 	run->polled[0] = (struct pollfd){ is_closed ? -1 : waywire_listening_socket_fd(run->listener), POLLIN, 0 };
+	run->polled[1] = (struct pollfd){ is_held(run) ? terminal_polled() : -1, POLLIN, 0 };
 	run->is_later = run->is_full;
 	run->is_full = false;
 	for (struct session *session = run->sessions; session; session = session->next, count += 2)
 		run->is_later |= session_wants(session, run->polled + count);
 	int milliseconds = patience(run);
 	struct timespec time = { milliseconds / 1000, milliseconds % 1000 * 1000000L };
-	return ppoll(run->polled, (nfds_t)count, milliseconds < 0 ? NULL : &time,
-		&run->shared.while_waiting);
+	int ready = ppoll(run->polled, (nfds_t)count, milliseconds < 0 ? NULL : &time, &run->shared.while_waiting);
+	const struct pollfd *polled = run->polled + BESIDE;
+	for (struct session *it = ready < 0 ? NULL : run->sessions; it; it = it->next, polled += 2)
+		session_waits(it, &run->shared, polled);
+	return ready;
 }
 
 /* Does everything that can be done without waiting. */
 static void step(struct run *run)
 {
 	bool has_client = run->polled[0].revents;
-	const struct pollfd *polled = run->polled + 1;
+	is_to_go_on |= run->polled[1].revents && terminal_was_typed();
+	const struct pollfd *polled = run->polled + BESIDE;
 	for (struct session *session = run->sessions; session; session = session->next, polled += 2)
 		session_step(session, &run->shared, polled);
 	end_sessions(run, false);
@@ -204,15 +229,27 @@ static void note_ended(struct run *run)
 			strsignal(run->children.ended_by));
 }
 
+/* Lets what --stop-at stopped go on. */
+static void go_on(struct run *run)
+{
+	is_to_go_on = 0;
+	for (struct session *it = run->sessions; it; it = it->next)
+		if (it->faults)
+			faults_go_on(it->faults);
+}
+
 static void inspect(struct run *run)
 {
 	for (;;) {
 		bool was_done = is_done(run);
 		int ready = wait_for_any(run);
-		if (ready > 0 || (!ready && run->is_later))
+		filters_look(run->shared.options, run->shared.known->tables);
+		if (ready >= 0)
 			step(run);
 		if (child_ended)
 			note_ended(run);
+		if (is_to_go_on)
+			go_on(run);
 		if (stopped_by || (run->stops && !left_until(&run->stop_again)))
 			stop(run, stopped_by);
 		stopped_by = 0;
@@ -221,6 +258,16 @@ static void inspect(struct run *run)
 		if (was_done && is_done(run))
 			return;
 	}
+}
+
+/* With --strict, what the sessions were comes before the status of the command. */
+static int strict_status(const struct run *run)
+{
+	if (run->shared.any_has_failed)
+		return 1;
+	if (!run->shared.message_count)
+		notice("not strict: no message has passed");
+	return run->shared.any_is_refused || !run->shared.message_count ? NOT_STRICT : run->children.status;
 }
 
 /* The exit status. If nothing was inspected, a line says so. */
@@ -233,7 +280,8 @@ static int ended(struct run *run)
 		notice("no client has connected");
 	if (!run->shared.session_count)
 		return NOTHING_INSPECTED;
-	return run->children.status ? run->children.status : run->shared.any_has_failed;
+	return run->shared.options->strict ? strict_status(run)
+		: run->children.status ? run->children.status : run->shared.any_has_failed;
 }
 
 /* Prints the first line of JSON. */
@@ -270,12 +318,16 @@ int run(const struct options *options, const struct known *known)
 	struct run run = { .shared = { .options = options, .known = known }, .connected = -1 };
 	find_compositor();
 	run.connected = connect_to_compositor();
-	if (run.connected < 0 || (options->record && !can_write(options->record)) || !make_room(&run)) {
+	if (run.connected < 0 || (options->record && !can_record(options->record)) || !make_room(&run)) {
 		picture_end(options, 0);
 		return NOTHING_INSPECTED;
 	}
 	check_descriptors();
 	take_signals(&run.shared.while_waiting);
+	if (options->stop.count) {
+		take_going_on();
+		terminal_open();
+	}
 	run.listener = listen_in_runtime_folder();
 	run.has_command = options->command;
 	bool is_begun = begin_clients(&run, waywire_listening_socket_name(run.listener));

@@ -116,17 +116,18 @@ static void put_unanswered(struct text *text, const struct questions *questions,
 	text_free(&lines);
 }
 
-void stats_put(struct text *text, const struct stats *stats, const struct follower *follower,
-	const struct questions *questions, double until)
+void stats_put(struct text *text, const struct told *told, double until, double end)
 {
+	const struct stats *stats = told->stats;
 	if (stats->count)
 		qsort(stats->counted, stats->count, sizeof *stats->counted, most_first);
 	text_add(text, "  messages      bytes descriptors\n");
 	for (size_t i = 0; i < stats->count; i++)
 		put_counted(text, &stats->counted[i]);
-	put_trips(text, questions_syncs(questions));
-	put_unanswered(text, questions, until);
-	put_open(text, follower);
+	put_trips(text, questions_syncs(told->questions));
+	put_unanswered(text, told->questions, until);
+	silences_put(text, told->silences, told->questions, end);
+	put_open(text, told->follower);
 }
 
 void stats_free(struct stats *stats)

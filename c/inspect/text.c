@@ -11,10 +11,8 @@
 #define ESCAPE 4
 #define LONGEST_CHARACTER 4
 
-static bool make_room(struct text *text, size_t length)
+bool text_make_room(struct text *text, size_t length)
 {
-	if (text->room - text->length > length)
-		return true;
 	size_t room = 2 * (text->length + length) + 64;
 	char *bytes = realloc(text->bytes, room);
 	if (!bytes)
@@ -24,27 +22,13 @@ static bool make_room(struct text *text, size_t length)
 	return true;
 }
 
-void text_put(struct text *text, const void *bytes, size_t length)
-{
-	if (!length || !make_room(text, length))
-		return;
-	memcpy(text->bytes + text->length, bytes, length);
-	text->length += length;
-	text->bytes[text->length] = 0;
-}
-
-void text_add(struct text *text, const char *words)
-{
-	text_put(text, words, strlen(words));
-}
-
 void text_format(struct text *text, const char *format, ...)
 {
 	va_list words;
 	va_start(words, format);
 	int length = vsnprintf(NULL, 0, format, words);
 	va_end(words);
-	if (length <= 0 || !make_room(text, (size_t)length + 1))
+	if (length <= 0 || (text->room - text->length <= (size_t)length && !text_make_room(text, (size_t)length)))
 		return;
 	va_start(words, format);
 	vsnprintf(text->bytes + text->length, (size_t)length + 1, format, words);
@@ -52,13 +36,83 @@ void text_format(struct text *text, const char *format, ...)
 	text->length += (size_t)length;
 }
 
+/* The most digits of a number. */
+#define MOST_DIGITS 20
+
+static const char pairs[] = "0001020304050607080910111213141516171819202122232425262728293031323334353637383940"
+	"4142434445464748495051525354555657585960616263646566676869707172737475767778798081828384858687888990"
+	"919293949596979899";
+
+/* Writes a number in front of `behind`, with as many digits as there is room for from `at` on. */
+static inline void write_digits(char *at, char *behind, uint64_t number)
+{
+	for (; number > UINT32_MAX; number /= 100)
+		memcpy(behind -= 2, pairs + 2 * (number % 100), 2);
+	uint32_t rest = (uint32_t)number;
+	for (; behind > at + 1; rest /= 100)
+		memcpy(behind -= 2, pairs + 2 * (rest % 100), 2);
+	if (behind > at)
+		*at = (char)('0' + rest);
+}
+
+static size_t digit_count(uint64_t number)
+{
+	if (number < 100)
+		return number < 10 ? 1 : 2;
+	size_t count = 3;
+	for (uint64_t power = 1000; number >= power && count < MOST_DIGITS; power *= 10)
+		count++;
+	return count;
+}
+
+void text_number(struct text *text, uint64_t number)
+{
+	if (text->room - text->length <= MOST_DIGITS && !text_make_room(text, MOST_DIGITS))
+		return;
+	char *at = text->bytes + text->length, *behind = at + digit_count(number);
+	if (number < 10)
+		*at = (char)('0' + number);
+	else
+		write_digits(at, behind, number);
+	*behind = 0;
+	text->length = (size_t)(behind - text->bytes);
+}
+
+void text_signed(struct text *text, int32_t number)
+{
+	if (number < 0)
+		text_add(text, "-");
+	text_number(text, number < 0 ? 0 - (uint32_t)number : (uint32_t)number);
+}
+
+uint64_t microseconds_of(double seconds)
+{
+	return (uint64_t)(seconds * 1e6 + 0.5);
+}
+
+void text_seconds(struct text *text, double seconds)
+{
+	uint64_t parts = microseconds_of(seconds);
+	char decimals[] = ".000000";
+	text_number(text, parts / 1000000);
+	write_digits(decimals + 1, decimals + sizeof decimals - 1, parts % 1000000);
+	text_put(text, decimals, sizeof decimals - 1);
+}
+
 void text_hex(struct text *text, const unsigned char *bytes, size_t length)
 {
-	static const char digits[] = "0123456789abcdef";
-	for (size_t i = 0; i < length; i++) {
-		char both[] = { digits[bytes[i] >> 4], digits[bytes[i] & 15] };
-		text_put(text, both, sizeof both);
+	static char digits[256][2]; /* of each byte */
+	if (!length || (text->room - text->length <= 2 * length && !text_make_room(text, 2 * length)))
+		return;
+	for (size_t i = 0; !digits[255][1] && i < 256; i++) {
+		digits[i][0] = "0123456789abcdef"[i >> 4];
+		digits[i][1] = "0123456789abcdef"[i & 15];
 	}
+	char *at = text->bytes + text->length;
+	for (size_t i = 0; i < length; i++, at += 2)
+		memcpy(at, digits[bytes[i]], 2);
+	*at = 0;
+	text->length += 2 * length;
 }
 
 void text_free(struct text *text)
@@ -73,16 +127,6 @@ void text_put_name(struct text *text, struct name name)
 		text_put(text, name.bytes, name.length);
 	else
 		text_add(text, "unknown");
-}
-
-bool is_name(struct name name, const char *wanted)
-{
-	return name.bytes && name.length == strlen(wanted) && !memcmp(name.bytes, wanted, name.length);
-}
-
-bool is_same_name(struct name one, struct name other)
-{
-	return one.length == other.length && !memcmp(one.bytes, other.bytes, one.length);
 }
 
 int digit_value(char digit)
@@ -167,6 +211,12 @@ void text_put_quoted(struct text *text, const char *bytes, size_t length)
 	const unsigned char *at = (const unsigned char *)bytes;
 	text_add(text, "\"");
 	while (length) {
+		size_t plain = plain_length(at, length);
+		text_put(text, at, plain);
+		at += plain;
+		length -= plain;
+		if (!length)
+			break;
 		size_t size = *at == '"' || *at == '\\' ? 0 : printable_character(at, length);
 		if (size)
 			text_put(text, at, size);

@@ -5,6 +5,7 @@
 #include <stdbool.h>
 #include <stddef.h>
 #include <stdint.h>
+#include <string.h>
 
 /* Once something was put, a NUL follows the text, which the length does not count. If memory runs out, what is put
  * is left out. */
@@ -13,10 +14,34 @@ struct text {
 	size_t length, room;
 };
 
-void text_put(struct text *text, const void *bytes, size_t length);
+/* Makes room for this many more bytes and a NUL; false if memory runs out. */
+bool text_make_room(struct text *text, size_t length);
+
+static inline void text_put(struct text *text, const void *bytes, size_t length)
+{
+	if (!length || (text->room - text->length <= length && !text_make_room(text, length)))
+		return;
+	memcpy(text->bytes + text->length, bytes, length);
+	text->length += length;
+	text->bytes[text->length] = 0;
+}
 
 /* Puts a string that ends with a NUL. */
-void text_add(struct text *text, const char *words);
+static inline void text_add(struct text *text, const char *words)
+{
+	text_put(text, words, strlen(words));
+}
+
+/* Puts a number in decimal digits. */
+void text_number(struct text *text, uint64_t number);
+
+void text_signed(struct text *text, int32_t number);
+
+/* Puts a time with six decimals, as it is rounded. */
+void text_seconds(struct text *text, double seconds);
+
+/* The microseconds of a time that is printed, to the nearest. */
+uint64_t microseconds_of(double seconds);
 
 void text_format(struct text *text, const char *format, ...) __attribute__((format(printf, 2, 3)));
 
@@ -34,10 +59,41 @@ struct name {
 /* Puts a name, or `unknown`. */
 void text_put_name(struct text *text, struct name name);
 
-/* Whether a name is this one. */
-bool is_name(struct name name, const char *wanted);
+static inline bool is_same_name(struct name one, struct name other)
+{
+	return one.length == other.length && !memcmp(one.bytes, other.bytes, one.length);
+}
 
-bool is_same_name(struct name one, struct name other);
+/* Whether a name is this one. */
+static inline bool is_name(struct name name, const char *wanted)
+{
+	size_t length = strlen(wanted);
+	return name.bytes && name.length == length && !memcmp(name.bytes, wanted, length);
+}
+
+/* Whether a byte is a character of ASCII that stands as it is between double quotes. */
+static inline bool is_plain(unsigned char byte)
+{
+	return byte >= ' ' && byte <= '~' && byte != '"' && byte != '\\';
+}
+
+/* How many bytes at the front are such characters. Eight at a time: the highest bit of a byte is clear in all of these
+ * differences and sums if the eight are such characters, and set in one of them for the lowest byte that is not. */
+static inline size_t plain_length(const unsigned char *bytes, size_t length)
+{
+	const uint64_t each = 0x0101010101010101u;
+	size_t plain = 0;
+	for (; length - plain >= sizeof each; plain += sizeof each) {
+		uint64_t eight;
+		memcpy(&eight, bytes + plain, sizeof eight);
+		uint64_t quotes = eight ^ each * '"', slashes = eight ^ each * '\\';
+		if (((eight - each * ' ') | (eight + each) | (quotes - each) | (slashes - each)) & each * 0x80)
+			break;
+	}
+	while (plain < length && is_plain(bytes[plain]))
+		plain++;
+	return plain;
+}
 
 /* The value of a hexadecimal digit, with letters in lower case; -1 for any other character. */
 int digit_value(char digit);

@@ -8,6 +8,7 @@
 #include <limits.h>
 #include <spawn.h>
 #include <stdio.h>
+#include <sys/stat.h>
 #include <sys/wait.h>
 #include <unistd.h>
 
@@ -204,11 +205,11 @@ void source_without(struct source *source, const struct source *other)
 
 /* ---- the installed texts */
 
-char **installed_files(const char *end, size_t *count)
+/* The paths of the files with this end in a folder, in the order of their names; null with errno set where it cannot be
+ * read. */
+static char **files_in(const char *folder, const char *end, size_t *count)
 {
-	char folder[PATH_MAX];
 	struct dirent **found = NULL;
-	find_tables(folder, sizeof folder);
 	int entries = scandir(folder, &found, NULL, alphasort);
 	*count = 0;
 	if (entries < 0)
@@ -222,4 +223,68 @@ char **installed_files(const char *end, size_t *count)
 	}
 	free(found);
 	return paths;
+}
+
+char **installed_files(const char *end, size_t *count)
+{
+	char folder[PATH_MAX];
+	find_tables(folder, sizeof folder);
+	return files_in(folder, end, count);
+}
+
+/* ---- the folders of --tables */
+
+/* A growing array of paths, which ends with a null. */
+struct paths {
+	char **of;
+	size_t count;
+};
+
+static void add_path(struct paths *paths, char *path)
+{
+	char **more = realloc(paths->of, (paths->count + 2) * sizeof *more);
+	if (!more)
+		fail("out of memory");
+	paths->of = more;
+	more[paths->count++] = path;
+	more[paths->count] = NULL;
+}
+
+static bool is_folder(const char *path)
+{
+	struct stat of;
+	return !stat(path, &of) && S_ISDIR(of.st_mode);
+}
+
+/* Adds the texts of a folder to those that are read, and to those that are freed. */
+static void add_folder(struct paths *texts, struct paths *made, const char *folder)
+{
+	size_t count;
+	char **found = files_in(folder, ".tables", &count);
+	if (!found)
+		fail("cannot read %s: %s", folder, strerror(errno));
+	if (!count)
+		fail("--tables %s: the folder has no table text NAME.tables", folder);
+	for (size_t i = 0; i < count; i++) {
+		add_path(texts, found[i]);
+		add_path(made, found[i]);
+	}
+	free(found);
+}
+
+char **tables_of_folders(struct options *options)
+{
+	struct paths texts = { calloc(2, sizeof *texts.of), 0 }, made = { calloc(1, sizeof *made.of), 0 };
+	if (!texts.of || !made.of)
+		fail("out of memory");
+	for (size_t i = 0; i < options->table_count; i++) {
+		if (is_folder(options->tables[i]))
+			add_folder(&texts, &made, options->tables[i]);
+		else
+			add_path(&texts, options->tables[i]);
+	}
+	free(options->tables);
+	options->tables = texts.of;
+	options->table_count = texts.count;
+	return made.of;
 }

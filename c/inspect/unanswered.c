@@ -3,6 +3,7 @@
 #include "inspect.h"
 
 #include <inttypes.h>
+#include <unistd.h>
 
 /* What has waited for this many seconds is reported at the end of a session, in at most this many lines. */
 #define LONG_WAIT 1.0
@@ -25,7 +26,7 @@ struct groups {
 /* Whether several were asked, and none was answered. */
 static bool is_mute(const struct question_kind *kind)
 {
-	return kind->asked > 1 && !kind->answered;
+	return kind->open > 1 && !kind->answered;
 }
 
 static void add_group(struct groups *groups, const struct group *group)
@@ -52,7 +53,7 @@ static int by_group(const void *one, const void *other)
 static void add_open(struct groups *groups, const struct questions *questions)
 {
 	size_t count;
-	const struct question **open = questions_open(questions, &count);
+	const struct question **open = questions_due(questions, &count);
 	if (open)
 		qsort(open, count, sizeof *open, by_group);
 	for (size_t i = 0; i < count; i++) {
@@ -66,17 +67,6 @@ static void add_open(struct groups *groups, const struct questions *questions)
 				question->number, question->seconds });
 	}
 	free(open);
-}
-
-/* Adds the kinds that were never answered and have no open question, for example because the object was
- * destroyed. */
-static void add_mute(struct groups *groups, const struct questions *questions)
-{
-	for (size_t i = 0; i < questions->kinds.room; i++) {
-		const struct question_kind *kind = questions->kinds.slots[i].value;
-		if (kind && is_mute(kind) && !kind->open)
-			add_group(groups, &(struct group){ kind, 0, 0, 0, kind->first });
-	}
 }
 
 /* The order of groups: those that have waited longest come first. */
@@ -108,7 +98,9 @@ static void put_group(struct text *text, const struct group *group, double until
 	if (group->id)
 		text_format(text, ": %" PRIu64 " not answered", group->count);
 	else
-		text_format(text, ": none of %" PRIu64 " answered", kind->asked);
+		text_format(text, ": none of %" PRIu64 " answered", group->count);
+	if (kind->awaited)
+		text_format(text, " (no %s)", kind->awaited);
 	put_wait(text, group, until);
 	text_add(text, "\n");
 }
@@ -118,7 +110,6 @@ void unanswered_put(struct text *text, const struct questions *questions, double
 	struct groups groups = { NULL, 0 };
 	size_t count = 0;
 	add_open(&groups, questions);
-	add_mute(&groups, questions);
 	if (groups.count)
 		qsort(groups.groups, groups.count, sizeof *groups.groups, by_wait);
 	for (size_t i = 0; i < groups.count; i++) {
@@ -133,27 +124,110 @@ void unanswered_put(struct text *text, const struct questions *questions, double
 	free(groups.groups);
 }
 
+/* Prints questions, and frees their array. */
+static void print_json(const struct printer *printer, const char *type, const struct question **questions,
+	size_t count, double until)
+{
+	for (size_t i = 0; i < count; i++)
+		json_question(printer, type, questions[i], until);
+	free(questions);
+}
+
+/* Prints each line of a text. */
+static void print_lines(const struct printer *printer, double seconds, const struct text *lines)
+{
+	for (const char *line = lines->bytes; line && *line;) {
+		size_t length = strcspn(line, "\n");
+		struct text words = { NULL, 0, 0 };
+		text_put(&words, line, length);
+		print_words(printer, seconds, &words, false);
+		text_free(&words);
+		line += length + 1;
+	}
+}
+
 void print_unanswered(const struct printer *printer, const struct questions *questions, double until)
 {
 	struct text lines = { NULL, 0, 0 };
 	if (printer->options->json) {
-		size_t count;
-		const struct question **open = questions_open(questions, &count);
-		for (size_t i = 0; i < count; i++)
-			json_unanswered(printer, open[i], until);
-		free(open);
+		size_t due_count, resting_count;
+		const struct question **due = questions_due(questions, &due_count);
+		const struct question **resting = questions_at_rest(questions, &resting_count);
+		print_json(printer, "open", resting, resting_count, until);
+		print_json(printer, "unanswered", due, due_count, until);
 		return;
 	}
 	if (printer->options->stats)
 		return; /* it lists all */
 	unanswered_put(&lines, questions, until, LONG_WAIT, MOST_LINES);
-	for (const char *line = lines.bytes; line && *line;) {
-		size_t length = strcspn(line, "\n");
-		struct text words = { NULL, 0, 0 };
-		text_put(&words, line, length);
-		print_words(printer, until, &words, false);
-		text_free(&words);
-		line += length + 1;
-	}
+	print_lines(printer, until, &lines);
 	text_free(&lines);
+}
+
+void print_stop(const struct printer *printer, const struct questions *questions, const struct fault_done *stop)
+{
+	struct text lines = { NULL, 0, 0 };
+	if (printer->options->json) {
+		json_stopped(printer, stop);
+		return;
+	}
+	text_format(&lines, "stopped before %s; %skill -USR1 %ld goes on\n", stop->words,
+		terminal_polled() < 0 ? "" : "Enter or ", (long)getpid());
+	unanswered_put(&lines, questions, stop->seconds, 0, SIZE_MAX);
+	print_lines(printer, stop->seconds, &lines);
+	text_free(&lines);
+}
+
+/* ---- while the session goes on */
+
+void put_question(struct text *text, const struct question_kind *kind, uint32_t id, uint64_t number)
+{
+	text_add(text, kind->from == CLIENT ? "the client's " : "the compositor's ");
+	text_put_name(text, kind->interface);
+	text_format(text, "@%" PRIu32 ".", id);
+	text_put_name(text, kind->message);
+	text_format(text, " (message %" PRIu64 ")", number);
+}
+
+void print_waiting(const struct printer *printer, const struct question *question, double now)
+{
+	const struct question_kind *kind = question->kind;
+	struct text words = { NULL, 0, 0 };
+	if (printer->options->json)
+		json_question(printer, "waiting", question, now);
+	text_format(&words, "waiting since %.3f s: for %.1f s, ", question->seconds, now - question->seconds);
+	put_question(&words, kind, question->id, question->number);
+	text_format(&words, " has had no %s", kind->awaited ? kind->awaited : "answer");
+	print_words(printer, now, &words, true);
+	text_free(&words);
+}
+
+void print_waited(const struct printer *printer, const struct closed *closed, size_t count, double now)
+{
+	for (size_t i = 0; i < count; i++) {
+		struct text words = { NULL, 0, 0 };
+		if (!closed[i].was_said)
+			continue;
+		if (printer->options->json)
+			json_waited(printer, &closed[i], now);
+		text_format(&words, "%s after %.1f s: ", closed[i].is_answered ? "answered" : "no answer is needed any more",
+			closed[i].waited);
+		put_question(&words, closed[i].kind, closed[i].id, closed[i].number);
+		print_words(printer, now, &words, false);
+		text_free(&words);
+	}
+}
+
+void print_unread(const struct printer *printer, int side, double since, double now, bool is_read_again)
+{
+	const char *name = side == CLIENT ? "the client" : "the compositor";
+	struct text words = { NULL, 0, 0 };
+	if (printer->options->json)
+		json_unread(printer, side, since, now, is_read_again);
+	if (is_read_again)
+		text_format(&words, "%s reads again after %.1f s", name, now - since);
+	else
+		text_format(&words, "waiting since %.3f s: for %.1f s, %s has read nothing", since, now - since, name);
+	print_words(printer, now, &words, !is_read_again);
+	text_free(&words);
 }

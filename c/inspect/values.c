@@ -71,13 +71,14 @@ uint32_t number_at(const waywire_arg *array, size_t index)
 
 bool has_numbers(const struct argument *argument)
 {
-	return argument->value.kind == WAYWIRE_ARRAY && argument->meaning.is_numbers && argument->value.length % 4 == 0;
+	return argument->value.kind == WAYWIRE_ARRAY && argument->meaning.is_numbers && !argument->meaning.is_unknown
+		&& argument->value.length % 4 == 0;
 }
 
 static void put_contents(struct text *text, const struct argument *argument)
 {
 	size_t length = argument->value.length, count = length / 4;
-	if (!length || (!has_numbers(argument) && length > MOST_BYTES))
+	if (!length || argument->meaning.is_unknown || (!has_numbers(argument) && length > MOST_BYTES))
 		return;
 	text_add(text, " {");
 	if (!has_numbers(argument))
@@ -120,25 +121,24 @@ static size_t put_part(struct text *text, const struct text *line, size_t at, co
 	return at + part->length;
 }
 
-void put_line_with_names(struct text *text, const struct message *message, const struct text *line)
+void put_line_with_names(struct text *text, const struct message *message, const struct text *line, struct text *part)
 {
-	struct text part = { NULL, 0, 0 };
-	size_t at = 0;
+	size_t at = 0, begin = text->length;
 	if (has_meaning(message)) {
-		put_front_of_message(&part, message);
-		at = put_part(text, line, 0, &part);
+		part->length = 0;
+		put_front_of_message(part, message);
+		at = put_part(text, line, 0, part);
 	}
 	for (size_t i = 0; at && i < message->arg_count; i++) {
 		const struct argument *argument = &message->args[i];
-		part.length = 0;
-		text_add(&part, i ? ", " : "");
-		put_printed_argument(&part, argument);
-		at = put_part(text, line, at, &part);
+		part->length = 0;
+		text_add(part, i ? ", " : "");
+		put_printed_argument(part, argument);
+		at = put_part(text, line, at, part);
 		if (at)
 			put_meaning(text, argument);
 	}
-	text_free(&part);
 	if (!at)
-		text->length = 0;
+		text->length = begin;
 	text_put(text, line->bytes + at, line->length - at);
 }

@@ -42,34 +42,51 @@ function printedArgument(session, message, place) {
         }
         case "fixed": return { text: value.toFixed(8) };
         case "array": return { text: `array[${value}]` };
-        case "fd": return { text: `fd ${value}` };
+        case "fd": return { text: value === null ? "fd" : `fd ${value}` };
         case "string": return { text: null };
         default: return { text: String(value) };
     }
 }
 
-// The end of a printed line in parts, so that each object can have the letters of its birth: a text, and the object
-// that it ends with. Where the parts are not what was printed, it is one part.
+// What the inspector prints behind an argument: the names of its value, or what an array holds.
+function meaningOf(session, message, place) {
+    const [kind, , enumeration] = session.signatures[session.signature[message]].kinds[place];
+    const words = kind === "array" ? session.contents.get(`${message} ${place}`)
+        : session.raw.names[enumeration]?.[session.value(message, place)];
+    return !words ? "" : kind === "array" ? ` {${words}}` : ` ${words}`;
+}
+
+// The end of a printed line in parts, so that each object can have the letters of its birth, and each value its names: a
+// text, the object that it ends with, and what it means. Where the parts are not what was printed, it is one part.
 function printedParts(session, message) {
-    const [, , rest] = session.parts(message), whole = [{ text: rest }];
+    const [, , rest] = session.parts(message), parts = [];
     const { kinds } = session.signatures[session.signature[message]];
-    if (message === session.bad || !kinds.some(([kind]) => kind === "object" || kind === "new")) {
-        return whole;
-    }
-    const parts = [];
-    let at = 1;
+    let at = 0;
     for (let place = 0; place < kinds.length; place++) {
+        const sign = place ? ", " : "(", from = at + sign.length;
         let { text, object } = printedArgument(session, message, place);
         if (text === null) {
             // A string: up to its closing quote, which is the next one, since others are escaped.
-            text = rest.startsWith("nil", at) ? "nil" : rest.slice(at, rest.indexOf('"', at + 1) + 1);
+            text = rest.startsWith("nil", from) ? "nil" : rest.slice(from, rest.indexOf('"', from + 1) + 1);
         }
-        if (!rest.startsWith(text, at)) {
-            return whole;
+        if (!rest.startsWith(sign + text, at)) {
+            return [{ text: rest }];
         }
-        parts.push({ text: `${place ? ", " : "("}${text}`, object });
-        at += text.length + 2;
+        object = message === session.bad ? undefined : object;
+        parts.push({ text: sign + text, object, meaning: meaningOf(session, message, place) });
+        at = from + text.length;
     }
-    parts.push({ text: ")" });
-    return parts.map((it) => it.text).join("") === rest ? parts : whole;
+    return [...parts, { text: rest.slice(at) }];
+}
+
+// A message's line with what its values mean; null if nothing is known of them.
+function lineWithMeanings(session, message) {
+    const { kinds } = session.signatures[session.signature[message]];
+    const parts = kinds.some(([kind, , enumeration]) => enumeration || kind === "array")
+        ? printedParts(session, message) : [];
+    if (!parts.some((it) => it.meaning)) {
+        return null;
+    }
+    const line = session.line(message), [, , rest] = session.parts(message);
+    return line.slice(0, line.length - rest.length) + parts.map((it) => it.text + (it.meaning ?? "")).join("");
 }

@@ -4,7 +4,7 @@
 // The height of a wait is its length; the longest of the row has 26 pixels.
 function drawBars(drawing, row, base) {
     const { pen, app: { view, colours } } = drawing, { left, right } = view, end = view.end();
-    const lengthOf = (it) => (it.to < 0 ? -1 : view.at(it.to) - view.at(it.from));
+    const lengthOf = (it) => (it.to < 0 ? -1 : view.isTime ? it.took : it.to - it.from);
     row.most ??= {};
     row.most[view.isTime] ??= row.waits.reduce((most, it) => Math.max(most, lengthOf(it)), 1e-9);
     const most = row.most[view.isTime];
@@ -21,7 +21,7 @@ function drawBars(drawing, row, base) {
         if (to < view.from) {
             continue;
         }
-        const high = it.to < 0 ? 15 : 4 + 22 * (to - from) / most;
+        const high = it.to < 0 ? 15 : 4 + 22 * lengthOf(it) / most;
         if (wide >= 2 || it.isSlow || it.to < 0) {
             const next = place + 1 < waits.length ? places[waits[place + 1].from] : to, slack = (to - from) / 6;
             drawBar(drawing, it, { x, wide, base, high }, before <= from + slack && next >= to - slack);

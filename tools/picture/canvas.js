@@ -100,7 +100,7 @@ function drawSeenPart(app, pen, height) {
 
 // The messages of each column of pixels. They are counted again only if something else is shown.
 function drawColumnsOfAll(app, pen) {
-    const { session, view, colours } = app, key = [view.width, view.isTime, app.filter, session.count].join(" ");
+    const { session, view, colours } = app, key = [view.width, view.isTime, view.isFolded, app.filter].join(" ");
     if (app.overviewKey !== key) {
         app.overviewKey = key;
         app.overviewCounts = columnsOf(session, view, app.isShown, view.end());
@@ -136,7 +136,7 @@ function drawOverview(app, canvas) {
     }
     drawSeenPart(app, pen, height);
     drawColumnsOfAll(app, pen);
-    for (const [message, colour] of [[app.selected, colours.text], [session.bad, colours.bad]]) {
+    for (const [message, colour] of [[app.selected, colours.text], [session.trouble, colours.bad]]) {
         if (message >= 0) {
             pen.fillStyle = colour;
             pen.fillRect(view.left + view.at(message) / view.end() * view.inner - 0.5, 0, 1.5, height);
@@ -171,13 +171,15 @@ function drawMarks(app, pen, height) {
         write(pen, view.isTime ? "time" : session.isTimed ? "message" : "message (no times recorded)", 14, 13,
             colours.soft, font);
     }
-    for (let at = Math.ceil(view.from / step) * step; at <= view.to; at += step) {
-        const x = Math.round(view.x(at)) + 0.5, text = markOf(view, at, step);
+    const gaps = seenGaps(view);
+    let free = 0;
+    for (const [at, place] of view.marks(step)) {
+        const x = Math.round(place) + 0.5, text = markOf(view, at, step), end = x + 3 + widthOf(pen, text, font);
         pen.fillStyle = colours.line;
         pen.fillRect(x, 0, 1, height);
-        pen.font = font;
-        if (x + 3 + pen.measureText(text).width < view.width) {
+        if (x >= free && end < (gaps.find((it) => it.end > x)?.x ?? view.width)) {
             write(pen, text, x + 3, 13, colours.soft, font);
+            free = end + 3;
         }
     }
 }
@@ -186,6 +188,7 @@ function drawAxis(app, canvas) {
     const { view, colours } = app, height = 34;
     const pen = fitted(canvas, view.width, height);
     drawMarks(app, pen, height);
+    drawGapsOfAxis(app, pen, height);
     drawMilestones(app, pen);
     // Which part of the session the list shows.
     const [first, last] = app.listed();
@@ -197,7 +200,7 @@ function drawAxis(app, canvas) {
     if (app.axisDrag) {
         const [a, b] = app.axisDrag;
         drawChosen(app, pen, app.axisDrag, height);
-        const wide = Math.abs(view.atX(b) - view.atX(a));
+        const wide = Math.abs(view.timeAt(view.atX(b)) - view.timeAt(view.atX(a)));
         write(pen, view.isTime ? duration(wide) : several(Math.round(wide), "message"), Math.max(a, b) + 4, 29,
             colours.text);
     }
@@ -221,11 +224,11 @@ function drawMilestones(app, pen) {
             free = x + 4 + wide;
         }
     });
-    if (session.bad >= 0 && view.isSeen(session.bad)) {
-        const text = ruleOf(session.raw.broken);
+    if (session.trouble >= 0 && view.isSeen(session.trouble)) {
+        const text = behindOf(session, session.trouble);
         pen.font = font;
         const wide = pen.measureText(text).width + 10;
-        const x = Math.min(view.xOf(session.bad), view.width - wide);
+        const x = Math.min(view.xOf(session.trouble), view.width - wide);
         pen.fillStyle = colours.bad;
         pen.fillRect(x, 15, wide, 15);
         write(pen, text, x + 5, 26, colours.ground, font);

@@ -203,7 +203,7 @@ function wordsOfHolder(session, holder, isOneDevice) {
     const what = KINDS[kind].toLowerCase();
     const moment = session.isTimed ? ` (${duration(session.time[from])})` : "";
     const said = [isOneDevice ? "From " : `At ${device.name}: from `, from, moment, " to "];
-    said.push(to < 0 ? "the end" : to);
+    said.push(to < 0 ? `the end${session.isToEnd ? "" : " of this part"}` : to);
     if (holder.isEmpty) {
         return [...said, `, the ${what} was empty.`];
     }
@@ -229,7 +229,7 @@ function holdersOfKind(panel, kind) {
     if (!all.length) {
         return [];
     }
-    const heading = element("h2", "", `${KINDS[kind]} `);
+    const heading = element("h2", "", `${KINDS[kind]}${session.part ? " in this part" : ""} `);
     const isOneDevice = all.every((it) => it.device === all[0].device);
     const isLong = all.length > MOST_HOLDERS && !panel.isLong;
     if (isLong) {
@@ -254,6 +254,7 @@ function selectionParts(panel) {
         return [];
     }
     const parts = Object.keys(KINDS).flatMap((kind) => holdersOfKind(panel, kind));
-    const nothing = element("p", "remark", "This client was not told who held the clipboard.");
+    const nothing = element("p", "remark", "This client was not told who held the clipboard"
+        + `${panel.app.session.part ? " in this part" : ""}.`);
     return parts.length ? parts : [element("h2", "", KINDS.clipboard), nothing];
 }

@@ -58,11 +58,17 @@ class Session {
         }));
         this.signature = Int32Array.from(raw.signature);
         this.object = Int32Array.from(raw.object);
+        this.number = summed(raw.number, Float64Array);
         this.size = Int32Array.from(raw.size);
         this.state = Uint8Array.from(raw.state);
-        // A recording that begins in the middle of its session has times from there on.
-        const begin = Math.round((raw.head.from ?? 0) * 1e6);
-        this.time = summed(raw.time, Float64Array).map((it) => Math.max(0, it - begin));
+        this.part = raw.part;
+        const isLater = this.part !== null && this.part.first !== 1;
+        // Whether the page begins with the session's first message, and whether it ends with the last.
+        this.isFromStart = !isLater && typeof raw.head.from !== "number";
+        this.isToEnd = this.part === null || this.part.last === this.part.total;
+        // A part of a session has times from its begin on.
+        this.begin = isLater ? raw.time[0] ?? 0 : Math.round((raw.head.from ?? 0) * 1e6);
+        this.time = summed(raw.time, Float64Array).map((it) => Math.max(0, it - this.begin));
         this.piece = summed(raw.piece, Int32Array);
         this.values = raw.values;
         this.contents = new Map(raw.arrays.map(([message, place, words]) => [`${message} ${place}`, words]));
@@ -70,17 +76,35 @@ class Session {
             number, raw.objects.interface[number], id, raw.objects.birth[number], raw.objects.version[number]));
         this.lowered = null;
         this.bad = raw.broken?.place ?? -1;
+        // The message that broke a rule, or else the error that ended the session.
+        this.trouble = this.bad >= 0 ? this.bad : raw.error?.place ?? -1;
         this.placeAll();
         this.nameAlone();
         this.fillObjects();
         const last = Math.max(0, this.count - 1);
-        // The session's end, if the page has the whole session and the recording says when it ended.
+        // The session's end, if the page has it and the recording says when it was.
         const { ended, cut } = raw.verdict ?? {};
-        const end = this.isTimed && !raw.left_out ? Math.round((ended ?? cut ?? 0) * 1e6) - begin : 0;
+        const end = this.isTimed && this.isToEnd ? Math.round((ended ?? cut ?? 0) * 1e6) - this.begin : 0;
         this.span = Math.max(this.count ? this.time[last] : 0, end, 1);
         // The last message whose answer is looked for: one that broke a rule, or an error, ends the session.
-        this.lastAsked = (raw.broken ?? raw.error)?.place ?? last;
-        this.looked = raw.broken || raw.error ? this.time[this.lastAsked] ?? this.span : this.span;
+        const over = raw.broken ?? raw.error, isShown = over && over.place >= 0;
+        this.lastAsked = isShown ? over.place : over && over.number < this.number[0] ? -1 : last;
+        this.looked = isShown ? this.time[this.lastAsked] : this.span;
+    }
+
+    // Which part of the session the page shows, in words; empty if it shows all.
+    partWords() {
+        if (!this.part) {
+            return "";
+        }
+        const { first, last, total } = this.part, all = total === null ? "" : ` of ${counted(total)}`;
+        return this.count && this.count === last - first + 1 ? `messages ${counted(first)} to ${counted(last)}${all}`
+            : `${several(this.count, "message")}${all}`;
+    }
+
+    // The number of a message in its session.
+    numberOf(message) {
+        return counted(this.number[message]);
     }
 
     // Where the values of each message begin, its direction, its place in its stream, and its number in it.
@@ -90,7 +114,8 @@ class Session {
         this.direction = new Uint8Array(count);
         this.offset = new Float64Array(count);
         this.numberInStream = new Int32Array(count);
-        const next = [0, 0], numbers = [0, 0];
+        const { request = 1, event = 1 } = this.part?.begins ?? {};
+        const next = [0, 0], numbers = [request - 1, event - 1];
         for (let i = 0; i < count; i++) {
             const { kinds, direction } = this.signatures[this.signature[i]];
             this.valuesAt[i + 1] = this.valuesAt[i] + kinds.length;
@@ -99,8 +124,8 @@ class Session {
             next[direction] = this.offset[i] + this.size[i];
             this.numberInStream[i] = ++numbers[direction];
         }
-        this.requests = numbers[REQUEST];
-        this.events = numbers[EVENT];
+        this.events = this.direction.reduce((sum, it) => sum + it, 0);
+        this.requests = count - this.events;
     }
 
     // The word by which the filter finds an object and no other: if its id was reused, the first one has a letter too.
@@ -180,10 +205,11 @@ class Session {
         return `${this.arrow(message)} ${object}${name && `.${name}`}${rest}`;
     }
 
-    // A line in small letters, for searches. They are made once.
+    // A line in small letters, for searches, also as it is with the names of values. They are made once.
     searched() {
         if (!this.lowered) {
-            this.lowered = Array.from({ length: this.count }, (_, it) => this.line(it).toLowerCase());
+            const lines = (it) => [this.line(it), lineWithMeanings(this, it)].filter((line) => line !== null);
+            this.lowered = Array.from({ length: this.count }, (_, it) => lines(it).join("\n").toLowerCase());
         }
         return this.lowered;
     }
@@ -199,6 +225,7 @@ function readSession(raw) {
     addWaits(session);
     session.milestones = milestones(session);
     session.objects.forEach((it) => { it.group = purposeOf(session, it); });
+    addSilences(session);
     addFindings(session);
     addSelections(session);
     return session;

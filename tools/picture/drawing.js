@@ -36,9 +36,10 @@ class Drawing {
         const { view, colours } = this.app;
         const step = stepFor(view, mostMarks(view));
         this.pen.fillStyle = colours.line;
-        for (let at = Math.ceil(view.from / step) * step; at <= view.to; at += step) {
-            this.pen.fillRect(Math.round(view.x(at)) + 0.5, 0, 1, height);
+        for (const [, x] of view.marks(step)) {
+            this.pen.fillRect(Math.round(x) + 0.5, 0, 1, height);
         }
+        drawGaps(this.app, this.pen, height);
     }
 
     heading(row, y) {

@@ -49,7 +49,8 @@ function wayToBroken(session) {
 }
 
 const ANSWERS = {
-    sync: "answers to wl_display.sync", configure: "answers to configure", frame: "frame callbacks",
+    sync: "answers to wl_display.sync", first: "first configures", configure: "answers to configure",
+    frame: "frame callbacks",
     presented: "presentation feedbacks", held: "buffer releases", ping: "answers to ping",
 };
 
@@ -69,29 +70,6 @@ function lateFindings(session) {
         }
     }
     return found;
-}
-
-// Pauses of a surface that is drawn all the time: between a frame's done and the next commit.
-function pauseFindings(session) {
-    const found = [];
-    const bySurface = grouped(session.waits.filter((it) => it.key === "frame"), (it) => it.object);
-    for (const [surface, frames] of bySurface) {
-        const { time } = session;
-        const pairs = frames.slice(1).map((it, place) => [frames[place].to, it.from]).filter(([done]) => done >= 0);
-        const usual = median(frames.slice(1).map((it, place) => time[it.from] - time[frames[place].from]));
-        const limit = Math.max(2 * usual, SLOW.over);
-        const pauses = pairs.filter(([done, commit]) => time[commit] - time[done] > limit);
-        if (pairs.length >= 30 && pauses.length && pauses.length <= pairs.length / 20 && usual < 100_000) {
-            const length = ([done, commit]) => time[commit] - time[done];
-            const worst = pauses.reduce((a, b) => (length(b) > length(a) ? b : a));
-            found.push({
-                level: "look", message: worst[0], words: `The client paused ${several(pauses.length, "time")} in `
-                    + `drawing ${surface.name}. A pause is more than ${duration(limit)} from a frame callback to the `
-                    + `next commit. The longest took ${duration(length(worst))}.`,
-            });
-        }
-    }
-    return found.slice(0, 4);
 }
 
 // Questions without an answer that were asked at least a second before the end, or many messages.
@@ -125,8 +103,17 @@ function unansweredWords(session, { key, name, own, left, first, isMute }) {
         : `${name} was not answered ${several(left.length, "time")}.${sinceFirst}`;
 }
 
-// What is said if nothing is worth a look. It must be true.
+// What is said if nothing is worth a look. It must be true: of a part of the session it says nothing about the rest.
 function nothingFound(session) {
+    if (!session.isToEnd) {
+        return `Nothing ${session.isTimed ? "was late" : "was found"} in the part that is shown.`;
+    }
+    const said = nothingFoundToEnd(session), [longest] = session.silences;
+    const silence = longest?.took >= SECOND ? ` The longest silence took ${duration(longest.took)}.` : "";
+    return (session.isFromStart ? said : `In the part that is shown, n${said.slice(1)}`) + silence;
+}
+
+function nothingFoundToEnd(session) {
     const left = session.waits.filter((it) => it.to < 0 && it.key !== "held");
     if (!left.length) {
         return `${session.isTimed ? "Nothing was late, nothing" : "Nothing"} piled up, and nothing was left `
@@ -150,7 +137,7 @@ function leftFindings(session) {
             ? left.length >= 3 && made.some((it) => it.destroyed >= 0)
             : left.length >= 16 && left.length * 2 >= made.length && isSpread(session, left)
                 && made.some((it) => it.destroyed >= 0 || it.messages.length > 0);
-        const all = several(made.length, `${name} object`);
+        const all = several(made.length, `${name} object`) + (session.isFromStart ? "" : " of this part");
         if (isPile && name !== "wl_registry" && !made.every(isMadeByBind.bind(null, session))) {
             found.push({
                 level: "look", message: left[0].made, filter: `is:left ${name}`,
@@ -182,21 +169,25 @@ function ledTo(session, message, object) {
     return found;
 }
 
+// That the page does not show the message that ended the session.
+const notShown = ({ place, number }) => (place < 0 ? ` It is message ${counted(number)}, which is not shown.` : "");
+
 function endFindings(session) {
     const { broken, error, notes } = session.raw, found = [];
     if (broken) {
-        found.push({ level: "bad", message: session.bad, words: `${ruleOf(broken)}${whatIsWrong(broken)}.` });
+        found.push({ level: "bad", message: session.bad, words: `${ruleOf(broken)}${whatIsWrong(broken)}.`
+            + notShown(broken) });
     }
     if (error) {
         const object = session.objects[error.object], about = object?.name ?? "an object that is not known";
         const code = [error.code, ...error.names].join(" ");
-        const before = ledTo(session, error.place, object).map((it) => `${session.nameOf(it)} (${counted(it + 1)})`);
+        const before = ledTo(session, error.place, object).map((it) => `${session.nameOf(it)} (${session.numberOf(it)})`);
         found.push({ level: "bad", message: error.place, words: `The compositor ended the session with error `
             + `${code} for ${about}. It says: “${error.text}”`
-            + (before.length ? `. Before it: ${before.join(", ")}.` : "") });
+            + (before.length ? `. Before it: ${before.join(", ")}.` : "") + notShown(error) });
     }
     for (const [message, words] of notes) {
-        found.push({ level: "note", message, words: `Message ${counted(message + 1)}: ${words}` });
+        found.push({ level: "note", message, words: `Message ${session.numberOf(message)}: ${words}` });
     }
     return found;
 }
@@ -204,10 +195,12 @@ function endFindings(session) {
 function addFindings(session) {
     const found = endFindings(session);
     if (session.isTimed) {
-        found.push(...lateFindings(session), ...pauseFindings(session));
+        const asked = new Asked(session).read();
+        found.push(...lateFindings(session), ...configureFindings(session, asked), ...pauseFindings(session, asked),
+            ...pasteFindings(session));
     }
     // Where the page ends before its session, what came later is not known.
-    if (!session.raw.left_out) {
+    if (session.isToEnd) {
         found.push(...unansweredFindings(session), ...leftFindings(session));
     }
     let late = 0, first = -1;

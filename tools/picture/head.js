@@ -15,6 +15,9 @@ function fillHead(app) {
         head.append(element("span", "counts who", who));
     }
     head.append(pill(kind === "lawful" ? "good" : broken || error ? "bad" : "look", words));
+    if (session.part) {
+        head.append(pill("part", session.partWords()));
+    }
     const looks = session.findings.filter((it) => it.level === "look").length;
     if (looks) {
         const button = element("button", "pill look", `${looks} to look at`);
@@ -26,6 +29,7 @@ function fillHead(app) {
     app.places.picture.setAttribute("aria-label", `The picture of ${session.title}: ${words}, `
         + `${several(session.count, "message")}. The list below has every message, and the tabs have what is worth a look.`);
     showScale(app);
+    showGaps(app);
     document.getElementById("scale").disabled = !session.isTimed;
 }
 
@@ -35,8 +39,9 @@ function countsOf(session) {
     const left = made.filter((it) => session.isOpen(it)).length;
     const fds = session.signatures.map(({ kinds }) => kinds.filter(([kind]) => kind === "fd").length);
     const descriptors = session.signature.reduce((sum, it) => sum + fds[it], 0);
-    const totals = [verdict?.requests ?? session.requests, verdict?.events ?? session.events];
-    if (session.bad >= 0) {
+    const known = session.part ? null : verdict;
+    const totals = [known?.requests ?? session.requests, known?.events ?? session.events];
+    if (session.bad >= 0 && known) {
         totals[session.direction[session.bad]] += 1;
     }
     const part = (...words) => {
@@ -49,7 +54,8 @@ function countsOf(session) {
     const events = part(counted(totals[EVENT]), " ←");
     events.setAttribute("aria-label", `${events.textContent.slice(0, -1)} events`);
     const parts = [requests, " ", events, " · ", session.isTimed ? [part(duration(session.span)), " · "] : [],
-        part(counted(made.length), ` object${made.length === 1 ? "" : "s"}, `, counted(left), " left at the end"),
+        part(counted(made.length), ` object${made.length === 1 ? "" : "s"}, `, counted(left),
+            session.isToEnd ? " left at the end" : " left at the end of this part"),
         descriptors ? [" · ", part(counted(descriptors), descriptors === 1 ? " fd" : " fds")] : []];
     line.append(...parts.flat());
     return line;
@@ -61,21 +67,24 @@ function showScale(app) {
     button.setAttribute("aria-label", `the picture is by ${button.textContent}; switch (t)`);
 }
 
-// By time or by order. The same messages stay in view.
 function switchScale(app) {
-    const { view } = app;
-    if (!app.session.isTimed) {
-        return;
+    if (app.session.isTimed) {
+        rescale(app, !app.view.isTime, app.view.isFolded);
     }
-    const isWhole = view.from <= 0 && view.to >= view.end();
+}
+
+// By time or by order, and with folded gaps or not. The same messages stay in view.
+function rescale(app, isTime, isFolded) {
+    const { view } = app, isWhole = view.from <= 0 && view.to >= view.end();
     const [first, behind] = view.seen(), last = Math.max(0, behind - 1);
-    view.scale(!view.isTime);
+    view.scale(isTime, isFolded);
     if (isWhole) {
         view.all();
     } else {
         view.show(view.at(Math.min(first, last)), view.at(last));
     }
     showScale(app);
+    showGaps(app);
     app.drawSoon();
 }
 
@@ -88,7 +97,7 @@ function showFound(app) {
     const { isShown, selected, session, list: { rows } } = app, place = document.getElementById("found");
     const isHidden = isShown && selected >= 0 && !isShown[selected];
     const words = (isShown ? `${counted(rows.length)} of ${counted(session.count)}` : "")
-        + (isHidden ? `, message ${counted(selected + 1)} is hidden` : "");
+        + (isHidden ? `, message ${session.numberOf(selected)} is hidden` : "");
     // A reader of the screen hears each change.
     if (place.textContent !== words) {
         place.textContent = words;
@@ -101,7 +110,7 @@ const QUIET = 200;
 function writeHash(app) {
     const parts = [];
     if (app.selected >= 0) {
-        parts.push(`m=${app.selected + 1}`);
+        parts.push(`m=${app.session.number[app.selected]}`);
     }
     if (app.filter) {
         parts.push(`f=${encodeURIComponent(app.filter)}`);
@@ -127,6 +136,6 @@ function readHash(app) {
     const message = Number.parseInt(words.get("m") ?? "", 10);
     app.setFilter(words.get("f") ?? "");
     if (message >= 1) {
-        app.select(message - 1);
+        app.select(firstFrom(app.session.number, message));
     }
 }

@@ -16,7 +16,7 @@ function keysOf(app) {
         w: () => app.zoom(1 / 1.6), s: () => app.zoom(1.6),
         a: () => app.move(-0.25), d: () => app.move(0.25),
         0: () => app.showAll(), f: () => app.fitObject(),
-        t: () => switchScale(app), x: () => app.fold(),
+        t: () => switchScale(app), g: () => switchGaps(app), x: () => app.fold(),
         1: () => app.panel.show("session"), 2: () => app.panel.show("message"), 3: () => app.panel.show("interfaces"),
         "?": showHelp,
     };

@@ -38,20 +38,23 @@ function purposeOf(session, object) {
         ? "globals" : found;
 }
 
-// The visible part of the session, by time in microseconds, or by order in messages.
+// The visible part of the session, by time in microseconds, also with folded gaps, or by order in messages.
 class View {
     constructor(session) {
         this.session = session;
         this.order = Float64Array.from({ length: session.count }, (_, it) => it + 1);
+        this.foldable = session.isTimed ? new FoldedTime(session) : { gaps: [] };
         this.width = 1000;
         this.scale(session.isTimed);
         this.all();
     }
 
     // Takes the places of messages, which never go down, from their times or from their order.
-    scale(isTime) {
+    scale(isTime, isFolded = false) {
         this.isTime = isTime;
-        this.places = isTime ? this.session.time : this.order;
+        this.isFolded = isFolded;
+        this.folded = isTime && isFolded ? this.foldable : null;
+        this.places = this.folded?.places ?? (isTime ? this.session.time : this.order);
     }
 
     at(message) {
@@ -60,7 +63,7 @@ class View {
 
     // The end of the session. By order it is behind the last message, so that this has a place too.
     end() {
-        return this.isTime ? this.session.span : this.session.count + 1;
+        return this.folded?.end ?? (this.isTime ? this.session.span : this.session.count + 1);
     }
 
     all() {
@@ -114,6 +117,21 @@ class View {
 
     atX(x) {
         return this.from + (x - this.left) / this.inner * (this.to - this.from);
+    }
+
+    // The time at a place of a scale of times.
+    timeAt(place) {
+        return this.folded?.time(place) ?? place;
+    }
+
+    // The multiples of a step that are seen, outside of folded gaps, and where they are in the picture.
+    *marks(step) {
+        const { from: first, to: last } = this;
+        for (const { from, to, less } of this.folded?.stretches(first, last) ?? [{ from: first, to: last, less: 0 }]) {
+            for (let at = Math.ceil((from + less) / step) * step; at - less <= to; at += step) {
+                yield [at, this.x(at - less)];
+            }
+        }
     }
 
     // The first message at this place or behind it.

@@ -32,8 +32,11 @@ class List {
         this.place = place;
         this.inner = place.firstElementChild;
         this.rows = [];
+        // The row at which each line begins; null if each has one.
+        this.begins = null;
+        this.stacked = new Stacked(app.session);
         const { count, time } = app.session;
-        place.style.setProperty("--digits", String(count).length);
+        place.style.setProperty("--digits", String(app.session.number[count - 1] ?? 0).length);
         place.style.setProperty("--time-digits", microseconds(time[count - 1] ?? 0).length);
         place.addEventListener("scroll", () => {
             this.draw();
@@ -58,15 +61,60 @@ class List {
             }
         }
         this.rows = rows.subarray(0, length);
-        this.inner.style.height = `${this.rows.length * LINE}px`;
+        this.layOut();
         this.draw();
+    }
+
+    // The places of the lines. They are one row high, unless the list is narrow.
+    layOut() {
+        const { rows, stacked } = this;
+        this.begins = null;
+        stacked.fit(this);
+        this.place.classList.toggle("stacked", stacked.columns > 0);
+        if (stacked.columns) {
+            this.begins = new Int32Array(rows.length + 1);
+            rows.forEach((message, place) => {
+                this.begins[place + 1] = this.begins[place] + stacked.rowsOf(message);
+            });
+        }
+        this.inner.style.height = `${this.topOf(rows.length)}px`;
+    }
+
+    // The list may have another width. The first line that is seen stays the first.
+    resize() {
+        const [first] = this.listed(), { columns } = this.stacked;
+        this.layOut();
+        if (columns !== this.stacked.columns) {
+            this.place.scrollTop = this.topOf(Math.max(0, this.placeOf(first)));
+        }
+        this.draw();
+    }
+
+    topOf(place) {
+        return (this.begins ? this.begins[place] : place) * LINE;
+    }
+
+    // The place of the line at a height, or how many there are.
+    placeAt(y) {
+        return firstWhere(this.rows.length, (it) => this.topOf(it + 1) > y);
+    }
+
+    // The places of the first line that is seen and of the one behind the last.
+    seen() {
+        const { scrollTop, clientHeight } = this.place;
+        return [this.placeAt(scrollTop), Math.min(this.rows.length, this.placeAt(scrollTop + clientHeight - 1) + 1)];
     }
 
     // The first and the last message that are seen; -1 if there is none.
     listed() {
-        const first = Math.floor(this.place.scrollTop / LINE);
-        const last = Math.min(this.rows.length, first + Math.ceil(this.place.clientHeight / LINE)) - 1;
+        const [first, behind] = this.seen(), last = behind - 1;
         return this.rows.length ? [this.rows[Math.min(first, last)], this.rows[last]] : [-1, -1];
+    }
+
+    // How many lines are seen whole, without the one that stays when a page is turned.
+    page() {
+        const [first, behind] = this.seen();
+        return Math.max(1, behind - first - 1);
     }
 
     placeOf(message) {
@@ -76,25 +124,26 @@ class List {
 
     // Puts a message at the top.
     scrollTo(message) {
-        this.place.scrollTop = firstFrom(this.rows, message) * LINE;
+        this.place.scrollTop = this.topOf(firstFrom(this.rows, message));
         this.draw();
     }
 
     // Brings a message into view; if it was far away, near the middle.
     reveal(message) {
-        const at = firstFrom(this.rows, message) * LINE, { scrollTop, clientHeight } = this.place;
-        if (at < scrollTop || at + LINE > scrollTop + clientHeight) {
+        const place = firstFrom(this.rows, message), at = this.topOf(place), { scrollTop, clientHeight } = this.place;
+        const high = this.topOf(Math.min(place + 1, this.rows.length)) - at;
+        if (at < scrollTop || at + high > scrollTop + clientHeight) {
             const isNear = Math.abs(at - scrollTop) < clientHeight + 3 * LINE;
             const middle = at - Math.floor(clientHeight / 2 / LINE) * LINE;
-            this.place.scrollTop = !isNear ? middle : at < scrollTop ? at : at + LINE - clientHeight;
+            // The line is seen whole, or from its begin on.
+            const least = Math.min(at, at + high - clientHeight);
+            this.place.scrollTop = !isNear ? Math.max(least, middle) : at < scrollTop ? at : least;
         }
         this.draw();
     }
 
     draw() {
-        const { scrollTop, clientHeight } = this.place;
-        const first = Math.max(0, Math.floor(scrollTop / LINE) - 2);
-        const last = Math.min(this.rows.length, first + Math.ceil(clientHeight / LINE) + 5);
+        const seen = this.seen(), first = Math.max(0, seen[0] - 2), last = Math.min(this.rows.length, seen[1] + 3);
         const lines = [];
         for (let place = first; place < last; place++) {
             lines.push(this.line(place));
@@ -107,11 +156,11 @@ class List {
 
     line(place) {
         const { session, selected } = this.app, message = this.rows[place];
-        const isSelected = message === selected, isBad = message === session.bad || message === session.raw.error?.place;
+        const isSelected = message === selected, isBad = message === session.bad || message === session.trouble;
         const line = element("div", `line${isSelected ? " selected" : ""}${isBad ? " bad" : ""}`);
         line.id = `m${message + 1}`;
         line.dataset.message = message;
-        line.style.top = `${place * LINE}px`;
+        line.style.top = `${this.topOf(place)}px`;
         const roles = { role: "option", "aria-selected": isSelected, "aria-posinset": place + 1,
             "aria-setsize": this.rows.length };
         Object.entries(roles).forEach(([name, value]) => line.setAttribute(name, String(value)));
@@ -119,31 +168,38 @@ class List {
         if (before !== undefined && session.piece[before] !== session.piece[message]) {
             line.classList.add("piece");
         }
-        line.append(element("span", "number", String(message + 1)));
+        line.append(element("span", "number", String(session.number[message])));
         if (session.isTimed) {
             line.append(element("span", "time", microseconds(session.time[message])));
         }
-        line.append(arrowOf(session, message), wordsOf(session, message), this.behind(message));
+        const words = wordsOf(session, message), behind = behindOf(session, message);
+        line.append(arrowOf(session, message), words);
+        if (this.begins) {
+            line.style.height = `${this.topOf(place + 1) - this.topOf(place)}px`;
+            words.append(element("span", "took", spaced(behind)));
+            this.stacked.breakWords(words);
+        } else {
+            line.append(element("span", "took", behind));
+        }
         return line;
     }
+}
 
-    // The end of a line: the rule that was broken, how long the answer took, or that there is none.
-    behind(message) {
-        const { session } = this.app;
-        if (message === session.bad) {
-            return element("span", "took", ruleOf(session.raw.broken));
-        }
-        if (message === session.raw.error?.place) {
-            return element("span", "took", `error ${session.raw.error.code}`);
-        }
-        const waits = session.waitsOf.get(message) ?? [], wait = waits.find((it) => it.to === message && !it.isGone);
-        const open = waits.find((it) => it.to < 0 && it.asked === message && it.key !== "held");
-        if (!(wait || open) || !session.isTimed) {
-            return element("span", "took");
-        }
-        return element("span", "took", wait ? `${wait.isSlow ? "late, " : ""}${duration(wait.took)}`
-            : `no answer, ${duration(open.took)}`);
+// The end of a line: the rule that was broken, how long the answer took, or that there is none.
+function behindOf(session, message) {
+    if (message === session.bad) {
+        return ruleOf(session.raw.broken);
     }
+    if (message === session.raw.error?.place) {
+        return `error ${session.raw.error.code}`;
+    }
+    const waits = session.waitsOf.get(message) ?? [], wait = waits.find((it) => it.to === message && !it.isGone);
+    const open = waits.find((it) => it.to < 0 && it.asked === message && it.key !== "held");
+    if (!(wait || open) || !session.isTimed) {
+        return "";
+    }
+    return wait ? `${wait.isSlow ? "late, " : ""}${duration(wait.took)}`
+        : `no answer${session.isToEnd ? "" : " in this part"}, ${duration(open.took)}`;
 }
 
 function arrowOf(session, message) {
@@ -169,7 +225,8 @@ function withBirth(text, object) {
 function wordsOf(session, message) {
     const [object, name] = session.parts(message);
     const words = element("span", "words"), rest = element("span", "rest");
-    rest.append(...printedParts(session, message).map((it) => withBirth(it.text, it.object)));
+    rest.append(...printedParts(session, message).flatMap(({ text, object, meaning }) =>
+        [withBirth(text, object), ...(meaning ? [element("span", "meaning", meaning)] : [])]));
     words.append(withBirth(object, session.objects[session.object[message]]), object && name ? "." : "",
         element("b", "", name), rest);
     return words;

@@ -10,7 +10,7 @@ class App {
         this.folds = new Map();
         const place = (id) => document.getElementById(id);
         this.places = { overview: place("overview"), axis: place("axis"), picture: place("picture"),
-            scroller: place("scroller"), tall: place("tall") };
+            scroller: place("scroller"), tall: place("tall"), below: place("below") };
         this.filterField = place("filter");
         this.view = new View(session);
         this.colours = readColours();
@@ -25,6 +25,15 @@ class App {
         this.layout = new Layout(this.session, this.folds, this.view.isNarrow);
     }
 
+    // What the picture's rows do not need of the page's height is for the list and the tabs, in whole rows of the list.
+    fitHeight() {
+        const { scroller, below } = this.places, lines = (part) => `${Math.floor(part / LINE) * LINE}px`;
+        ["--spare", "--spare-of-list"].forEach((it) => below.style.removeProperty(it));
+        const spare = Math.max(0, scroller.clientHeight - this.layout.height);
+        below.style.setProperty("--spare", lines(spare));
+        below.style.setProperty("--spare-of-list", lines(spare / 2));
+    }
+
     start() {
         fillHead(this);
         addKeys(this);
@@ -33,6 +42,7 @@ class App {
         new ResizeObserver(() => this.resize()).observe(this.places.scroller);
         this.filterField.addEventListener("input", () => this.setFilter(this.filterField.value, "field"));
         document.getElementById("scale").addEventListener("click", () => switchScale(this));
+        document.getElementById("gaps").addEventListener("click", () => switchGaps(this));
         document.getElementById("theme").addEventListener("click", () => switchTheme(this));
         document.getElementById("help").addEventListener("click", showHelp);
         systemIsDark.addEventListener("change", () => followSystem(this));
@@ -41,6 +51,7 @@ class App {
         this.panel.show("session");
         this.resize();
         readHash(this);
+        this.openAtError();
         this.list.place.focus({ preventScroll: true });
     }
 
@@ -50,8 +61,16 @@ class App {
         if (this.view.isNarrow !== isNarrow) {
             this.layOut();
         }
+        this.fitHeight();
+        this.list.resize();
         this.draw();
-        this.list.draw();
+    }
+
+    // A session that broke a rule, or was ended by an error, opens there, if the address names nothing else.
+    openAtError() {
+        if (this.session.trouble >= 0 && location.hash.length < 2) {
+            this.choose(this.session.trouble);
+        }
     }
 
     drawSoon() {
@@ -75,7 +94,7 @@ class App {
     }
 
     pageOfList() {
-        return Math.max(1, Math.floor(this.list.place.clientHeight / LINE) - 1);
+        return this.list.page();
     }
 
     selectedObject() {
@@ -83,17 +102,25 @@ class App {
     }
 
     select(message, { from = "" } = {}) {
+        this.choose(message, from);
+        if (this.selected >= 0) {
+            this.panel.show("message");
+        } else {
+            this.panel.draw();
+        }
+        writeHash(this);
+    }
+
+    // Selects a message, and leaves the tab and the address as they are.
+    choose(message, from = "") {
         this.selected = Math.max(-1, Math.min(message, this.session.count - 1));
         if (this.selected >= 0) {
             this.list.reveal(this.selected);
             this.bringIntoView(this.selected, from);
-            this.panel.show("message");
         } else {
-            this.panel.draw();
             this.list.draw();
         }
         showFound(this);
-        writeHash(this);
         this.drawSoon();
     }
 
@@ -216,7 +243,7 @@ class App {
             const isFolded = this.layout.rows.some((it) => it.kind === "fold" && it.interface === name);
             this.folds.set(name, !isFolded);
             this.layOut();
-            this.drawSoon();
+            this.resize();
         }
     }
 

@@ -3,8 +3,11 @@
 
 const ROLES = /^(get_toplevel|get_popup|get_layer_surface|get_lock_surface|get_shell_surface|get_xdg_popup)$/;
 
-// The first steps to a window, in order: a name and a message each.
+// The first steps to a window, in order: a name and a message each. None if the page does not show the first ones.
 function milestones(session) {
+    if (!session.isFromStart) {
+        return [];
+    }
     const found = [], seen = new Set();
     const add = (name, message) => {
         if (!seen.has(name)) {

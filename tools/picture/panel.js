@@ -4,6 +4,9 @@
 // How an object began that no message of the page has made. A recording that begins in the middle of its session names
 // the objects that were there.
 function beginWords(session, object) {
+    if (object.id !== 1 && session.part && session.part.first !== 1 && object.interface !== "unknown") {
+        return "made before this part";
+    }
     const isNamed = typeof session.raw.head.from === "number" && object.interface !== "unknown";
     return object.id === 1 || isNamed ? "there from the start" : "what made it is not known";
 }
@@ -65,7 +68,7 @@ class Panel {
     // A link to a message; or to what a filter finds.
     link(text, message, filter = null) {
         const made = element("a", "", text);
-        made.href = filter === null ? `#m=${message + 1}` : `#f=${encodeURIComponent(filter)}`;
+        made.href = filter === null ? `#m=${this.app.session.number[message]}` : `#f=${encodeURIComponent(filter)}`;
         made.addEventListener("click", (event) => {
             event.preventDefault();
             if (filter !== null) {
@@ -79,7 +82,7 @@ class Panel {
     }
 
     toMessage(message) {
-        return this.link(`message ${counted(message + 1)}`, message);
+        return this.link(`message ${this.app.session.numberOf(message)}`, message);
     }
 
     toObject(object) {
@@ -98,7 +101,9 @@ class Panel {
         const items = findings.map(({ level, words, message, filter }) => {
             const made = element("li", level);
             const levelWords = { bad: "broken: ", look: "", note: "" }[level];
-            made.append(element("span", "unseen", levelWords), this.link(words, message, filter ?? null));
+            // The message that ended the session may be outside the part that is shown.
+            made.append(element("span", "unseen", levelWords),
+                message < 0 ? words : this.link(words, message, filter ?? null));
             return made;
         });
         if (!items.length) {
@@ -106,8 +111,9 @@ class Panel {
         }
         const list = element("ul");
         list.append(...items);
-        return [element("h2", "", "Worth a look"), list, session.bad >= 0 ? this.wayThere() : [], this.remarks(),
-            selectionParts(this), this.wayToWindow(), this.about(raw)];
+        const remarks = this.remarks();
+        return [session.part ? remarks : [], element("h2", "", "Worth a look"), list,
+            session.bad >= 0 ? this.wayThere() : [], session.part ? [] : remarks, selectionParts(this), silenceParts(this), this.wayToWindow(), this.about(raw)];
     }
 
     wayThere() {
@@ -123,24 +129,24 @@ class Panel {
     }
 
     remarks() {
-        const { session } = this.app, { left_out: leftOut, cut_at: end, others, verdict } = session.raw, said = [];
+        const { session } = this.app, { others, verdict } = session.raw, said = [];
+        if (session.part) {
+            const since = session.isTimed && session.part.first !== 1
+                ? ` Times count from the first of them, ${duration(session.begin)} after the session began.` : "";
+            said.push(`This page shows ${session.partWords()}.${since} The verdict is that of the whole session.`);
+        }
         if (!session.isTimed) {
             said.push("This recording has no times: what was late is not known, and the picture is in order of messages.");
         }
-        if (typeof session.raw.head.from === "number") {
+        if (typeof session.raw.head.from === "number" && !session.part) {
             said.push(`This recording begins ${duration(session.raw.head.from * 1e6)} after its session did, and times `
                 + "count from there. It is not judged.");
         }
-        if (session.isTimed && verdict && verdict.ended === null && !leftOut) {
+        if (session.isTimed && verdict && verdict.ended === null && session.isToEnd) {
             said.push(verdict.cut === null
                 ? "This recording does not say when its session ended: the page ends with the last message."
-                : `The recording reached its limit of 16 MiB after ${duration(verdict.cut * 1e6)} and was cut. `
+                : `The recording reached its limit after ${duration(verdict.cut * 1e6)} and was cut. `
                     + "The session went on.");
-        }
-        if (leftOut) {
-            said.push(`The page ends before the recording does: ${several(leftOut, "message")} behind `
-                + `message ${counted(end)} are left out. `
-                + "The verdict is that of the whole recording.");
         }
         if (others.length) {
             const words = others.map(([number, name, pid]) => [`#${number}`, whoOf(name, pid)].filter((it) => it).join(" "));
@@ -165,7 +171,7 @@ class Panel {
         return [heading, session.milestones.map(({ name, message }) => {
             const made = element("div", "row");
             made.append(this.link(name, message), element("span", "value",
-                session.isTimed ? duration(session.time[message]) : `message ${counted(message + 1)}`));
+                session.isTimed ? duration(session.time[message]) : `message ${session.numberOf(message)}`));
             made.firstChild.classList.add("name");
             return made;
         })];
@@ -248,7 +254,7 @@ class Panel {
         }
         const from = wait.from === message ? "" : [" from ", this.toMessage(wait.from), " on"];
         if (wait.to < 0) {
-            return this.row(name, "has no answer", from, session.isTimed ? `, after ${duration(wait.took)}` : "");
+            return this.row(name, session.isToEnd ? "has no answer" : "has no answer in this part", from, session.isTimed ? `, after ${duration(wait.took)}` : "");
         }
         return wait.isGone ? this.row(name, "ended with ", this.toMessage(wait.to), ", without an answer")
             : this.row(name, "answered by ", this.toMessage(wait.to), took, from);
@@ -266,7 +272,8 @@ class Panel {
         life.push(...(object.made >= 0 ? ["made by ", by(object.made)] : [beginWords(session, object)]));
         life.push(...(object.destroyed >= 0 ? ["; destroyed by ", by(object.destroyed)] : []));
         life.push(...(object.freed >= 0 ? ["; its id was freed by ", this.toMessage(object.freed)] : []));
-        life.push(session.isOpen(object) ? "; left at the end" : "");
+        const isLeft = session.isOpen(object);
+        life.push(!isLeft ? "" : session.isToEnd ? "; left at the end" : "; left at the end of this part");
         const name = element("p");
         name.append(this.toObject(object));
         return [element("h2", "", "Object"), name, object.version ? this.row("version", String(object.version)) : null,

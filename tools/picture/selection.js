@@ -56,15 +56,15 @@ function drawSelection(app, pen, top, height) {
             drawDot(pen, place(message), view, colours, colour);
         }
     };
-    if (session.bad >= 0) {
-        mark(session.bad, colours.bad, 1.5);
+    if (session.trouble >= 0) {
+        mark(session.trouble, colours.bad, 1.5);
     }
     if (selected < 0) {
         return;
     }
     const other = session.answer[selected] >= 0 ? session.answer[selected] : session.question[selected];
     const [from, to] = [selected, other].sort((a, b) => a - b);
-    mark(selected, selected === session.bad ? colours.bad : colours.request, 1);
+    mark(selected, selected === session.trouble ? colours.bad : colours.request, 1);
     if (other >= 0 && place(from) && place(to)) {
         clipped(pen, view, 0, height, () => drawArrow(pen, place(from), place(to), colours.text));
     }

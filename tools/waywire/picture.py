@@ -1,14 +1,15 @@
 """Makes a page of a recorded session. It is one file, which any browser opens and which needs nothing else.
 
-    tools/waywire-picture FILE -o FILE.html [--tables FILE]... [--limit N]
-    tools/waywire-picture --json FILE -o FILE.html
+    tools/waywire-picture FILE -o FILE.html [--from N] [--to N] [--tables FILE]... [--limit N]
+    tools/waywire-picture --json FILE -o FILE.html [--from N] [--to N]
 
 FILE is a recording, as `waywire-inspect --record` writes it. `waywire-inspect --read` reads and judges it,
 and the page is made from its output. `--json FILE` takes such output from a file, or from standard input if
-FILE is `-`.
+FILE is `-`. `--from` and `--to` say which messages the page shows, by their numbers or times; of these it shows the
+last 200,000.
 
-Exit status: 0 if a page was written; 2 if an option is wrong; 3 if a file cannot be read, is no recording, or
-no page can be written. If the status is not 0, an old page stays as it was.
+Exit status: 0 if a page was written; 2 if an option is wrong, or names as the page a file that is read; 3 if a file
+cannot be read, is no recording, or no page can be written. If the status is not 0, an old page stays as it was.
 """
 
 import argparse
@@ -22,10 +23,12 @@ import shutil
 import subprocess
 import sys
 import tempfile
-from collections.abc import Iterable, Iterator, Sequence
+from collections.abc import Iterator, Sequence
 from typing import IO
 
-from .picture_columns import Columns, NoLines, NoSession
+from . import files
+from .picture_columns import MOST_MESSAGES, Columns, NoLines, NoSession
+from .picture_window import Window
 
 # The folder of the tools, with the parts of the page.
 TOOLS = os.path.dirname(os.path.dirname(os.path.realpath(__file__)))
@@ -44,29 +47,39 @@ def inspector_of(given: str | None) -> str:
 
 
 @contextlib.contextmanager
+def read_twice(file: IO[bytes]) -> Iterator[IO[bytes]]:
+    """The same bytes as a file that can be read again."""
+    if file.seekable():
+        yield file
+        return
+    with tempfile.TemporaryFile() as copy:
+        shutil.copyfileobj(file, copy)
+        copy.seek(0)
+        yield copy
+
+
+@contextlib.contextmanager
 def lines_of(words: argparse.Namespace) -> Iterator[IO[bytes]]:
     """The inspector's lines: of a file that holds them, or of the inspector, which is run."""
     try:
-        if words.json == "-":
-            yield sys.stdin.buffer
-            return
         if words.json:
-            with open(words.json, "rb") as file:
-                yield file
+            with sys.stdin.buffer if words.json == "-" else open(words.json, "rb") as file, read_twice(file) as lines:
+                yield lines
             return
         # What the inspector would say of a file that is not there.
         with open(words.file, "rb"):
             pass
     except OSError as error:
-        raise NoSession(f"cannot read {words.json or words.file}") from error
+        raise NoSession(f"cannot read {words.json or words.file}: {error.strerror}") from error
     options = [it for path in words.tables for it in ("--tables", path)]
     options += ["--limit", words.limit] if words.limit else []
+    options += [*words.window.options(), f"--last={MOST_MESSAGES}"]
     run = [inspector_of(words.inspector), *options, "--json", "--read", words.file]
     with tempfile.TemporaryFile() as said:
         try:
             tool = subprocess.Popen(run, stdout=subprocess.PIPE, stderr=said, stdin=subprocess.DEVNULL)
         except OSError as error:
-            raise NoSession(f"cannot run {run[0]}") from error
+            raise NoSession(f"cannot run {run[0]}: {error.strerror}") from error
         with tool, contextlib.suppress(NoLines):
             assert tool.stdout
             yield tool.stdout
@@ -110,24 +123,13 @@ def joined(title: str, packed: str) -> Iterator[str]:
     yield page[at:]
 
 
-def write_whole(path: str, parts: Iterable[str]) -> None:
-    """Writes a file that is there whole or not at all. A pipe or a device is written as it is."""
-    if os.path.exists(path) and not os.path.isfile(path):
-        with open(path, "w", encoding="utf-8") as file:
-            file.writelines(parts)
-        return
-    place = os.path.realpath(path)
-    number, name = tempfile.mkstemp(dir=os.path.dirname(place), prefix=".waywire-picture-")
-    try:
-        with open(number, "w", encoding="utf-8") as file:
-            file.writelines(parts)
-        mask = os.umask(0)
-        os.umask(mask)
-        os.chmod(name, 0o666 & ~mask)
-        os.replace(name, place)
-    except BaseException:
-        os.unlink(name)
-        raise
+def inputs_of(words: argparse.Namespace) -> list[files.File]:
+    """What is read: the recording and the tables beside it, or the lines, and what --tables names."""
+    given = [0 if words.json == "-" else words.json] if words.json else [words.file]
+    # A later client's recording, FILE.2 or FILE.2.last, has the tables of the first.
+    stem = re.sub(r"(\.\d+)?(\.last)?$", "", words.file or "")
+    tables = words.tables or [f"{it}.tables" for it in (words.file, stem) if it]
+    return [*given, *tables, *(f"{it.removesuffix('.tables')}.names" for it in tables)]
 
 
 def words_of(arguments: Sequence[str] | None) -> argparse.Namespace:
@@ -146,6 +148,10 @@ def words_of(arguments: Sequence[str] | None) -> argparse.Namespace:
     parser.add_argument("--limit", metavar="N", help="the length of the longest message in bytes [default: 4096]")
     parser.add_argument("--client", type=int, default=1, metavar="N",
                         help="the client to show, if the lines are from several [default: 1]")
+    parser.add_argument("--from", dest="begin", metavar="N", help="shows the messages from the one with the number N on; "
+                        "or from a time on, in seconds, such as 2.5s")
+    parser.add_argument("--to", dest="end", metavar="N", help="shows the messages up to the one with the number N, or up "
+                        "to a time")
     parser.add_argument("--title", metavar="TEXT",
                         help="the title of the page [default: the name of the recording or the client]")
     parser.add_argument("--inspector", metavar="PATH",
@@ -153,22 +159,42 @@ def words_of(arguments: Sequence[str] | None) -> argparse.Namespace:
     words = parser.parse_args(arguments)
     if (words.file is None) == (words.json is None):
         parser.error("give a recording, or --json")
+    try:
+        words.window = Window(words.begin, words.end)
+    except ValueError as error:
+        parser.error(f"{error} is neither the number of a message nor a time in seconds, such as 2.5s")
     return words
+
+
+def read_lines(words: argparse.Namespace) -> Columns:
+    """The lines as columns. Raises `NoSession`."""
+    columns = Columns(words.client, words.window)
+    with lines_of(words) as lines:
+        if words.json:
+            try:
+                within = words.window.count(lines, words.client)
+            except (ValueError, KeyError, TypeError) as error:
+                raise NoLines from error
+            columns.skipped = max(0, within - MOST_MESSAGES)
+            lines.seek(0)
+        columns.read(lines)
+    return columns
 
 
 def main(arguments: Sequence[str] | None = None) -> int:
     words = words_of(arguments)
-    columns = Columns(words.client)
+    if files.input_of(words.output, inputs_of(words)) is not None:
+        print(f"waywire-picture: {words.output} is read too, and is not written over", file=sys.stderr)
+        return 2
     try:
-        with lines_of(words) as lines:
-            columns.read(lines)
+        columns = read_lines(words)
         title = words.title or columns.title(words.file)
         packed = columns.packed(title)
-        write_whole(words.output, joined(title, packed))
+        files.write_whole(words.output, joined(title, packed))
     except NoSession as error:
         print(f"waywire-picture: {error}", file=sys.stderr)
         return 3
-    except OSError:
-        print(f"waywire-picture: cannot write {words.output}", file=sys.stderr)
+    except OSError as error:
+        print(f"waywire-picture: cannot write {words.output}: {error.strerror}", file=sys.stderr)
         return 3
     return 0

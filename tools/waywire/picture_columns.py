@@ -12,15 +12,23 @@ from array import array
 from collections.abc import Iterable
 from typing import Any
 
-# The most messages of a page, and the most bytes of its text. The rest is left out, and the page says so.
+from .picture_window import Window, front_of
+
+# The most messages of a page, and the most bytes of its text. The rest is left out, and the page says which part it
+# shows.
 MOST_MESSAGES = 200_000
 MOST_TEXT = 32 * 2**20
-# The most bytes of a message, and the most numbers of an array, that are kept.
+# The most bytes of a message, and the most numbers or bytes of an array, that are kept.
 MOST_BYTES = 256
 MOST_NUMBERS = 8
+MOST_CONTENTS = 16
 # A time is below this number of seconds.
 MOST_SECONDS = 10**9
 STATES = {"live": 0, "ending": 1, "unknown": 2}
+# How a question ends: with an answer, with its object, not before the session, or it needs no answer so far.
+ENDS = {"answered": 0, "gone": 1, "unanswered": 2, "open": 3}
+# How many numbers a question has (`Columns.waits`).
+WAIT_COLUMNS = 5
 
 
 class NoSession(Exception):
@@ -69,7 +77,10 @@ def microseconds(seconds: float | None) -> int:
 
 
 def contents(argument: dict[str, Any]) -> str:
-    """The contents of an array in words: if it has numbers, its first numbers with their names."""
+    """The contents of an array in words, as a line has them: if it has numbers, its first numbers with their names; else
+    its bytes, if they are few."""
+    if "numbers" not in argument:
+        return argument["value"] or "" if argument["size"] <= MOST_CONTENTS else ""
     numbers, names = argument.get("numbers", [])[:MOST_NUMBERS], argument.get("names", [])
     words = [" ".join([str(it), *(["|".join(names[at])] if names[at : at + 1] and names[at] else [])])
              for at, it in enumerate(numbers)]
@@ -80,8 +91,10 @@ def contents(argument: dict[str, Any]) -> str:
 class Columns:
     """The contents of a page for the session of one client."""
 
-    def __init__(self, client: int = 1) -> None:
+    def __init__(self, client: int = 1, window: Window | None = None) -> None:
         self.client, self.is_there = client, False
+        # Which messages are shown, and how many of these are still left out first.
+        self.window, self.skipped = window or Window(), 0
         # The other clients: the name and the process of each.
         self.others: dict[int, list[Any]] = {}
         self.head: dict[str, Any] = {}
@@ -107,23 +120,30 @@ class Columns:
         self.made: list[int] = []
         self.destroyed: list[int] = []
         self.freed: list[int] = []
-        # The number of each message, and pairs of an answer's place and its question's.
         self.numbers = array("q")
-        self.answers: list[int] = []
-        self.unanswered: list[int] = []
+        # Of each question: what asks, what it waits from, what ends it, how it ends, and what replaces its buffer.
+        self.waits: list[int] = []
+        # Commits that are kept for the commit of a parent.
+        self.kept: list[int] = []
         self.notes: list[tuple[int, str]] = []
-        self.text_size, self.left_out, self.cut_at = 0, 0, 0
+        self.text_size, self.is_full = 0, False
         self.last_time, self.last_piece = 0, 0
         self.next_offset: dict[str, int] = {}
+        # The index of the first message of each direction.
+        self.begins: dict[str, int] = {}
 
     def read(self, lines: Iterable[bytes]) -> None:
         """Takes lines in. Raises `NoSession`."""
         # A kind that is not known here tells what a page does not show.
         does = {it: getattr(self, f"take_{it}") for it in (
-            "message", "broken", "error", "unanswered", "verdict", "client")}
+            "message", "broken", "error", "unanswered", "open", "verdict", "client")}
         decode = json.JSONDecoder().decode
         for line in lines:
             try:
+                # What is not shown is not read further.
+                if (front := front_of(line)) and front[0] == self.client and self.passes_over(*front[1:]):
+                    self.is_there = True
+                    continue
                 found = decode(line.decode())
                 kind = found["type"]
                 if kind == "head":
@@ -153,8 +173,16 @@ class Columns:
             "verdict", "words", "messages", "requests", "events", "ended", "cut")}
 
     def take_unanswered(self, found: dict[str, Any]) -> None:
-        if (place := self.place_of(found["number"])) >= 0:
-            self.unanswered.append(place)
+        self.add_wait({**found, "asked": found["number"]}, -1, ENDS["unanswered"])
+
+    def take_open(self, found: dict[str, Any]) -> None:
+        self.add_wait({**found, "asked": found["number"]}, -1, ENDS["open"])
+
+    def add_wait(self, found: dict[str, Any], ended: int, how: int) -> None:
+        """Adds a question. One that was asked before the first row is left out."""
+        asked, since = self.place_of(found["asked"]), self.place_of(found.get("since", found["asked"]))
+        if asked >= 0 and since >= 0:
+            self.waits += (asked, since, ended, how, self.place_of(found.get("replaced", 0)))
 
     def place_of(self, number: int) -> int:
         """The row of the message with a number; -1 if it has none."""
@@ -162,8 +190,8 @@ class Columns:
         return place if place < len(self.numbers) and self.numbers[place] == number else -1
 
     def take_error(self, found: dict[str, Any]) -> None:
-        """A wl_display.error; its message came just before."""
-        self.error = {"place": len(self.rest) - 1, "object": self.object(found["object"]),
+        """A wl_display.error; its message came just before, if it is shown."""
+        self.error = {"place": self.place_of(found["number"]), "number": found["number"], "object": self.object(found["object"]),
                       "code": found["code"], "text": found["text"], "names": found.get("names") or []}
 
     def take_broken(self, found: dict[str, Any]) -> None:
@@ -171,8 +199,13 @@ class Columns:
         message = found["message"] or {"object": found["object"], "opcode": -1, "message": None,
                                        "arguments": [], "state": "unknown", "text": "", "piece": None}
         own = {it: found[it] for it in ("direction", "offset", "size", "number", "bytes")}
-        self.broken = {"place": len(self.rest), "fault": found["fault"], "words": found["words"]}
-        self.add_row({"time": None, **message, **own, "made": (), "destroyed": (), "freed": ()})
+        number, time = found["number"], message.get("time")
+        follows = number == (self.numbers[-1] + 1 if self.numbers else self.window.first or 1)
+        is_shown = follows and not (self.skipped or self.is_full) and self.window.has(number, time)
+        self.broken = {"place": len(self.rest) if is_shown else -1, "number": number,
+                       "fault": found["fault"], "words": found["words"]}
+        if is_shown:
+            self.add_row({"time": None, **message, **own, "made": (), "destroyed": (), "freed": ()})
 
     def object(self, found: dict[str, Any] | None, version: int | None = None) -> int:
         """The number of an object; -1 for no object."""
@@ -212,13 +245,17 @@ class Columns:
             return argument["size"]
         return argument["number"] if kind == "fd" else argument["value"]
 
+    def passes_over(self, number: int, time: float | None) -> bool:
+        """Whether a message is not shown. One that is left out first is counted."""
+        if self.is_full or not self.window.has(number, time):
+            return True
+        self.skipped -= (is_skipped := self.skipped > 0)
+        return is_skipped
+
     def take_message(self, found: dict[str, Any]) -> None:
-        is_full = len(self.rest) >= MOST_MESSAGES or self.text_size > MOST_TEXT
-        if is_full and (found["message"] != "error" or found["object"]["id"] != 1):
-            self.left_out += 1
-            self.cut_at = self.cut_at or len(self.rest)
-        else:
+        if not self.is_full and self.window.has(found["number"], found["time"]):
             self.add_row(found)
+            self.is_full = len(self.rest) >= MOST_MESSAGES or self.text_size > MOST_TEXT
 
     def add_row(self, found: dict[str, Any]) -> None:
         rows, about = self.rows, found["object"]
@@ -239,10 +276,13 @@ class Columns:
         rows["size"].append(found["size"])
         rows["offset"].append(found["offset"] - self.next_offset.get(direction, 0))
         self.next_offset[direction] = found["offset"] + found["size"]
+        self.begins.setdefault(direction, found.get("index", 1))
         rows["state"].append(STATES[found["state"]] + 4 * (found.get("judged") is False))
         self.numbers.append(found["number"])
-        if (question := self.place_of(found.get("answers", 0))) >= 0:
-            self.answers += (place, question)
+        for it in found.get("closes") or ():
+            self.add_wait(it, place, ENDS["answered" if it["answered"] else "gone"])
+        if found.get("kept"):
+            self.kept.append(place)
         if found.get("note"):
             self.notes.append((place, found["note"]))
         for what, kept in (("made", self.made), ("destroyed", self.destroyed), ("freed", self.freed)):
@@ -292,6 +332,14 @@ class Columns:
         stem = "" if stem == "session" else stem
         return stem or self.who.get("name") or " ".join(self.head.get("command") or []) or "session"
 
+    def part(self) -> dict[str, Any] | None:
+        """The first and the last message that are shown, and how many the session has, if that is known; None if all are
+        shown."""
+        total = self.verdict and self.verdict["messages"] + (self.broken is not None)
+        first, last = (self.numbers[0], self.numbers[-1]) if self.numbers else (0, 0)
+        is_all = first <= 1 and last == len(self.numbers) == (last if total is None else total)
+        return None if is_all else {"first": first, "last": last, "total": total, "begins": self.begins}
+
     def packed(self, title: str) -> str:
         """All of it, deflated, in base64."""
         about = list(zip(*self.about)) or [[], [], [], []]
@@ -299,13 +347,15 @@ class Columns:
             "form": 1, "title": title, "head": self.head, "client": self.who,
             "others": [[it, *who] for it, who in sorted(self.others.items())],
             "names": self.names, "arrays": self.arrays,
-            "verdict": self.verdict, "broken": self.broken, "error": self.error, "left_out": self.left_out, "cut_at": self.cut_at,
-            "notes": self.notes,
+            "verdict": self.verdict, "broken": self.broken, "error": self.error, "notes": self.notes,
+            "part": self.part(), "number": [it - before for before, it in zip([0, *self.numbers], self.numbers)],
             "signatures": self.signatures.values(), "strings": self.strings.values(),
             "objects": dict(zip(("interface", "id", "birth", "version"), about)),
             "rest": "\n".join(self.rest), "bytes": "\n".join(self.bytes), "values": self.values,
             "made": self.made, "destroyed": self.destroyed, "freed": self.freed,
-            "answers": self.answers, "unanswered": self.unanswered,
+            # Each number is the difference from that of the wait before.
+            "waits": [it - before for before, it in zip([0] * WAIT_COLUMNS + self.waits, self.waits)],
+            "kept": self.kept,
             **{name: row.tolist() for name, row in self.rows.items()},
         }
         deflate, out = zlib.compressobj(7), []

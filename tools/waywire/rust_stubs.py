@@ -5,7 +5,7 @@ import textwrap
 from collections.abc import Container, Iterable, Iterator, Sequence
 
 from . import table_text
-from .protocol import Argument, Enum, Interface, Message, Protocol
+from .protocol import Argument, Enum, Interface, Message, Protocol, with_tables
 
 # Words that Rust keeps for itself.
 RESERVED = set(
@@ -19,6 +19,11 @@ TYPES = set("AsRef Clone Copy Debug Eq Events Hash None Option PartialEq Request
 OWN = {"args", "client", "fields", "handler", "message", "server"}
 # Interfaces whose events the server writes by calls of its own.
 UNSENT = ("wl_display", "wl_registry")
+# Interfaces for which the package has typed calls, and the core tables have nothing.
+DATA_DEVICE = ("wl_data_device", "wl_data_device_manager", "wl_data_offer", "wl_data_source")
+# Who writes the messages of a side, and who reads them.
+WRITER = {"request": "client", "event": "server"}
+READER = {"request": "server", "event": "client"}
 WIDTH = 100
 SENT = {
     "int": "waywire::Arg::Int({})",
@@ -28,6 +33,8 @@ SENT = {
     "fd": "waywire::Arg::Fd(std::os::fd::AsFd::as_fd(&{}))",
     "new_id": "waywire::Arg::NewId",
 }
+# The word of a number.
+WORDS = {"int": "{} as u32", "uint": "{}", "fixed": "{}.raw() as u32"}
 # What a parameter of a function that sends is, and what a method of a handler is given.
 GIVEN = {"int": "i32", "uint": "u32", "fixed": "waywire::Fixed", "array": "impl AsRef<[u8]>",
          "fd": "impl std::os::fd::AsFd"}
@@ -81,6 +88,11 @@ def documented(texts: Iterable[str], indent: str = "") -> list[str]:
     return lines
 
 
+def end(name: str) -> str:
+    """The parameter that writes the messages of an end."""
+    return f"{name}: &waywire::{name.title()}Writer"
+
+
 def wrapped(indent: str, head: str, parts: list[str], end: str) -> list[str]:
     """A call or a declaration: on one line if it fits, otherwise with a line for each part."""
     line = f"{indent}{head}({', '.join(parts)}){end}"
@@ -100,6 +112,7 @@ class Module:
         # The core's own module has all its interfaces. Elsewhere those are the ones of the package.
         self.interfaces = [it for it in read.interfaces if not tables or it.name not in core]
         self.places = {it: f"waywire::wayland::{word(it)}" for it in core}
+        self.places |= {it: f"waywire::data_device::{word(it)}" for it in DATA_DEVICE}
         for other in others:
             name = word(other.name)
             self.places |= {it.name: f"super::super::{name}::{word(it.name)}" for it in other.interfaces
@@ -149,10 +162,14 @@ class Module:
             found = self.handle(interface, arg.interface)
             return f"Option<{found}>" if arg.null else found
         if arg.type == "string":
-            if arg.null:
-                return "Option<&[u8]>"
-            return "impl AsRef<[u8]>" if forms is GIVEN else "&[u8]"
+            if forms is CAME:
+                return "Option<&std::ffi::CStr>" if arg.null else "&std::ffi::CStr"
+            return "Option<&[u8]>" if arg.null else "impl AsRef<[u8]>"
         return self.enum(interface, arg) or forms[arg.type]
+
+    def word_of(self, interface: Interface, arg: Argument) -> str:
+        """The word of an argument that is a number."""
+        return f"{self.name(arg)}.0" if self.enum(interface, arg) else WORDS[arg.type].format(self.name(arg))
 
     def sent(self, interface: Interface, arg: Argument) -> str:
         """An argument of a call."""
@@ -246,9 +263,8 @@ class Module:
 
     def sends(self, interface: Interface, side: str, message: Message, name: str) -> None:
         """A method that writes a message at an end."""
-        end = "client" if side == "request" else "server"
         made = message.made()
-        parameters = ["self", f"{end}: &mut waywire::{end.title()}"]
+        parameters = ["self", end(WRITER[side])]
         parameters += [f"{self.name(it)}: {self.form(interface, it, GIVEN)}" for it in message.args
                        if it.type != "new_id"]
         result = "()"
@@ -258,8 +274,10 @@ class Module:
         if made and made.interface is None and side == "request":
             self.binds(message)
             return
-        self.say(*wrapped("        ", f"pub fn {name}", parameters, f" -> Result<{result}, waywire::SendError> {{"))
-        given = [self.sent(interface, it) for it in message.args]
+        self.say("        #[inline]",
+                 *wrapped("        ", f"pub fn {name}", parameters, f" -> Result<{result}, waywire::SendError> {{"))
+        has_words = all(it.type in WORDS for it in message.args)
+        given = [(self.word_of if has_words else self.sent)(interface, it) for it in message.args]
         args = f"&[{', '.join(given)}]"
         if len(args) > 40 and given:
             line = f"            let args = [{', '.join(given)}];"
@@ -269,15 +287,14 @@ class Module:
                 self.say(line)
             args = "&args"
         opcode = f"{side}::{constant(message.name)}"
-        call = "make" if made else "send"
-        if end == "server":
-            call = "make_at_server" if made else "send_at_server"
-        self.say(*wrapped("            ", f"waywire::typed::{call}", [end, "self.0", opcode, args], ""), "        }")
+        call = "make" if made else "send_words" if has_words else "send"
+        self.say(*wrapped("            ", f"waywire::typed::{call}", [WRITER[side], "self.0", opcode, args], ""),
+                 "        }")
 
     def binds(self, message: Message) -> None:
         """The one request whose new object is of the interface that the caller wants."""
         others = [self.name(it) for it in message.args if it.type != "new_id"]
-        parameters = ["self", "client: &mut waywire::Client", *(f"{it}: u32" for it in others), "version: u32"]
+        parameters = ["self", end("client"), *(f"{it}: u32" for it in others), "version: u32"]
         self.say(*wrapped("        ", f"pub fn {word(message.name)}<T: waywire::Handle>", parameters,
                           " -> Result<T, waywire::SendError> {"),
                  f"            client.bind(self.0, {', '.join(others)}, T::NAME, version).map(T::of)", "        }")
@@ -288,7 +305,7 @@ class Module:
             if it.type != "new_id":
                 yield self.name(it), self.form(interface, it, CAME)
             elif it.interface is None:
-                yield from (("interface", "&[u8]"), ("version", "u32"), (self.name(it), "waywire::Object"))
+                yield from (("interface", "&std::ffi::CStr"), ("version", "u32"), (self.name(it), "waywire::Object"))
             else:
                 yield self.name(it), self.handle(interface, it.interface)
 
@@ -299,15 +316,15 @@ class Module:
         self.say("", *documented([
             f"Calls the method of {article} {side}. False if the message is for another interface, or the interface "
             f"has no such {side} with these arguments: nothing is called then."], "    "))
-        parameters = [f"handler: &mut impl {side.title()}s", "tables: &waywire::Tables",
+        parameters = [f"handler: &mut impl {side.title()}s", end(READER[side]),
                       "message: &mut impl waywire::Readable"]
         self.say(*wrapped("    ", f"pub fn dispatch_{side}", parameters, " -> bool {"),
-                 f"        waywire::typed::is_for(tables, message, NAME) && handle_{side}(handler, message)",
-                 "    }", "",
+                 f"        waywire::typed::is_for({READER[side]}.tables(), message, NAME)",
+                 f"            && handle_{side}(handler, {READER[side]}, message)", "    }", "",
                  f"    /// The same, for {article} {side} to an object that has this interface.")
-        self.say(*wrapped("    ", f"pub fn handle_{side}", [parameters[0], parameters[2]], " -> bool {"),
-                 f"        {side}_of(handler, message).is_some()", "    }", "")
-        self.say(*wrapped("    ", f"fn {side}_of", [parameters[0], parameters[2]], " -> Option<()> {"))
+        self.say(*wrapped("    ", f"pub fn handle_{side}", parameters, " -> bool {"),
+                 f"        {side}_of(handler, {READER[side]}, message).is_some()", "    }", "")
+        self.say(*wrapped("    ", f"fn {side}_of", parameters, " -> Option<()> {"))
         self.say(f"        let (target, opcode) = ({type_name(interface.name)}(message.target()), message.opcode());",
                  "        let mut fields = waywire::typed::fields(message);", "        match opcode {")
         for it in messages:
@@ -322,17 +339,17 @@ class Module:
         for place, it in enumerate(messages):
             target = self.target(interface, it)
             pairs = [(target, handle), *self.parameters(interface, it)]
-            names = [name for name, _ in pairs]
+            names = [READER[side], *(name for name, _ in pairs)]
+            parameters = ["&mut self", end(READER[side]), *(f"{a}: {b}" for a, b in pairs)]
             self.say(*([""] if place else []), *documented(self.said(it), "        "))
-            self.say(*wrapped("        ", f"fn {word(it.name)}", ["&mut self", *(f"{a}: {b}" for a, b in pairs)], " {"))
-            self.say(*wrapped("            ", "let _ = ", names, ";") if len(names) > 1 else
-                     [f"            let _ = {names[0]};"], "        }")
+            self.say(*wrapped("        ", f"fn {word(it.name)}", parameters, " {"))
+            self.say(*wrapped("            ", "let _ = ", names, ";"), "        }")
         self.say("    }")
 
     def call(self, interface: Interface, side: str, message: Message) -> None:
         """The arm that reads the arguments of a message, requires that there are no more, and calls its method."""
         self.say(f"            {side}::{constant(message.name)} => {{")
-        given = ["target"]
+        given = [READER[side], "target"]
         for it in message.args:
             if side == "request" and it.type == "new_id" and it.interface is None:
                 names, value = ["interface", "version", "object"], "fields.bound()?"
@@ -362,11 +379,12 @@ class Module:
         self.constants(interface)
         for it in interface.enums:
             self.type_of_enum(interface, it)
-        events = interface.events if interface.name not in UNSENT else []
-        if interface.requests or events:
+        requests, read = (with_tables(interface, it) for it in (interface.requests, interface.events))
+        events = read if interface.name not in UNSENT else []
+        if requests or events:
             self.say("", f"    impl {name} {{")
             start, names = len(self.lines), set[str]()
-            for side, messages, prefix in (("request", interface.requests, ""), ("event", events, "send_")):
+            for side, messages, prefix in (("request", requests, ""), ("event", events, "send_")):
                 for message in messages:
                     method = word(prefix + message.name, names)
                     names.add(method)
@@ -374,19 +392,11 @@ class Module:
             del self.lines[start]  # the empty line before the first
             self.say("    }")
         # A client's reports have words of their own for the events of wl_display.
-        read = interface.events if interface.name != "wl_display" else []
-        for side, messages in (("event", read), ("request", interface.requests)):
+        heard = read if interface.name != "wl_display" else []
+        for side, messages in (("event", heard), ("request", requests)):
             if messages:
                 self.handlers(interface, side, messages)
         self.say("}")
-
-    def opcodes_of_core(self) -> None:
-        """The opcodes of the core by side, for programs that send without typed calls."""
-        for side, writer in (("request", "a client"), ("event", "a server")):
-            names = [word(it.name) for it in self.interfaces if (it.requests if side == "request" else it.events)]
-            self.say("", f"/// The opcodes of the core interfaces' {side}s, which {writer} writes, by name.",
-                     f"pub mod {side} {{",
-                     *(f"    #[doc(inline)]\n    pub use super::{it}::{side} as {it};" for it in names), "}")
 
     def text(self, comments: Sequence[str] = ()) -> str:
         usual = [f"Typed calls for the protocol {self.protocol.name}, over the package waywire."]
@@ -403,6 +413,4 @@ class Module:
             self.lines[-1] = self.lines[-1].removesuffix("\\") + '";'
         for it in self.interfaces:
             self.interface(it)
-        if not self.tables:
-            self.opcodes_of_core()
         return "\n".join(self.lines) + "\n"

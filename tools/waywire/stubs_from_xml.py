@@ -23,6 +23,8 @@ the following, here with the prefix `ww_`:
 WW_XDG_SHELL_TABLES is the protocol's table text, for waywire_tables_read. `--with FILE` gives a protocol whose
 interfaces it may name; the table text of that protocol must be read first.
 
+A message whose new object may be of any interface has no function, but for wl_registry.bind: no tables have it.
+
 A function returns the status of the call. If the message makes an object, it is written to a last argument, which
 may be null; a refused call writes nothing. Arguments have these types:
 
@@ -58,8 +60,8 @@ with a module for each interface. `--rattle both` prints both sides, and the pro
 LINE is part of its documentation.
 
 The header has no function for what other calls write: the events of wl_display and wl_registry. Those of wl_display
-are dispatched from the reports that the library makes of them. The exit status is 1 if the file cannot be read or is
-no protocol.
+are dispatched from the reports that the library makes of them. The exit status is 1 if the file is no protocol,
+or gives one name to two things that a header has side by side; 2 if an option is wrong; 3 if a file cannot be read.
 """
 
 import argparse
@@ -67,17 +69,17 @@ import sys
 import textwrap
 from collections.abc import Container, Iterable, Iterator, Sequence
 
-from . import protocol, rust_stubs, valid_tables
+from . import files, protocol, rust_stubs, valid_tables
 from .protocol import Argument, Entry, Enum, Interface, Message, Protocol
 
-# Words that C or C++ keeps for itself.
+# Words that C or C++ keeps for itself, or that compilers define.
 RESERVED = set(
-    """alignas alignof and and_eq asm auto bitand bitor bool break case catch char class compl const
-    constexpr const_cast continue decltype default delete do double dynamic_cast else enum explicit export
-    extern false float for friend goto if inline int long mutable namespace new noexcept not not_eq nullptr
-    operator or or_eq private protected public register reinterpret_cast restrict return short signed sizeof
+    """alignas alignof and and_eq asm auto bitand bitor bool break case catch char char8_t char16_t char32_t class
+    co_await co_return co_yield compl concept const consteval constexpr constinit const_cast continue decltype default delete do double dynamic_cast else enum explicit export
+    extern false float for friend goto if inline int linux long mutable namespace new noexcept not not_eq nullptr
+    operator or or_eq private protected public register reinterpret_cast requires restrict return short signed sizeof
     static static_assert static_cast struct switch template this thread_local throw true try typedef typeid
-    typename union unsigned using virtual void volatile wchar_t while xor xor_eq""".split()
+    typename typeof typeof_unqual union unix unsigned using virtual void volatile wchar_t while xor xor_eq""".split()
 )
 # Names that the functions have for themselves.
 OWN = {"client", "server", "args", "data", "report", "calls", "made"}
@@ -127,8 +129,8 @@ HEAD = """\
  *     fd           int: the token, cast. Over waywire-socket.h it is an open descriptor, which is
  *                  the callback's to close or to keep; over other transports what was fed
  *
- * Pointers point into the end. They are valid until the next call that may change that end, also
- * one in the callback; this call itself may still be given them. Copy what is kept longer.
+ * Pointers point into the end. They are valid until the end reads again or takes bytes in, also if
+ * the callback sends: waywire_report says until when. Copy what is kept longer.
  * A dispatcher returns false if there is no callback for a report, as for WAYWIRE_DISCARDED. The
  * descriptors of the report's `tokens` are then the caller's; a waywire_connection closes them.
 """
@@ -149,6 +151,8 @@ GIVEN = {
     "fd": "waywire_fd((uint32_t){})",
     "new_id": "waywire_new()",
 }
+# The word of a number.
+WORDS = {"int": "(uint32_t){}", "uint": "{}", "fixed": "(uint32_t){}"}
 READ = {
     "int": ["{}.i"],
     "uint": ["{}.u"],
@@ -212,6 +216,8 @@ class Stubs:
         self.prefix = prefix
         self.tables = tables
         self.lines: list[str] = []
+        self.made = {it.interface for other in read.interfaces for _, message in other.messages()
+                     for it in message.args if it.type == "new_id"}
         self.functions = {name for it in self.typed() for name in (type_of(it), f"{type_of(it)}_of")}
 
     def say(self, *lines: str) -> None:
@@ -226,9 +232,7 @@ class Stubs:
 
     def is_bound(self, interface: Interface) -> bool:
         """Whether the interface can be a global: no message of the protocol makes an object of it."""
-        made = {it.interface for other in self.protocol.interfaces for _, message in other.messages()
-                for it in message.args if it.type == "new_id"}
-        return interface.name not in UNBOUND and interface.name not in made
+        return interface.name not in UNBOUND and interface.name not in self.made
 
     def constant(self, *parts: str) -> str:
         return "_".join([self.prefix.rstrip("_"), *parts]).upper()
@@ -307,6 +311,9 @@ class Stubs:
 
     def calls(self, message: Message, end: str, target: str, opcode: str) -> None:
         """The body of a function that writes a message: its arguments, and the call."""
+        if all(it.type in WORDS for it in message.args):
+            self.calls_with_words(message, end, target, opcode)
+            return
         given = "NULL"
         if message.args:
             given = "args"
@@ -320,6 +327,16 @@ class Stubs:
         made = "made ? &made->object : NULL" if message.made() else "NULL"
         call = [f"{end}.end", f"{target}.object", opcode, given, str(len(message.args)), made, "NULL"]
         self.say(*wrapped("\treturn waywire_end_send", call, ";"))
+
+    def calls_with_words(self, message: Message, end: str, target: str, opcode: str) -> None:
+        """The same for a message whose arguments are numbers alone."""
+        if message.args:
+            self.say(f"\tuint32_t args[{len(message.args)}];")
+        for place, it in enumerate(message.args):
+            self.say(f"\targs[{place}] = {WORDS[it.type].format(self.name(it))};")
+        given = "args" if message.args else "NULL"
+        call = [f"{end}.end", f"{target}.object", opcode, given, str(len(message.args)), "NULL"]
+        self.say(*wrapped("\treturn waywire_end_send_words", call, ";"))
 
     def binds(self, message: Message, target: str) -> None:
         """The body of the one function whose new object has the interface that the caller names."""
@@ -397,15 +414,15 @@ class Stubs:
         self.say("", f'#define {name} "{interface.name}"', f"#define {version} {interface.version}")
         self.opcodes(interface)
         self.enums(interface)
-        for it in interface.requests:
+        requests = protocol.with_tables(interface, interface.requests)
+        for it in requests:
             self.sends(interface, it, "client", f"{self.prefix}{interface.name}_{it.name}")
         if self.is_bound(interface):
             self.bind(interface)
-        # No tables have an event whose new object is of any interface.
-        events = [it for it in interface.events if not (made := it.made()) or made.interface]
+        events = protocol.with_tables(interface, interface.events)
         for it in events if interface.name not in UNSENT else []:
             self.sends(interface, it, "server", f"{self.prefix}{interface.name}_send_{it.name}")
-        for side, messages in (("event", events), ("request", interface.requests)):
+        for side, messages in (("event", events), ("request", requests)):
             if messages:
                 self.callbacks(interface, side, messages)
 
@@ -469,32 +486,41 @@ def tables_of(path: str, others: Iterable[str]) -> list[str]:
     named = [it for other in others for it in valid_tables.interfaces_of(other)]
     mending = valid_tables.Mending(given, False, named)
     mending.mend()
-    own = [it for it in mending.interfaces if any(it is one for one in given)]
-    return list(valid_tables.lines_of(own, []))
+    own = {id(it) for it in given}
+    own_left = [it for it in mending.interfaces if id(it) in own]
+    return list(valid_tables.lines_of(own_left, []))
 
 
 def main(arguments: Sequence[str] | None = None) -> int:
+    program = files.program("stubs-from-xml")
     parser = argparse.ArgumentParser(
-        prog="stubs-from-xml", description="Prints typed calls for a Wayland protocol: a C header, or a module for Rust."
+        prog=program, description="Prints typed calls for a Wayland protocol: a C header, or a module for Rust."
     )
     parser.add_argument("file", metavar="FILE", help="a protocol in the XML form of wayland-scanner")
     parser.add_argument("--prefix", default="ww_", help="the prefix of the names in the header [default: ww_]")
     parser.add_argument("--with", dest="others", action="append", default=[], metavar="FILE",
                         help="a protocol whose interfaces FILE may name; may be given several times")
-    parser.add_argument("--rust", action="store_true", help="prints a module for the Rust package waywire instead of a header")
-    parser.add_argument("--rattle", choices=("request", "event", "both"), metavar="SIDE",
+    forms = parser.add_mutually_exclusive_group()
+    forms.add_argument("--rust", action="store_true", help="prints a module for the Rust package waywire instead of a header")
+    forms.add_argument("--rattle", choices=("request", "event", "both"), metavar="SIDE",
                         help="prints a module for Rattle or Rust with the opcodes of one side instead of a header; SIDE "
                         "is request, event, or both, which also prints the table text")
     parser.add_argument("--comment", dest="comments", action="append", default=[], metavar="LINE",
                         help="puts LINE into the documentation of the module (with --rust or --rattle); may be given "
                         "several times")
     words = parser.parse_args(arguments)
+    if words.prefix and not protocol.NAME.fullmatch(words.prefix):
+        parser.error(f"--prefix {words.prefix}: a name in C cannot begin so")
+    if refused := files.why_not_printed([words.file, *words.others]):
+        print(f"{program}: {refused}", file=sys.stderr)
+        return 1
     try:
         read = protocol.read(words.file)
+        protocol.check_names(words.file, read, not words.rust)
         tables = tables_of(words.file, words.others)
     except protocol.BadProtocol as error:
-        print(f"stubs-from-xml: {error}", file=sys.stderr)
-        return 1
+        print(f"{program}: {error}", file=sys.stderr)
+        return protocol.status_of(error)
     if words.rust:
         others = [protocol.read(it) for it in words.others]
         sys.stdout.write(rust_stubs.Module(read, tables, others).text(words.comments))

@@ -215,11 +215,14 @@ class Joined:
         # The place of an interface, a side and an opcode; and what said it at which index.
         self.said: dict[tuple[int, str, int], tuple[Interface, int]] = {}
         self.wrong: list[tuple[Interface, int]] = []
+        places: dict[str, int] = {}  # of equal names the first
         for it in core:
+            places.setdefault(it.name, len(self.whole))
             self.whole.append(replace(it, request=list(it.request), event=list(it.event)))
         for it in sections:
-            place = next((n for n, one in enumerate(self.whole) if one.name == it.name), None)
+            place = places.get(it.name)
             if not it.extends:
+                places.setdefault(it.name, len(self.whole))
                 self.declared[len(self.whole)] = it
                 self.whole.append(Interface(it.name, it.version, line=it.line))
                 self.add(len(self.whole) - 1, it)

@@ -36,23 +36,28 @@ out. If no version of an interface is whole, it leaves out the interface and all
 `--names` prints no table text, but the names that such a text lacks: a line for each message that has arguments,
 and for each enum (protocol_names.py).
 
-The exit status is 0 if a text was printed, and 1 if a file cannot be read, is no protocol, or changes a message of
-the core tables.
+The exit status is 0 if a text was printed; 1 if a file is no protocol, or changes a message of the core tables; 2 if
+an option is wrong; 3 if a file cannot be read.
 """
 
 import argparse
 import sys
 from collections.abc import Iterable, Sequence
 
-from . import protocol, protocol_names
+from . import files, protocol, protocol_names
 from .protocol import BadProtocol
-from .table_text import BadLine, Interface
+from .table_text import Interface
 from .valid_tables import Mending, interfaces_named, interfaces_of, lines_of, named_elsewhere
+
+
+def program() -> str:
+    """The name by which the tool was called. Where it is installed, `waywire-` is in front."""
+    return files.program("tables-from-xml")
 
 
 def words_of(arguments: Sequence[str] | None) -> argparse.Namespace:
     parser = argparse.ArgumentParser(
-        prog="tables-from-xml", description="Prints the interfaces of Wayland protocol files as a table text."
+        prog=program(), description="Prints the interfaces of Wayland protocol files as a table text."
     )
     parser.add_argument("files", nargs="+", metavar="FILE", help="a protocol in the XML form of wayland-scanner")
     parser.add_argument("--with", dest="others", action="append", default=[], metavar="FILE",
@@ -81,40 +86,49 @@ def print_names(paths: Iterable[str], comments: Iterable[str]) -> None:
         print(line)
 
 
-def given_interfaces(words: argparse.Namespace) -> list[Interface]:
-    """The interfaces of the files. Raises `BadProtocol` for a file that is no protocol, unless such files are
+def given_interfaces(words: argparse.Namespace) -> list[tuple[str, Interface]]:
+    """The interfaces of the files, each with its file. Raises `BadProtocol` for a file that is no protocol, unless such files are
     passed over."""
-    found = []
+    found: list[tuple[str, Interface]] = []
     for path in words.files:
         try:
-            found += interfaces_of(path, not words.as_it_is)
+            found += ((path, it) for it in interfaces_of(path, not words.as_it_is))
         except BadProtocol as error:
             if not words.pass_over:
                 raise
-            print(f"tables-from-xml: passed over: {error}", file=sys.stderr)
+            print(f"{program()}: passed over: {error}", file=sys.stderr)
     return found
+
+
+def report(mending: Mending, own: dict[int, str]) -> None:
+    """Says on standard error what was left out or changed. `own` has the files of the given interfaces."""
+    for it in mending.changes():
+        if id(it.interface) in own:
+            line = it.interface.line if it.message is None else it.message.line
+            where = "" if it.message is None else f"{it.interface.name} "
+            print(f"{program()}: {own[id(it.interface)]}: line {line}: {where}{it}", file=sys.stderr)
 
 
 def main(arguments: Sequence[str] | None = None) -> int:
     words = words_of(arguments)
+    if refused := files.why_not_printed([*words.files, *words.others]):
+        print(f"{program()}: {refused}", file=sys.stderr)
+        return 1
     try:
         if words.names:
             print_names(words.files, words.comments)
             return 0
         given = given_interfaces(words)
         others = [it for path in words.others for it in interfaces_named(path)]
-    except (BadProtocol, BadLine) as error:
-        print(f"tables-from-xml: {error}", file=sys.stderr)
-        return 1
+    except BadProtocol as error:
+        print(f"{program()}: {error}", file=sys.stderr)
+        return protocol.status_of(error)
     # The protocols that are only named come first, so that of two equal names theirs is kept.
-    mending = Mending(given, words.whole, others)
+    mending = Mending([it for _, it in given], words.whole, others)
     if not words.as_it_is:
         mending.mend()
-    own = {id(it) for it in given}
-    for it in mending.changes():
-        if id(it.interface) in own:
-            where = "" if it.message is None else f"{it.interface.name} "
-            print(f"tables-from-xml: {where}{it}", file=sys.stderr)
+    own = {id(it): path for path, it in given}
+    report(mending, own)
     for comment in words.comments:
         print(f"# {comment}")
     printed = [it for it in mending.interfaces if id(it) in own]
