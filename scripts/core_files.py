@@ -12,7 +12,7 @@ import subprocess
 import sys
 
 from scripts import core_lists, crates, usage
-from tools.waywire import protocol
+from tools.waywire import files, protocol
 
 SOURCE = f"{crates.TOP}/protocols/core/core.xml"
 LAW = "constant is the opcode of the message with its name: the law `opcodes_are_of_their_names`."
@@ -48,7 +48,7 @@ FILES = {
         "`event::wl_callback::DONE` is the opcode of wl_callback.done"),
 }
 # Modules of opcodes say so in a line that is no part of their documentation.
-FIRST_LINE = b"// Made by tools/dev/core-files.\n"
+FIRST_LINE = b"// Made by scripts/core_files.py.\n"
 
 
 def text_of(name: str, before: bytes) -> bytes:
@@ -74,8 +74,7 @@ def main() -> int:
             print(f"{name} is not what scripts/core_files.py makes of protocols/core/core.xml")
             if "--check" in words:
                 break
-            with open(path, "wb") as file:
-                file.write(text)
+            files.write_whole(path, [text.decode()])
     return differ
 
 

@@ -1,6 +1,7 @@
 """The lists of the core interfaces in the crates wl_rules and wl_sigs, which core_files.py makes from
 protocols/core/core.xml: the interfaces as definitions and as code, and the opcodes with the names of their messages."""
 
+import dataclasses
 import itertools
 from collections.abc import Iterable, Iterator
 
@@ -31,7 +32,7 @@ KINDS = {
 # names as short as this, as many in a line as there is room for.
 WIDEST, WIDEST_LIST, SHORT = 100, 60, 10
 # The comments around a part of a file that is made.
-BEGINS = "Made by core-files from core.xml, down to the next mark."
+BEGINS = "Made by scripts/core_files.py from core.xml, down to the next mark."
 ENDS = "End of what is generated."
 
 
@@ -40,6 +41,17 @@ DESTROYS = "Rattle.wl_sigs.specs.Destroys.TheVariants"
 
 def is_fixed(interface: Interface) -> bool:
     return interface.name in FIXED
+
+
+def unended(interface: Interface) -> Interface:
+    """The interface where no request destroys and every event is there from version 1 on. The fixed
+    ones stay as they are."""
+    if is_fixed(interface):
+        return interface
+    return dataclasses.replace(
+        interface,
+        requests=[dataclasses.replace(it, destroys=False) for it in interface.requests],
+        events=[dataclasses.replace(it, since=1) for it in interface.events])
 
 
 def place_word(name: str) -> str:
@@ -134,6 +146,28 @@ def fixed_definitions(interfaces: list[Interface]) -> list[str]:
     return lines[:-1]
 
 
+UNENDED = (
+    "-- ---- for a server whose caller ends objects itself, and sends events of any version",
+    "",
+    "abbrev unended_request : MessageSignature → MessageSignature",
+    "unended_request request = record request { destroys = Nothing }",
+    "",
+    "abbrev first_event : MessageSignature → MessageSignature",
+    "first_event event = record event { since = 1 }",
+    "",
+    "-- no request destroys an object, and every event is there from version 1 on",
+    "abbrev unended : Interface → Interface",
+    "unended i = record i {",
+    "  requests = map unended_request i.requests;",
+    "  events = map first_event i.events;",
+    "}",
+    "",
+    "-- The same interfaces in this form, except the four that all tables have.",
+    "unfoldable pub unended_tables : List Interface",
+    "unended_tables =",
+)
+
+
 def words_in(texts: Iterable[str]) -> set[str]:
     return {word for text in texts for word in text.replace("(", " ").replace(")", " ").split()}
 
@@ -148,13 +182,13 @@ def core_definitions(interfaces: list[Interface]) -> list[str]:
     destroys = [it for it in ("Nothing", "Target", "Arg") if it in words]
     options = [it for it in ("Some", "None") if it in words]
     lines = [
-        "-- Made by tools/dev/core-files. The core interfaces of wayland.xml, at these versions, in",
+        "-- Made by scripts/core_files.py. The core interfaces of wayland.xml, at these versions, in",
         "-- this order, without the data transfer interfaces. For each message: its name, the version",
         "-- of its interface that introduced it, the kinds of its arguments, and what it destroys.",
-        f"use Rattle.std.specs.Prelude.{{List, [], ◌∷◌, {', '.join(['codes', *options])}}}",
+        f"use Rattle.std.specs.Prelude.{{List, [], ◌∷◌, {', '.join(['codes', 'map', *options])}}}",
         "use Rattle.wl_wire.specs.declared.kind.Iface.{Iface}",
         f"use {DESTROYS}.{{{', '.join(destroys)}}}",
-        "use Rattle.wl_sigs.specs.Tables.{Interface}",
+        "use Rattle.wl_sigs.specs.Tables.{Interface, MessageSignature}",
         *filled("use Rattle.wl_sigs.specs.Fixed.{", used, "}"),
         "",
         "-- the indices of the further interfaces",
@@ -168,6 +202,10 @@ def core_definitions(interfaces: list[Interface]) -> list[str]:
         "unfoldable pub core_tables : List Interface",
         "core_tables =",
         *(f"    {it.name} ∷" for it in interfaces),
+        "    []",
+        "",
+        *UNENDED,
+        *(f"    {it.name} ∷" if is_fixed(it) else f"    unended {it.name} ∷" for it in interfaces),
         "    []",
     ]
 
@@ -267,6 +305,14 @@ def interface_code(interface: Interface) -> list[str]:
     ]
 
 
+def constant_code(name: str, interfaces: list[Interface]) -> list[str]:
+    return [
+        f"pub(crate) const {name}: [CoreInterface; {len(interfaces)}] = [",
+        *(line for it in interfaces for line in interface_code(it)),
+        "];",
+    ]
+
+
 def core_code(interfaces: list[Interface]) -> list[str]:
     """The part of src/core_interfaces.rt."""
     messages = [message for it in interfaces for _, message in it.messages()]
@@ -275,13 +321,15 @@ def core_code(interfaces: list[Interface]) -> list[str]:
     for place, it in enumerate(interfaces):
         if it.name in named:
             lines += [f"const {it.name.upper()}: Iface = Iface({place});", ""]
-    lines += [
+    return [
+        *lines,
         "/// The core interfaces in order.",
-        f"pub(crate) const CORE: [CoreInterface; {len(interfaces)}] = [",
-        *(line for it in interfaces for line in interface_code(it)),
-        "];",
+        *constant_code("CORE", interfaces),
+        "",
+        "/// The same where no request destroys and every event is there from version 1 on, except the",
+        "/// four that all tables have.",
+        *constant_code("UNENDED", [unended(it) for it in interfaces]),
     ]
-    return lines
 
 
 SIGS, RULES = "crates/wl_sigs", "crates/wl_rules"

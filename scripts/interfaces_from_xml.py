@@ -4,7 +4,7 @@
 
 Each FILE is a protocol in the XML form of wayland-scanner. The interface wl_surface becomes the exported symbol
 wl_surface_interface, with the same signatures and types as in wayland-scanner's private code. If a message names
-an interface, one of the files must have it. The C includes wayland-abi.h of c/libwayland.
+an interface, one of the files must have it. The C includes wayland-abi.h of c/libwayland/common.
 
 The exit status is 1 if a file cannot be read or is no protocol, if an interface is missing or there twice, or if a
 name is not valid in C.

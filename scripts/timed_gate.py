@@ -34,6 +34,8 @@ from scripts import crates, machine, toolchain, usage
 
 PAGE = f"{crates.TOP}/docs/GATE.md"
 BEGINS, ENDS = "<!-- python3 -m scripts.timed_gate --write: from here -->\n", "<!-- to here -->\n"
+# How many crates have a line of their own on the page.
+ON_PAGE = 8
 TICKS = os.sysconf("SC_CLK_TCK")
 PARTS = ("proof", "mutants")
 # What the copy of the tree leaves out: what was built, and the mutants.
@@ -109,16 +111,20 @@ class Meter(threading.Thread):
         return table
 
 
-def rows(table: Mapping[str, Mapping[str, float]], names: list[str]) -> list[str]:
-    """Returns the lines of the table, the crates in this order, with a line for all."""
-    lines = ["| Crate | Proof | Mutants | In all |", "|---|---|---|---|"]
+def rows(table: Mapping[str, Mapping[str, float]], names: list[str], most: int | None = None) -> list[str]:
+    """Returns the lines of the table, the crates in this order, with a line for all. With `most`, only so many crates
+    have a line, those that took most, and one line sums up the others."""
     order = [it for it in names if it in table] + sorted(it for it in table if it not in names)
-    for name in order:
-        row = table[name]
-        cells = [f"{row[part]:.1f}" if row[part] else "-" for part in PARTS]
-        lines.append(f"| `{name}` | {' | '.join(cells)} | {sum(row.values()):.1f} |")
-    sums = [sum(row[part] for row in table.values()) for part in PARTS]
-    return [*lines, f"| All | {' | '.join(f'{it:.1f}' for it in sums)} | {sum(sums):.1f} |"]
+    shown = sorted(order, key=lambda it: -sum(table[it].values()))[:most]
+    found = [(f"`{it}`", [it]) for it in order if it in shown]
+    if len(shown) < len(order):
+        found.append((f"the other {len(order) - len(shown)}", [it for it in order if it not in shown]))
+    lines = ["| Crate | Proof | Mutants | In all |", "|---|---|---|---|"]
+    for head, group in [*found, ("All", order)]:
+        sums = [sum(table[it][part] for it in group) for part in PARTS]
+        cells = [f"{it:.1f}" if it else "-" for it in sums]
+        lines.append(f"| {head} | {' | '.join(cells)} | {sum(sums):.1f} |")
+    return lines
 
 
 def has(crate: str, part: str) -> bool:
@@ -237,15 +243,10 @@ def figures(run: Measured, env: Mapping[str, str], day: str, tree: str) -> str:
     gate, mutants, rattle = map(run.told, range(3))
     lanes = f" with RT_JOBS={env['RT_JOBS']}" if "RT_JOBS" in env else ""
     whole, wall = (sum(it) for it in zip(*run.spent))
-    lines = [
-        f"On {day} at commit {tree}, on {machine.processors()} processors, with nothing kept:",
-        "",
-        f"- `rt ci`{lanes} over the tree without mutants: {gate};",
-        f"- `python3 -m scripts.mutants --all`: {mutants};",
-        f"- `./test rattle`, compiling and running: {rattle};",
-        f"- in all {whole:.1f} processor minutes in {wall:.1f} minutes. In processor minutes:",
-    ]
-    return "\n".join([*lines, "", *rows(run.table, [*crates.read()]), ""])
+    head = (f"On {day} at commit {tree}, on {machine.processors()} processors, with nothing kept: `rt ci`{lanes} over "
+            f"the tree without mutants takes {gate}, `python3 -m scripts.mutants --all` {mutants}, `./test rattle` "
+            f"{rattle}, in all {whole:.1f} processor minutes in {wall:.1f} minutes. In processor minutes:")
+    return "\n".join([head, "", *rows(run.table, [*crates.read()], ON_PAGE), ""])
 
 
 def write_figures(env: Mapping[str, str]) -> int:

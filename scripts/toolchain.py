@@ -77,6 +77,20 @@ def format_of(library: str) -> bytes:
     return b""
 
 
+def last_time(top: str, name: str) -> str:
+    """What is said of a command before it begins: how long it took here the last time, or nothing."""
+    with contextlib.suppress(OSError), open(f"{top}/out/times/{name}", encoding="utf-8") as file:
+        return f"; last time: {file.read().strip()} s"
+    return ""
+
+
+def note_time(top: str, name: str, began: float) -> None:
+    """Keeps how long a command took that began at this time, by `time.monotonic`."""
+    os.makedirs(f"{top}/out/times", exist_ok=True)
+    with open(f"{top}/out/times/{name}", "w", encoding="utf-8") as file:
+        file.write(f"{time.monotonic() - began:.0f}\n")
+
+
 def is_of_another_command(top: str, crate: str) -> bool:
     """Whether the file in the place of the gate's library was built by another command of rt."""
     return os.path.exists(f"{top}/crates/{crate}/out/rlib/stamp")
@@ -262,17 +276,16 @@ class Build:
     def begins(self, what: str) -> None:
         """Says what is known of a run before it begins."""
         open(self.log, "w", encoding="utf-8").close()
-        number, known = len(self.names), "how long that takes here is not known yet"
-        if "all" in self.before:
-            known = f"from nothing it took {self.before['all']} s here"
-        self.say(f"proving and building {what}: {number} crate{'s' * (number != 1)}; {known}")
+        number = len(self.names)
+        known = f"; last time, from nothing: {self.before['all']} s" if "all" in self.before else ""
+        self.say(f"proving and building {what}: {number} crate{'s' * (number != 1)}{known}")
 
     def tell(self, crate: str) -> None:
         """Says of a crate that it is proved, and when it was before."""
         now, before = self.seconds(), ""
         self.told.append((crate, now))
         if {crate, "all"} <= {*self.before}:
-            before = f"; before after {self.before[crate]} of {self.before['all']} s"
+            before = f"; last time after {self.before[crate]} of {self.before['all']} s"
         self.say(f"{crate} is proved ({len(self.told)} of {len(self.names)}, {now} s{before})")
 
     def logged(self, words: list[str], folder: str) -> bool:
