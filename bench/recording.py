@@ -1,6 +1,7 @@
-"""Writes a recording of just under 16 MiB to standard output: one long lawful session, of one of these kinds.
+"""Writes a recording to standard output, of at most so many bytes or just under 16 MiB: one long lawful
+session, of one of these kinds.
 
-    python3 -m bench.recording KIND
+    python3 -m bench.recording KIND [BYTES]
 
 surfaces        a client makes a surface, attaches nothing, commits it and destroys it, again and again; each
                 time the server frees its id
@@ -111,12 +112,15 @@ KINDS = {"surfaces": surfaces, "callbacks": callbacks, "objects": objects, "serv
 
 
 def main():
-    [kind] = usage.words(__doc__, least=1, most=1)
+    kind, *given = usage.words(__doc__, least=1, most=2)
     if kind not in KINDS:
         usage.refuse(f"there is no kind {kind}")
+    if given and not given[0].isdecimal():
+        usage.refuse(f"{given[0]} is no number of bytes")
+    most = int(given[0]) if given else MOST
     size = 0
     for part in KINDS[kind]():
-        if size + len(part) > MOST:
+        if size + len(part) > most:
             break
         sys.stdout.write(part)
         size += len(part)

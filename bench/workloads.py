@@ -6,7 +6,8 @@ A workload is a line NAME CRATE WORD..: the program of bench/CRATE is run with t
 bench/. A word SEED is replaced by the number, by default 1. A last word <FILE makes FILE the standard
 input. With names, only these workloads are run. The programs and the workloads are those of the
 checkout in which this file lies. They are compiled over the crates of OLD and of NEW, without a proof
-and without the checks that a proof makes superfluous (scripts/unproved.py).
+and without the checks that a proof makes superfluous (scripts/unproved.py). A program that does not
+compile over one of them, because calls have changed, is taken from that checkout.
 
 Each workload is run in seven turns, once in each checkout; every second turn begins with NEW. If the
 outputs differ, the run stops. For each workload it prints both medians in wall-clock seconds, the
@@ -39,17 +40,27 @@ def workloads(seed):
     return found
 
 
-def programs(checkout, names):
-    """Compiles programs of this checkout over the crates of another, and returns the paths by their names."""
-    own, found = crates.read_unproved(), {}
-    for name in names:
-        crate = own[name]._replace(folder=f"{crates.TOP}/{own[name].folder}")
-        sources = unproved.Sources(checkout, {**crates.read(checkout), name: crate})
-        try:
-            found[name] = unproved.kept(sources, name, "fast")
-        except unproved.NotCompiled as why:
+def compiled(checkout, crate):
+    """Compiles a program over the crates of a checkout: that of this checkout, or, where calls have changed, the
+    checkout's own. Returns its path."""
+    over, name = crates.read_all(checkout), crate.name
+    this = crate._replace(folder=f"{TOP}/{crate.folder}")
+    try:
+        return unproved.kept(unproved.Sources(checkout, {**over, name: this}), name, "fast")
+    except unproved.NotCompiled as why:
+        if name not in over:
             sys.exit(f"{name} does not compile over {checkout}:\n{why}")
-    return found
+    print(f"{name} of this checkout does not compile over {checkout}: its own is compiled", file=sys.stderr)
+    try:
+        return unproved.kept(unproved.Sources(checkout, over), name, "fast")
+    except unproved.NotCompiled as why:
+        sys.exit(f"{name} of {checkout} does not compile:\n{why}")
+
+
+def programs(checkout, names):
+    """Compiles programs over the crates of a checkout, and returns the paths by their names."""
+    own = crates.read_unproved()
+    return {name: compiled(checkout, own[name]) for name in names}
 
 
 def run(program, words):

@@ -3,7 +3,7 @@
  *
  *     calls CASE BATCH TIMES
  *
- * BATCH times what the case sends is written, then carried, then read. damage: wl_surface.damage;
+ * BATCH times what the case sends is written by typed calls, then carried, then read. damage: wl_surface.damage;
  * motion: wl_pointer.motion; surface: wl_compositor.create_surface, wl_surface.destroy and
  * wl_display.delete_id; title: wl_shell_surface.set_title of 1,000 bytes. */
 #include "../../tests/c/must.h"
@@ -74,7 +74,7 @@ static void open_ends(void)
 	waywire_object registry = make(display, WAYWIRE_WL_DISPLAY_REQUEST_GET_REGISTRY);
 	up();
 	request();
-	MUST(!waywire_server_announce(server, NULL));
+	MUST(!waywire_server_announce(server, NULL, NULL));
 	down();
 	for (int i = 0; i < 3; i++)
 		event();
@@ -93,22 +93,19 @@ static void open_ends(void)
 
 static void send_damage(void)
 {
-	waywire_arg args[] = { waywire_int(1), waywire_int(2), waywire_int(3), waywire_int(4) };
-	MUST(!waywire_end_send(client.end, surface, WAYWIRE_WL_SURFACE_REQUEST_DAMAGE, args, 4, NULL,
-		NULL));
+	MUST(!waywire_wl_surface_damage(client, waywire_wl_surface_of(surface), 1, 2, 3, 4));
 }
 
 static void send_motion(void)
 {
-	waywire_arg args[] = { waywire_uint(1), waywire_fixed(256), waywire_fixed(77) };
-	MUST(!waywire_end_send(server.end, pointer, WAYWIRE_WL_POINTER_EVENT_MOTION, args, 3, NULL,
-		NULL));
+	MUST(!waywire_wl_pointer_send_motion(server, waywire_wl_pointer_of(pointer), 1, 256, 77));
 }
 
 static void send_surface(void)
 {
-	waywire_object made = make(compositor, WAYWIRE_WL_COMPOSITOR_REQUEST_CREATE_SURFACE);
-	MUST(!waywire_end_send(client.end, made, WAYWIRE_WL_SURFACE_REQUEST_DESTROY, NULL, 0, NULL, NULL));
+	waywire_wl_surface made;
+	MUST(!waywire_wl_compositor_create_surface(client, waywire_wl_compositor_of(compositor), &made));
+	MUST(!waywire_wl_surface_destroy(client, made));
 }
 
 static void send_title(void)
@@ -116,9 +113,7 @@ static void send_title(void)
 	static char title[1001];
 	if (!title[0])
 		memset(title, 'a', 1000);
-	waywire_arg args[] = { waywire_string(title) };
-	MUST(!waywire_end_send(client.end, shell_surface, WAYWIRE_WL_SHELL_SURFACE_REQUEST_SET_TITLE,
-		args, 1, NULL, NULL));
+	MUST(!waywire_wl_shell_surface_set_title(client, waywire_wl_shell_surface_of(shell_surface), title));
 }
 
 /* What a case sends, and how many requests and events are read for it. */

@@ -2,7 +2,7 @@
 
     python3 -m bench.c.programs [--turns=NUMBER] [--hertz=NUMBER] [--library=FOLDER] [WORD..]
 
-Ours is the libwayland-client.so.0 of FOLDER [default: out/c/wayland]. With a copy of the system's library in FOLDER,
+Ours is the libwayland-client.so.0 of FOLDER [default: out/c/wayland/client]. With a copy of the system's library in FOLDER,
 the quotients show the noise. With words, only those rows are measured whose names contain one of them. A turn runs
 the program once with each library; every second turn begins with ours. The first run with each library is not
 counted. NUMBER of --hertz is how many frames per second the output shows [default: 1000], so many that the display
@@ -294,8 +294,8 @@ def arguments():
                         help="how often each program is run with each library [default: 7]")
     parser.add_argument("--hertz", type=int, default=1000, metavar="NUMBER",
                         help="how many frames per second the output shows [default: 1000]")
-    parser.add_argument("--library", default=f"{TOP}/out/c/wayland", metavar="FOLDER",
-                        help="the folder of the libwayland-client.so.0 that is ours [default: out/c/wayland]")
+    parser.add_argument("--library", default=f"{TOP}/out/c/wayland/client", metavar="FOLDER",
+                        help="the folder of the libwayland-client.so.0 that is ours [default: out/c/wayland/client]")
     parser.add_argument("words", nargs="*", metavar="WORD",
                         help="measures only the rows whose names contain one of the words")
     return parser.parse_args()
