@@ -19,6 +19,7 @@ struct surface {
 	struct client *client;
 	waywire_wl_buffer buffer;
 	waywire_wl_callback callback;
+	waywire_xdg_surface xdg_surface; /* of a window that is to be configured */
 	waywire_xdg_toplevel toplevel;
 	bool is_shown; /* as a window, which has had the focus */
 };
@@ -110,6 +111,19 @@ static void show(struct surface *surface, waywire_wl_surface picture)
 	focus_on(client);
 }
 
+/* The first commit of a window is answered by a configure. */
+static void configure(struct surface *surface)
+{
+	struct client *client = surface->client;
+	if (!surface->xdg_surface.object.id)
+		return;
+	may(client, ww_xdg_toplevel_send_configure(client->server, surface->toplevel, 0, 0,
+		NULL, 0));
+	may(client, ww_xdg_surface_send_configure(client->server, surface->xdg_surface,
+		next_serial()));
+	surface->xdg_surface.object.id = 0;
+}
+
 static void on_commit(void *data, waywire_wl_surface picture)
 {
 	struct surface *surface = data;
@@ -117,6 +131,7 @@ static void on_commit(void *data, waywire_wl_surface picture)
 	const struct memory *buffer = waywire_connection_data(client->connection,
 		surface->buffer.object);
 	uint32_t pixel;
+	configure(surface);
 	if (buffer && pread(buffer->descriptor, &pixel, sizeof pixel, buffer->offset)
 			== sizeof pixel) {
 		printf("server: a picture of %d by %d, its first pixel %08x\n", buffer->width,
@@ -147,15 +162,13 @@ static void on_get_toplevel(void *data, waywire_xdg_surface xdg_surface,
 	waywire_xdg_toplevel toplevel)
 {
 	const struct role *role = data;
-	struct client *client = role->client;
-	struct surface *surface = waywire_connection_data(client->connection,
+	struct surface *surface = waywire_connection_data(role->client->connection,
 		role->surface.object);
-	if (surface) {
-		surface->toplevel = toplevel;
-		surface->is_shown = false;
-	}
-	must(ww_xdg_toplevel_send_configure(client->server, toplevel, 0, 0, NULL, 0));
-	must(ww_xdg_surface_send_configure(client->server, xdg_surface, next_serial()));
+	if (!surface)
+		return;
+	surface->xdg_surface = xdg_surface;
+	surface->toplevel = toplevel;
+	surface->is_shown = false;
 }
 
 /* There is no place for menus: each is closed at once. */
