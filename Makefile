@@ -1,11 +1,11 @@
-# Builds the library for C, and on it the tool `waywire-inspect` and the libwayland-client of `waywire-run`.
+# Builds the library for C, and on it the tool `waywire-inspect` and the libraries of `waywire-run`.
 #
 #     make            proves and builds the library if it is not built yet, reusing what was proved in this clone
 #                     (scripts/toolchain.py), and then builds the tools. If a package has the archive of the exports that
 #                     was proved from these sources, it takes that, and proves nothing
 #     make UNPROVED=1 compiles the library without a proof, unless a proved one is there
 #     make install    installs all of it, with the manual pages, the table texts (in PREFIX/share/waywire/protocols),
-#                     the package for Rust, the guide and the examples; also the program `waywire`, if that is built
+#                     the packages for Rust, the guide and the examples; also the program `waywire`, if that is built
 #                     (./waywire --build)
 #     make dist       packs all of that for machines without the toolchain
 #     make deb        makes a Debian package of it
@@ -51,7 +51,8 @@ soname = libwaywire.so.$(abi)
 shared = out/c/libwaywire.so.$(VERSION)
 program ?= crates/waywire/out/waywire
 inspect = out/c/waywire-inspect
-wayland = out/c/wayland/libwayland-client.so.0
+replay = out/c/waywire-replay
+wayland = out/c/wayland/client/libwayland-client.so.0 out/c/wayland/server/libwayland-server.so.0
 run = out/c/waywire-run
 headers = include/waywire.h include/waywire-core.h include/waywire-socket.h include/waywire-version.h
 package = waywire-$(VERSION)$(if $(unproved),-unproved)-x86_64-linux
@@ -62,18 +63,22 @@ fill = sed 's|@UP@|$(call from,$(1),$(PREFIX))|; s|@LIBDIR@|$(call from,$(PREFIX
 	s|@SONAME@|$(soname)|; s|@ABI@|$(abi)|; s|@PROVED@|$(if $(unproved),no,yes)|; \
 	s|@HOW@|$(if $(unproved),not )proved|'
 
-# `waywire-run` finds the folder of its libwayland-client and the inspector from its own folder:
+# `waywire-run` finds the folders of its libraries and the inspector from its own folder:
 # $(call run_with,LIBRARIES,INSPECTOR,FILE).
 run_with = sed 's|^libraries=.*|libraries=$(1)|; s|^inspector=.*|inspector=$(2)|; \
 	s|^version=.*|version=$(VERSION)|' c/libwayland/waywire-run > $(3) && chmod 755 $(3)
 
 # The typed calls for the core, which a tool makes from the core's XML. Those for Rust are part of its package.
 typed_c = include/waywire-core.h
-typed_rust = rust/waywire/src/wayland.rs
+typed_rust = rust/waywire/src/wayland.rs rust/waywire/src/data_device.rs
+# The archive in the package for Rust, which links it if no variable names another.
+archive_rust = rust/waywire-sys/lib/libwaywire.a
+# Those for the examples in Rust, as far as the files of the protocols are installed.
+example_modules = rust/waywire/examples/protocols/.made
 typed_from = protocols/core/core.xml protocols/core/core.tables tools/stubs-from-xml $(addprefix tools/waywire/, \
-	__init__.py protocol.py rust_stubs.py stubs_from_xml.py table_text.py valid_tables.py)
+	__init__.py files.py protocol.py rust_stubs.py stubs_from_xml.py table_text.py valid_tables.py)
 
-all: $(archive) $(shared) $(inspect) $(wayland) $(run) $(typed_rust)
+all: $(archive) $(shared) $(inspect) $(replay) $(wayland) $(run) $(typed_rust) $(example_modules) $(archive_rust)
 
 # What UNPROVED=1 allows: a library that is not proved, and packages with what was not proved from nothing.
 ifeq ($(UNPROVED),)
@@ -102,9 +107,17 @@ include/waywire-version.h: $(numbered) Makefile
 $(typed_c): $(typed_from)
 	tools/stubs-from-xml --prefix waywire_ $< > $@
 
-$(typed_rust): $(typed_from)
+rust/waywire/src/wayland.rs: $(typed_from)
 	tools/stubs-from-xml --rust --comment 'Typed calls for the core protocol, wayland.xml without data transfer.' \
 		$< > $@
+
+rust/waywire/src/data_device.rs: protocols/core/data-device.xml $(typed_from)
+	tools/stubs-from-xml --rust --comment 'Typed calls for data transfer (clipboards, drag and drop), the rest of wayland.xml.' \
+		$< > $@
+
+$(example_modules): scripts/example_modules.py scripts/protocol_files.py $(typed_from)
+	python3 -m scripts.example_modules
+	@touch $@
 
 # The calls on top of the exports.
 calls = $(patsubst c/lib/%.c,out/c/lib/%.o,$(wildcard c/lib/*.c))
@@ -152,6 +165,10 @@ $(archive): $(objects)
 	@rm -f $@
 	$(AR) rcsD $@ $(objects)
 
+$(archive_rust): $(archive)
+	@mkdir -p $(@D)
+	@cp $< $@
+
 $(shared): $(objects)
 	$(CC) -shared -Wl,-soname,$(soname) -Wl,-z,defs -Wl,--build-id=sha1 $(LDFLAGS) $(objects) -o $@
 	@ln -sf $(notdir $@) out/c/$(soname)
@@ -161,16 +178,22 @@ $(shared): $(objects)
 $(inspect): c/inspect/*.c c/inspect/*.h $(archive)
 	$(CC) $(CFLAGS) -std=c99 -Wall -Wextra -Wpedantic -Iinclude c/inspect/*.c $(LDFLAGS) $(archive) -o $@
 
-# The libwayland-client. It has a folder of its own, so that only programs that are told to use it find it. It
-# contains the archive, and exports only the symbols of libwayland. Some programs, such as alacritty, load it by its
-# name without a number.
-wayland_objects = $(patsubst c/libwayland/%.c,out/c/wayland/%.o,$(wildcard c/libwayland/*.c)) \
-	out/c/wayland/interfaces.o
-wayland_flags = -std=c99 -Wall -Wextra -Wpedantic -fPIC -fvisibility=hidden -pthread -Iinclude -Ic/libwayland
+# The files of c/inspect read recordings, tables and names for both tools.
+$(replay): c/replay/*.c c/replay/*.h c/inspect/*.c c/inspect/*.h $(archive)
+	$(CC) $(CFLAGS) -std=c99 -Wall -Wextra -Wpedantic -Iinclude -Ic/inspect c/replay/*.c \
+		$(filter-out c/inspect/main.c,$(wildcard c/inspect/*.c)) $(LDFLAGS) $(archive) -o $@
 
-out/c/wayland/%.o: c/libwayland/%.c $(wildcard c/libwayland/*.h) include/waywire-socket.h include/waywire.h \
+# The libwayland-client and the libwayland-server. Each has a folder of its own, so that only programs that are told to
+# use it find it. It contains the archive, and exports only the symbols of libwayland.
+wayland_common = $(patsubst c/libwayland/%.c,out/c/wayland/%.o,$(wildcard c/libwayland/common/*.c)) \
+	out/c/wayland/interfaces.o
+wayland_client = $(patsubst c/libwayland/%.c,out/c/wayland/%.o,$(wildcard c/libwayland/client/*.c))
+wayland_server = $(patsubst c/libwayland/%.c,out/c/wayland/%.o,$(wildcard c/libwayland/server/*.c))
+wayland_flags = -std=c99 -Wall -Wextra -Wpedantic -fPIC -fvisibility=hidden -pthread -Iinclude -Ic/libwayland/common
+
+out/c/wayland/%.o: c/libwayland/%.c $(wildcard c/libwayland/*/*.h) include/waywire-socket.h include/waywire.h \
 		include/waywire-version.h
-	@mkdir -p out/c/wayland
+	@mkdir -p $(@D)
 	$(CC) $(CFLAGS) $(wayland_flags) -c $< -o $@
 
 out/c/wayland/interfaces.c: protocols/core/core.xml protocols/core/data-device.xml scripts/interfaces_from_xml.py \
@@ -178,21 +201,25 @@ out/c/wayland/interfaces.c: protocols/core/core.xml protocols/core/data-device.x
 	@mkdir -p out/c/wayland
 	python3 -m scripts.interfaces_from_xml protocols/core/core.xml protocols/core/data-device.xml > $@
 
-out/c/wayland/interfaces.o: out/c/wayland/interfaces.c c/libwayland/wayland-abi.h
+out/c/wayland/interfaces.o: out/c/wayland/interfaces.c c/libwayland/common/wayland-abi.h
 	$(CC) $(CFLAGS) $(wayland_flags) -c $< -o $@
 
-$(wayland): $(wayland_objects) $(archive)
+# Some programs, such as alacritty, load a library by its name without a number.
+out/c/wayland/client/libwayland-client.so.0: $(wayland_client)
+out/c/wayland/server/libwayland-server.so.0: $(wayland_server)
+$(wayland): $(wayland_common) $(archive)
 	$(CC) -shared -pthread -Wl,-soname,$(notdir $@) -Wl,-z,defs -Wl,--build-id=sha1 \
-		-Wl,--exclude-libs,ALL $(LDFLAGS) $(wayland_objects) $(archive) -o $@
-	@ln -sf $(notdir $@) $(@D)/libwayland-client.so
+		-Wl,--exclude-libs,ALL $(LDFLAGS) $(filter %.o,$^) $(archive) -o $@
+	@ln -sf $(notdir $@) $(@:.0=)
 
 $(run): c/libwayland/waywire-run Makefile $(numbered)
 	@mkdir -p out/c
 	$(call run_with,wayland,waywire-inspect,$@)
 
-# The files of the Rust package, which is built with an installed library, and of its examples.
-rust = $(shell cd rust/waywire && find Cargo.toml README.md build.rs src examples -type f)
-pages = c/inspect/waywire-inspect.1 c/libwayland/waywire-run.1 tools/waywire-picture.1
+# The files of the packages for Rust, which are built with an installed library, and of the examples.
+rust = Cargo.toml $(shell cd rust && find waywire*/Cargo.toml waywire*/README.md waywire*/build.rs waywire*/src \
+	waywire/examples -type f -not -name .made)
+pages = c/inspect/waywire-inspect.1 c/replay/waywire-replay.1 c/libwayland/waywire-run.1 tools/waywire-picture.1
 
 install: all
 	install -d $(DESTDIR)$(INCLUDEDIR) $(DESTDIR)$(LIBDIR)/pkgconfig $(DESTDIR)$(LIBDIR)/cmake/waywire \
@@ -201,10 +228,13 @@ install: all
 	install -m 644 $(headers) $(DESTDIR)$(INCLUDEDIR)
 	install -m 644 $(archive) $(DESTDIR)$(LIBDIR)
 	install -m 755 $(shared) $(DESTDIR)$(LIBDIR)
-	install -d $(DESTDIR)$(LIBDIR)/waywire
-	install -m 755 $(wayland) $(DESTDIR)$(LIBDIR)/waywire
-	ln -sf $(notdir $(wayland)) $(DESTDIR)$(LIBDIR)/waywire/libwayland-client.so
-	$(call run_with,$(call from,$(BINDIR),$(LIBDIR)/waywire),waywire-inspect,$(DESTDIR)$(BINDIR)/waywire-run)
+	for side in client server; do \
+		install -D -m 755 out/c/wayland/$$side/libwayland-$$side.so.0 \
+			$(DESTDIR)$(LIBDIR)/waywire/wayland/$$side/libwayland-$$side.so.0 && \
+		ln -sf libwayland-$$side.so.0 \
+			$(DESTDIR)$(LIBDIR)/waywire/wayland/$$side/libwayland-$$side.so || exit; \
+	done
+	$(call run_with,$(call from,$(BINDIR),$(LIBDIR)/waywire/wayland),waywire-inspect,$(DESTDIR)$(BINDIR)/waywire-run)
 	for page in $(pages); do \
 		sed 's|@VERSION@|$(VERSION)|' $$page.in > $(DESTDIR)$(DATADIR)/man/man1/$${page##*/} || exit; \
 	done
@@ -217,12 +247,14 @@ install: all
 	chmod 644 $(DESTDIR)$(LIBDIR)/pkgconfig/waywire.pc $(DESTDIR)$(LIBDIR)/cmake/waywire/*.cmake
 	install -m 644 protocols/*.tables protocols/*.names $(DESTDIR)$(DATADIR)/waywire/protocols
 	install -m 644 protocols/core/* $(DESTDIR)$(DATADIR)/waywire/protocols/core
-	install -m 644 LICENSE docs/FORMATS.md docs/GUIDE.md $(DESTDIR)$(DATADIR)/doc/waywire
+	install -m 644 LICENSE docs/inspect.schema.json $(DESTDIR)$(DATADIR)/doc/waywire
 	install -d $(DESTDIR)$(DATADIR)/doc/waywire/examples
 	install -m 644 examples/c/* examples/*.rec $(DESTDIR)$(DATADIR)/doc/waywire/examples
 	for file in $(rust); do \
-		install -D -m 644 rust/waywire/$$file $(DESTDIR)$(DATADIR)/waywire/rust/$$file || exit; \
+		install -D -m 644 rust/$$file $(DESTDIR)$(DATADIR)/waywire/rust/$$file || exit; \
 	done
+	python3 -m scripts.installed_pages $(DATADIR)/doc/waywire $(INCLUDEDIR) $(DATADIR)/waywire '$(DESTDIR)'
+	chmod 644 $(DESTDIR)$(DATADIR)/doc/waywire/*.md
 	install -d $(DESTDIR)$(DATADIR)/waywire/tools/waywire $(DESTDIR)$(DATADIR)/waywire/tools/picture
 	install -m 644 tools/waywire/*.py $(DESTDIR)$(DATADIR)/waywire/tools/waywire
 	install -m 644 tools/picture/* $(DESTDIR)$(DATADIR)/waywire/tools/picture
@@ -232,8 +264,8 @@ install: all
 		sed 's|@VERSION@|$(VERSION)|' tools/$$tool.1.in > $(DESTDIR)$(DATADIR)/man/man1/waywire-$$tool.1 || exit; \
 	done
 	chmod 644 $(DESTDIR)$(DATADIR)/man/man1/waywire-*.1
-	install -m 755 $(inspect) $(DESTDIR)$(BINDIR)
-	install -m 755 tools/waywire-picture $(DESTDIR)$(DATADIR)/waywire/tools
+	install -m 755 $(inspect) $(replay) $(DESTDIR)$(BINDIR)
+	install -m 755 tools/waywire-picture tools/recordings-from-debug $(DESTDIR)$(DATADIR)/waywire/tools
 	ln -sf $(call from,$(BINDIR),$(DATADIR)/waywire/tools)/waywire-picture $(DESTDIR)$(BINDIR)
 	if python3 -m scripts.proved_archive ready; then \
 		python3 -m scripts.proved_archive pack $(DESTDIR)$(DATADIR)/waywire/proved; \
@@ -244,6 +276,8 @@ install: all
 		install -m 755 $(program) $(DESTDIR)$(BINDIR)/waywire && \
 		python3 -m scripts.man_page $(program) > $(DESTDIR)$(DATADIR)/man/man1/waywire.1 && \
 		chmod 644 $(DESTDIR)$(DATADIR)/man/man1/waywire.1; \
+	else \
+		echo "make: the program waywire is not installed: ./waywire --build proves and builds it" >&2; \
 	fi
 
 # Two packages of one commit have the same bytes.
@@ -265,7 +299,8 @@ check: all
 	./test c --short
 
 clean:
-	rm -rf out/c out/dist out/deb out/*.tar.gz out/*.deb include/waywire-version.h $(typed_c) $(typed_rust)
+	rm -rf out/c out/dist out/deb out/*.tar.gz out/*.deb include/waywire-version.h $(typed_c) $(typed_rust) \
+		rust/waywire/examples/protocols rust/waywire-sys/lib
 
 .PHONY: all again install dist deb check clean
 .DELETE_ON_ERROR:

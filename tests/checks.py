@@ -224,6 +224,20 @@ def read(path):
         return file.read()
 
 
+def copy_program(source, target):
+    """Copies a program to a path or into a folder, and returns the copy's path. Another process writes the copy: if
+    this one had it open, a process that another thread starts would inherit it, and while that waits to run its own
+    program, the copy cannot be run ("Text file busy")."""
+    path = f"{target}/{os.path.basename(source)}" if os.path.isdir(target) else target
+    subprocess.run(["cp", "-p", "--", source, path], check=True)
+    return path
+
+
+def write_program(path, text):
+    """Writes a script. Another process writes it, as in `copy_program`."""
+    subprocess.run(["install", "-m", "755", "/dev/stdin", path], input=text, encoding="utf-8", check=True)
+
+
 def files_below(folder):
     """The paths of all files in a folder and below it."""
     return [f"{at}/{name}" for at, _, names in os.walk(folder) for name in names]

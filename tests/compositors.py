@@ -15,22 +15,32 @@ from tests.checks import (COMES_UP, LONG, Failed, Skipped, comes_to_listen, end,
 DRAWN = "motion 20 20\nbutton 272\nkey 30\nclose\n"
 # A motion, and the keys H, I and Return.
 TYPED = "motion 40 40\nkey 35\nkey 23\nkey 28\n"
-SWAY = "xwayland disable\noutput * bg #000000 solid_color\n"
+SWAY = "xwayland {}\noutput * bg #000000 solid_color\n"
 
 
-def sway(room, env):
-    """How to start sway without a screen, in a folder of its own: the command, the path at which it listens, and its
-    environment and user. Sway does not run as root."""
+def of_wlroots(room, env):
+    """The environment and the user of a compositor without a screen that stands on wlroots: it does not run as root.
+    It owns the room, a folder of its own."""
     user = pwd.getpwnam("nobody") if os.getuid() == 0 else None
-    with open(f"{room}/config", "w", encoding="ascii") as file:
-        file.write(SWAY)
     if user:
         shutil.chown(room, user.pw_uid, user.pw_gid)
     env = {**env, "XDG_RUNTIME_DIR": room, "HOME": room, "WLR_BACKENDS": "headless",
            "WLR_LIBINPUT_NO_DEVICES": "1", "WLR_RENDERER": "pixman"}
     env.pop("WAYLAND_DISPLAY", None)
     as_user = {"user": user.pw_uid, "group": user.pw_gid, "extra_groups": []} if user else {}
-    return ["sway", "--config", f"{room}/config"], f"{room}/wayland-1", {"env": env, **as_user}
+    return {"env": env, **as_user}
+
+
+def sway(room, env, has_xwayland=False):
+    """How to start sway without a screen: the command, the path at which it listens, and its environment and user."""
+    with open(f"{room}/config", "w", encoding="ascii") as file:
+        file.write(SWAY.format("force" if has_xwayland else "disable"))
+    return ["sway", "--config", f"{room}/config"], f"{room}/wayland-1", of_wlroots(room, env)
+
+
+def phoc(room, env):
+    """How to start phoc, as for sway."""
+    return ["phoc"], f"{room}/wayland-0", of_wlroots(room, env)
 
 
 def weston(room, env):
@@ -42,7 +52,7 @@ def weston(room, env):
 @contextlib.contextmanager
 def running(words, path, room, **kept):
     """A compositor that listens at a path, and ends with the test. If it does not come up, the test is skipped."""
-    with open(f"{room}/{words[0]}.log", "w+b") as said:
+    with open(f"{room}/{os.path.basename(words[0])}.log", "w+b") as said:
         process, listens = started(words, path, said, **kept)
         try:
             if not listens:

@@ -25,7 +25,14 @@ waywire = {{ path = "{path}" }}
 
 [workspace]
 """
-LENT = {"string": "TEXTS[corner]", "array": "TEXTS[corner]", "fixed": "fixed(corner)", "fd": "numbered(corner)"}
+LENT = {"string": "TEXTS[corner]", "array": "TEXTS[corner].to_bytes()", "fixed": "fixed(corner)", "fd": "numbered(corner)"}
+
+
+def lent(name, arg):
+    """An argument as a call takes it."""
+    if arg.type == "string":
+        return f"{name}.map(CStr::to_bytes)" if arg.null else f"{name}.to_bytes()"
+    return f"&{name}" if arg.type == "fd" else name
 
 
 def said(name, arg):
@@ -83,7 +90,7 @@ class Calls(rust_stubs.Module):
         module = self.places[interface.name]
         name = "_".join([self.protocol.name, interface.name, side, message.name])
         name = word(name.replace("__", "_"))
-        end = "client" if side == "request" else "server"
+        end, reader = rust_stubs.WRITER[side], rust_stubs.READER[side]
         self.say("", f"fn {name}(corner: usize) {{", "    let mut pair = Pair::new(TEXTS_OF_TABLES);")
         given, came = [], ["target"]
         for place, it in enumerate(message.args):
@@ -91,15 +98,15 @@ class Calls(rust_stubs.Module):
                 came.append("made")
                 continue
             self.say(f"    let arg{place} = {self.value(interface, it)};")
-            given.append(f"&arg{place}" if it.type == "fd" else f"arg{place}")
+            given.append(lent(f"arg{place}", it))
             came.append(said(f"arg{place}", it))
         self.say(f"    let target: {module}::{type_name(interface.name)} = pair.handle();")
-        call = f"target.{method}({', '.join([f'&mut pair.{end}', *given])})"
+        call = f"target.{method}({', '.join([f'&pair.{end}', *given])})"
         self.tests.append(name)
         self.say(f"    let made = {call}.unwrap();" if message.made() else f"    {call}.unwrap();")
         self.say(f"    let mut message = pair.{side}();", f"    let wanted = said!({', '.join(came)});",
                  "    let mut seen = Seen(String::new());",
-                 f"    assert!({module}::dispatch_{side}(&mut seen, tables(), &mut message));",
+                 f"    assert!({module}::dispatch_{side}(&mut seen, &pair.{reader}, &mut message));",
                  f'    assert_eq!(seen.0, format!("{message.name}: {{wanted}}"));', "}")
 
     def handlers_of(self, interface, side, messages):
@@ -108,10 +115,10 @@ class Calls(rust_stubs.Module):
         for it in messages:
             target = self.target(interface, it)
             pairs = [(target, f"{module}::{handle}"), *self.parameters(interface, it)]
-            parameters = "".join(f", {name}: {form}" for name, form in pairs)
+            parameters = ", ".join([rust_stubs.end(rust_stubs.READER[side]), *(f"{name}: {form}" for name, form in pairs)])
             kinds = {self.name(arg): arg for arg in it.args}
             names = [said(name, kinds[name]) if name in kinds else name for name, _ in pairs]
-            self.say(f"    fn {word(it.name)}(&mut self{parameters}) {{",
+            self.say(f"    fn {word(it.name)}(&mut self, {parameters}) {{",
                      f'        self.0 = format!("{it.name}: {{}}", said!({", ".join(names)}));', "    }")
         self.say("}")
 

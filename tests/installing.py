@@ -39,6 +39,7 @@ def installed(program):
         if can("found by cmake", "cmake"):
             found_by_cmake(prefix, libraries, version)
         has_what_the_header_names(prefix)
+        has_no_dead_link(prefix)
         has_its_soname(libraries, version)
         tools_read_the_core(prefix)
         if program and os.path.exists(program):
@@ -94,11 +95,25 @@ def has_what_the_header_names(prefix):
     named += [f"share/doc/waywire/{it}" for it in ("LICENSE", *re.findall(r"\b[A-Z]+\.md", text))]
     named += [f"include/{it}" for it in re.findall(r"waywire-\w+\.h", text)]
     named += [f"bin/{it}" for it in re.findall(r"waywire-[a-z-]*from-xml", text)]
-    named += ["share/doc/waywire/GUIDE.md", "share/doc/waywire/examples/client.c", "share/waywire/rust/src/lib.rs",
+    named += ["share/doc/waywire/GUIDE.md", "share/doc/waywire/examples/client.c", "share/waywire/rust/waywire/src/lib.rs",
               "share/doc/waywire/examples/surface.rec"]
     missing = [it for it in named if not os.path.exists(os.path.join(prefix, it))]
     if missing or len(named) < 5:
         raise Failed(f"waywire.h names {named}, of which {missing} are not installed")
+
+
+def has_no_dead_link(prefix):
+    """Each link of an installed page leads to an installed file."""
+    found = [os.path.join(at, it) for at, _, names in os.walk(os.path.join(prefix, "share")) for it in names]
+    links = 0
+    for page in (it for it in found if it.endswith(".md")):
+        with open(page, encoding="utf-8") as file:
+            for to in re.findall(r"\]\(([^)\s#]+)", file.read()):
+                links += 1
+                if not re.match(r"\w+:", to) and not os.path.exists(os.path.join(os.path.dirname(page), to)):
+                    raise Failed(f"{page} has a dead link: {to}")
+    if links < 20:
+        raise Failed(f"the installed pages have {links} links")
 
 
 def has_its_soname(libraries, version):
@@ -141,9 +156,10 @@ def installing_compiles_nothing(_program):
     if found := re.findall(r"(?m)^(?:compiler|linker|archiver) .*", run(words)):
         raise Failed(f"make install runs {found[0]}")
     said = run(["make", "-n", "-B", "CC=compiler", "LDFLAGS=--given", "out/c/waywire-inspect",
-                "out/c/wayland/libwayland-client.so.0", f"out/c/libwaywire.so.{version_of_the_library()}"])
+                "out/c/waywire-replay", "out/c/wayland/client/libwayland-client.so.0", "out/c/wayland/server/libwayland-server.so.0",
+                f"out/c/libwaywire.so.{version_of_the_library()}"])
     linked = [it for it in re.sub(r"\\\n", "", said).splitlines() if it.startswith("compiler ") and " -c " not in it]
-    if len(linked) != 3 or not all(" --given " in it for it in linked):
+    if len(linked) != 5 or not all(" --given " in it for it in linked):
         raise Failed(f"not each of these is linked with LDFLAGS: {linked}")
 
 
@@ -207,7 +223,7 @@ def compiled_without_a_proof(_program):
     same word alone."""
     need("make", "rt", "pkg-config")
     if not unproved.is_known():
-        raise Skipped(f"this takes the toolchain {unproved.KNOWN}")
+        raise Skipped(f"this takes the toolchain {' or '.join(unproved.KNOWN)}")
     with tempfile.TemporaryDirectory() as room:
         copy = copy_of_what_make_reads(room)
         run(["make", "-s", "UNPROVED=1", f"PREFIX={room}"], cwd=copy)
@@ -229,8 +245,9 @@ def copy_of_what_make_reads(room):
     """A copy of what the library for C is made of, and of what is installed with it, without what was built."""
     copy = f"{room}/copy"
     of_crates = [f"crates/{it}" for it in crates.lowest_first(crates.read(), proved_archive.LIBRARY)]
-    hide = shutil.ignore_patterns("out", "must-fail", "__pycache__", "waywire-core.h", "waywire-version.h", "wayland.rs")
-    for it in ("c", "include", "scripts", "tools", "docs", "examples", "protocols", "rust/waywire", *of_crates):
+    hide = shutil.ignore_patterns("out", "must-fail", "__pycache__", "waywire-core.h", "waywire-version.h", "wayland.rs",
+                                  "target")
+    for it in ("c", "include", "scripts", "tools", "docs", "examples", "protocols", "rust", *of_crates):
         shutil.copytree(f"{TOP}/{it}", f"{copy}/{it}", ignore=hide)
     for it in ("Makefile", "LICENSE", "HANDLES", "crates.txt", "crates/program_arguments/src/job.rt"):
         os.makedirs(os.path.dirname(f"{copy}/{it}"), exist_ok=True)
@@ -283,10 +300,11 @@ def serves_unpacked(root):
     tells_its_version(f"{usr}/bin/waywire-inspect")
     carries_the_proof(f"{usr}/share")
     knows_installed_tables(f"{usr}/bin/waywire-inspect", root)
+    replays_with_installed_tables(f"{usr}/bin/waywire-replay", {**os.environ, "XDG_RUNTIME_DIR": root})
     tools_read_the_core(usr)
     run([f"{usr}/bin/waywire-run", "true"])
     for name in ("share/doc/waywire/copyright", "share/doc/waywire/LICENSE", "share/doc/waywire/GUIDE.md",
-                 "share/waywire/rust/Cargo.toml", "share/doc/waywire/examples/client.c",
+                 "share/waywire/rust/waywire/Cargo.toml", "share/doc/waywire/examples/client.c",
                  "share/man/man1/waywire-stubs-from-xml.1.gz"):
         if not os.path.exists(os.path.join(usr, name)):
             raise Failed(f"{name} is not in the package")
@@ -376,10 +394,19 @@ def inspector_is_installed(_program):
         said = subprocess.run(words, env=env, capture_output=True, timeout=LONG)
         if said.returncode != 125 or said.stderr.count(b"\n") != 1 or b"no compositor" not in said.stderr:
             raise Failed(f"status {said.returncode}: {said.stderr.decode()}")
-        for name in ("inspect", "picture", "run", "tables-from-xml", "stubs-from-xml"):
+        for name in ("inspect", "replay", "picture", "run", "tables-from-xml", "stubs-from-xml"):
             is_a_manual_page(os.path.join(data, "man", "man1", f"waywire-{name}.1"))
         knows_installed_tables(tool, prefix)
+        replays_with_installed_tables(os.path.join(prefix, "bin", "waywire-replay"), env)
         run([os.path.join(prefix, "bin", "waywire-picture"), "examples/surface.rec", "-o", f"{prefix}/page.html"])
+
+
+def replays_with_installed_tables(tool, env):
+    """The tool reads a recording of interfaces that the core lacks, and finds no compositor."""
+    words = [tool, os.path.join(TOP, "examples", "drm_lease.rec")]
+    said = subprocess.run(words, env=env, capture_output=True, timeout=LONG)
+    if said.returncode != 125 or said.stdout or b": cannot connect to a compositor: " not in said.stderr:
+        raise Failed(f"status {said.returncode}: {said.stderr.decode()}")
 
 
 def knows_installed_tables(tool, folder):

@@ -70,23 +70,53 @@ def buffer_of_two_surfaces():
         equal(found, [["held", "wl_surface@4", 2, 5, is_gone], ["held", "wl_surface@5", 4, 5, is_gone]], last)
 
 
-def frames_of_subsurfaces():
-    """A frame of a synchronized subsurface is waited for from the commit of its parent on."""
-    for before, behind, wanted in (((), (), 4), (["set_desync"], [], 4), (["set_desync", "set_sync"], [], 6),
-                                   ([], ["set_desync"], 4), (["destroy"], [], 4)):
-        found = value(picture_sessions.subsurface(before, behind), """session.waits.map((it) =>
-            [it.key, it.object.name, it.asked + 1, it.from + 1, session.nameOf(it.to)])""")
-        asked = 2 + len(before)
-        equal(found, [["frame", "wl_surface@4", asked, wanted, "done"]], f"{before}, {behind}")
-    found = value(picture_sessions.subsurface(), "[...session.keptCommits].map((it) => it + 1)")
-    equal(found, [3], "the commit that waits")
-
-
 def taken_by_a_commit():
     """A commit takes into effect what was asked since the one before, however much that is."""
     found = value(picture_sessions.commits(), """[15, 17].map((it) => takenByCommit(session, it - 1)
         .map((one) => session.nameOf(one)))""")
     equal(found, [["attach", *12 * ["damage_buffer"], "frame"], []], "taken")
+
+
+# ---- pauses, silences and what is late
+
+WORDS = "session.findings.map((it) => it.words)"
+
+
+def pauses_that_were_asked_for():
+    """A client that draws of its own accord does not pause. One that was asked for a frame, or was configured, does."""
+    moments = picture_sessions.blinks()
+    equal(value(picture_sessions.drawn(moments), WORDS), [], "a cursor that blinks")
+    for name, how, longest in (("frames", {"asked": [(100, 0.3), (160, 0.2)]}, "300.0"),
+                               ("configures", {"configured": [(100, 0.2), (160, 0.3)]}, "300.0")):
+        found = value(picture_sessions.drawn(moments, **how), WORDS)
+        equal(found[-1:], [f"The client paused 2 times in drawing wl_surface@4. A pause is more than 32.0 ms from what asks "
+                           f"for a commit to the commit. The longest took {longest} ms."], name)
+
+
+def pastes_and_silences():
+    """How long the client sends nothing after it has asked for the content of the clipboard."""
+    silences = """session.silences.map(({ after, to, took, asked }) => [after + 1, to + 1, Math.round(took / 1000),
+        asked + 1])"""
+    lines = picture_sessions.paste(3)
+    equal(value(lines, WORDS), ["After wl_data_offer@s0.receive the client sent nothing for 3.00 s."], "a paste")
+    equal(value(lines, silences), [[4, 5, 2999, 2], [1, 2, 1000, 0]], "silences")
+    equal(value(picture_sessions.paste(None, ended=5), WORDS),
+          ["After wl_data_offer@s0.receive the client sent nothing for 4.00 s, up to the end."], "up to the end")
+    lines = picture_sessions.paste(0.5)
+    equal(value(lines, "[session.findings.length, session.pastes.map((it) => Math.round(it.took / 1000))]"), [0, [500]],
+          "a paste that is fast")
+    equal(value(lines, "nothingFound(session)"), "Nothing was late, nothing piled up, and nothing was left without an "
+          "answer. The longest silence took 1.00 s.", "what is said")
+
+
+def late_before_the_first_frame():
+    """A first configure that takes long, whether the inspector says that it is an answer or not."""
+    equal(value(picture_sessions.slow_to_begin(11.7), WORDS),
+          ["The first configure of xdg_surface@5 came 11.70 s after the commit that asked for it."], "by the page")
+    equal(value(picture_sessions.slow_to_begin(11.7, True), WORDS),
+          ["1 of 1 first configures came late. The longest took 11.70 s (wl_surface@4)."], "by the inspector")
+    for is_known in (False, True):
+        equal(value(picture_sessions.slow_to_begin(0.5, is_known), WORDS), [], "in time")
 
 
 # ---- the filter, and objects
@@ -252,7 +282,8 @@ def hidden_message_is_said():
     equal(found, ["", "3 of 8", "3 of 8, message 1 is hidden", "3 of 8"], "what is said")
 
 
-TESTS = (new_id_of_zero, nothing_is_asked_after_the_end, buffer_of_two_surfaces, frames_of_subsurfaces, taken_by_a_commit,
+TESTS = (new_id_of_zero, nothing_is_asked_after_the_end, buffer_of_two_surfaces, taken_by_a_commit,
+         pauses_that_were_asked_for, pastes_and_silences, late_before_the_first_frame,
          first_with_an_id,
          open_questions, pasted_lines, interface_of_no_table, clicks_and_drags, wheel_and_pinch,
          keys_of_what_has_the_focus, same_messages_in_both_scales, last_message_has_a_place, rows_of_many_objects,

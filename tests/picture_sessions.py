@@ -33,7 +33,7 @@ class Lines:
         self.lines = [
             {"type": "head", "recording": None, "command": ["a"], "started": None, "tables": ["core"], "timed": True},
             {"type": "client", "client": 1, "name": name, "pid": 7}]
-        self.number, self.offset = 0, {"request": 0, "event": 0}
+        self.number, self.offset, self.left = 0, {"request": 0, "event": 0}, []
 
     def add(self, direction, target, name, opcode, arguments, printed, **parts):
         self.number += 1
@@ -50,10 +50,20 @@ class Lines:
             "judged": True, **parts})
         self.offset[direction] += size
 
+    def asks(self, number, since=None, replaced=None, answered_by=None, ended_by=None, is_open=False):
+        """A message asks, and another one answers, or ends what it asks for; or no other does."""
+        line = {"since": since or number, **({"replaced": replaced} if replaced else {})}
+        if answered_by or ended_by:
+            message = self.lines[1 + (answered_by or ended_by)]
+            message.setdefault("closes", []).append({"asked": number, **line, "answered": bool(answered_by)})
+        else:
+            kind = "open" if is_open else "unanswered"
+            self.left.append({"type": kind, "client": 1, "number": number, **line, "waiting": None})
+
     def ended(self, verdict="lawful"):
         """All lines, with the verdict."""
         counts = {it: sum(line.get("direction") == it for line in self.lines) for it in ("request", "event")}
-        return [*self.lines, {
+        return [*self.lines, *self.left, {
             "type": "verdict", "client": 1, "verdict": verdict, "words": "words", "messages": self.number,
             "requests": counts["request"], "events": counts["event"]}]
 
@@ -109,8 +119,16 @@ def held_buffers(spans):
         moments += [(begin, "request", surface, "attach", 1, shown, f"wl_buffer@{buffer}, 0, 0"),
                     (begin, "request", surface, "commit", 6, [], ""),
                     (end, "event", named("wl_buffer", buffer), "release", 0, [], "")]
-    for moment, *parts in sorted(moments, key=lambda it: it[0]):
-        lines.add(*parts, time=moment)
+    shown = {}
+    for moment, direction, target, name, *parts in sorted(moments, key=lambda it: it[0]):
+        lines.add(direction, target, name, *parts, time=moment)
+        if name == "attach":
+            attached = parts[1][0]["id"], lines.number
+        elif name == "commit":
+            shown = {at: (asked, since, replaced or lines.number) for at, (asked, since, replaced) in shown.items()}
+            shown[attached[0]] = attached[1], lines.number, None
+        else:
+            lines.asks(*shown.pop(target["id"]), answered_by=lines.number)
     return lines.ended()
 
 
@@ -122,9 +140,87 @@ def pings(moments, answered, end):
         messages.append((moment, "event", base, "ping", 0, [number_of(serial)], str(serial)))
         if serial in answered:
             messages.append((moment + 0.001, "request", base, "pong", 3, [number_of(serial)], str(serial)))
-    for moment, *parts in messages:
-        lines.add(*parts, time=moment)
+    for moment, direction, *parts in messages:
+        lines.add(direction, *parts, time=moment)
+        if direction == "request":
+            lines.asks(lines.number - 1, answered_by=lines.number)
     lines.add("request", named("wl_surface", 4), "commit", 6, [], "", time=end)
+    for it in lines.lines[2:-1]:
+        number = it["number"]
+        if it["message"] == "ping" and lines.lines[number + 2]["message"] != "pong":
+            lines.asks(number)
+    return lines.ended()
+
+
+def drawn(moments, asked=(), configured=()):
+    """A surface that is drawn at these moments: each time it asks for a frame, which comes after 3 ms. Some of the frames
+    were asked for, or a configure came, so long before their commit."""
+    lines, surface, shell, messages = Lines("client"), named("wl_surface", 4), named("xdg_surface", 5), []
+    early, late = dict(asked), dict(configured)
+    lines.add("request", named("xdg_wm_base", 3), "get_xdg_surface", 2, [new("xdg_surface", 5), given("wl_surface", 4)],
+              "new id xdg_surface@5, wl_surface@4", time=0)
+    for at, moment in enumerate(moments):
+        callback = new("wl_callback", 10 + at)
+        if at in late:
+            messages.append((moment - late[at], "event", shell, "configure", 0, [number_of(at)], str(at)))
+            messages.append((moment - late[at] + 0.001, "request", shell, "ack_configure", 4, [number_of(at)], str(at)))
+        messages.append((moment - early.get(at, 0), "request", surface, "frame", 3, [callback],
+                         f"new id wl_callback@{10 + at}"))
+        messages.append((moment, "request", surface, "attach", 1, [given("wl_buffer", 9), number_of(0), number_of(0)],
+                         "wl_buffer@9, 0, 0"))
+        messages.append((moment, "request", surface, "commit", 6, [], ""))
+        messages.append((moment + 0.003, "event", named("wl_callback", 10 + at), "done", 0, [number_of(at)], str(at)))
+    for moment, *parts in sorted(messages, key=lambda it: it[0]):
+        lines.add(*parts, time=moment, destroyed=[parts[1]] if parts[2] == "done" else [])
+        if parts[2] == "frame":
+            frame = lines.number
+        elif parts[2] == "commit":
+            shown = lines.number
+        elif parts[2] == "done":
+            lines.asks(frame, shown, answered_by=lines.number)
+    return lines.ended()
+
+
+def blinks(count=18, frames=20):
+    """The moments at which a cursor that fades in and out is drawn: some frames, and then nothing for a while."""
+    return [0.01 + 0.75 * blink + 0.016 * frame for blink in range(count) for frame in range(frames)]
+
+
+def paste(after, ended=None):
+    """A client that asks for the content of the clipboard, and sends its next request so many seconds later."""
+    lines, display = Lines("client"), named("wl_display", 1)
+    lines.add("event", named("wl_data_device", 6), "data_offer", 0, [new("wl_data_offer", FIRST_OF_SERVER)],
+              "new id wl_data_offer@4278190080", time=0)
+    descriptor = {"kind": "fd", "name": None, "number": 1}
+    lines.add("request", named("wl_data_offer", FIRST_OF_SERVER), "receive", 1, [string("text/plain"), descriptor],
+              '"text/plain", fd 1', time=1, piece=2)
+    lines.add("request", display, "sync", 0, [new("wl_callback", 7)], "new id wl_callback@7", time=1, piece=2)
+    lines.add("event", named("wl_callback", 7), "done", 0, [number_of(0)], "0", time=1.001)
+    if after is not None:
+        lines.add("request", named("wl_surface", 4), "commit", 6, [], "", time=1 + after)
+    lines = lines.ended()
+    lines[-1]["ended"] = ended
+    return lines
+
+
+def slow_to_begin(after, is_known=False):
+    """A window whose first configure comes so many seconds after the commit that asks for it, and whose frame comes at
+    once. The inspector may know that the configure is an answer."""
+    lines, surface, shell = Lines("client"), named("wl_surface", 4), named("xdg_surface", 5)
+    lines.add("request", named("xdg_wm_base", 3), "get_xdg_surface", 2, [new("xdg_surface", 5), given("wl_surface", 4)],
+              "new id xdg_surface@5, wl_surface@4", time=0)
+    lines.add("request", shell, "get_toplevel", 1, [new("xdg_toplevel", 6)], "new id xdg_toplevel@6", time=0)
+    lines.add("request", surface, "commit", 6, [], "", time=0.01)
+    lines.add("event", shell, "configure", 0, [number_of(1)], "1", time=0.01 + after)
+    if is_known:
+        lines.asks(3, answered_by=4)
+    lines.add("request", shell, "ack_configure", 4, [number_of(1)], "1", time=0.02 + after)
+    lines.add("request", surface, "frame", 3, [new("wl_callback", 8)], "new id wl_callback@8", time=0.02 + after)
+    lines.add("request", surface, "attach", 1, [given("wl_buffer", 7), number_of(0), number_of(0)], "wl_buffer@7, 0, 0",
+              time=0.02 + after)
+    lines.add("request", surface, "commit", 6, [], "", time=0.02 + after)
+    lines.add("event", named("wl_callback", 8), "done", 0, [number_of(0)], "0", time=0.03 + after)
+    lines.asks(6, 8, answered_by=9)
     return lines.ended()
 
 
@@ -232,6 +328,8 @@ def asked_after_the_end(is_broken):
     ask()
     lines.add("request", surface, "commit", 6, [], "")
     lines.add("event", named("xdg_wm_base", 5), "ping", 0, [number_of(1)], "1")
+    lines.asks(1)
+    lines.asks(2)
     return lines.ended("broken" if is_broken else "error")
 
 
@@ -246,6 +344,8 @@ def buffer_of_two_surfaces(last):
         lines.add("event", buffer, "release", 0, [], "")
     else:
         lines.add("request", buffer, "destroy", 0, [], "", destroyed=[buffer])
+    for asked in (1, 3):
+        lines.asks(asked, asked + 1, **{"answered_by" if last == "release" else "ended_by": 5})
     return lines.ended()
 
 
@@ -269,6 +369,8 @@ def questions_left():
     lines.add("request", surface, "attach", 1, [given("wl_buffer", 7), number_of(-1), number_of(-5)],
               "wl_buffer@7, -1, -5")
     lines.add("request", surface, "commit", 6, [], "")
+    lines.asks(1, 3)
+    lines.asks(2, 3, is_open=True)
     return lines.ended()
 
 
@@ -311,24 +413,6 @@ def commits():
     for _ in range(2):
         lines.add("request", surface, "commit", 6, [], "")
         lines.add("event", surface, "enter", 0, [given("wl_output", 9)], "wl_output@9")
-    return lines.ended()
-
-
-def subsurface(before=(), behind=()):
-    """A surface in another asks for a frame and is committed; then its parent is, and after that the frame comes. There
-    are requests for the subsurface before its commit and behind it."""
-    lines, child, parent = Lines("client"), named("wl_surface", 4), named("wl_surface", 5)
-    lines.add("request", named("wl_subcompositor", 3), "get_subsurface", 1,
-              [new("wl_subsurface", 6), given("wl_surface", 4), given("wl_surface", 5)],
-              "new id wl_subsurface@6, wl_surface@4, wl_surface@5")
-    for it in before:
-        lines.add("request", named("wl_subsurface", 6), it, 5, [], "")
-    lines.add("request", child, "frame", 3, [new("wl_callback", 8)], "new id wl_callback@8")
-    lines.add("request", child, "commit", 6, [], "")
-    for it in behind:
-        lines.add("request", named("wl_subsurface", 6), it, 5, [], "")
-    lines.add("request", parent, "commit", 6, [], "")
-    lines.add("event", named("wl_callback", 8), "done", 0, [number_of(0)], "0")
     return lines.ended()
 
 
@@ -408,6 +492,7 @@ def hang_recording(last="# ended 3.940000\n"):
     yield piece(0, ">", [message(9, 0, words(10, 0, 32, 32, 128, 0))])
     grab = [message(7, 0, words(11, 0, 4)), message(11, 0, words(10))]
     yield piece(0.1, ">", grab)
+    yield piece(0.102, "<", [message(11, 0, words(1, 32, 32, 128))])
     yield piece(0.104, "<", [message(11, 2, words(0, 0, 0))])
     yield piece(0.105, ">", [message(11, 1)])
     yield piece(0.106, "<", [message(1, 1, words(11))])
@@ -416,5 +501,6 @@ def hang_recording(last="# ended 3.940000\n"):
         yield piece(0.110 + turn * 0.016, "<", [message(11, 0, words(turn)), message(1, 1, words(11))])
     yield piece(0.94, ">", [message(8, 3, words(11)), message(8, 6)])
     yield piece(0.95, ">", [message(7, 0, words(12, 0, 4)), message(12, 0, words(10))])
+    yield piece(0.952, "<", [message(12, 0, words(1, 32, 32, 128))])
     yield piece(1.44, "<", [message(5, 0, words(1))])
     yield last

@@ -19,15 +19,18 @@ PIECE_LINE = re.compile(rb"([<>]) (-|(?:[0-9a-fA-F]{2})+)(?: \+([0-9]{1,5}))?")
 
 def parse_recording(data):
     """The pieces of a recording: sign, bytes, tokens. Raises `BadLine`."""
-    pieces = []
+    return list(pieces_of(data))
+
+
+def pieces_of(data):
+    """One piece after another. Raises `BadLine` behind the pieces before that line."""
     for number, line in lines_of(data):
         found = PIECE_LINE.fullmatch(line)
         count = int(found[3] or 0) if found else 0
         if not found or (found[3] and not 1 <= count <= 65535):
             raise BadLine(number)
         digits = b"" if found[2] == b"-" else found[2]
-        pieces.append((found[1].decode(), bytes.fromhex(digits.decode()), count))
-    return pieces
+        yield found[1].decode(), bytes.fromhex(digits.decode()), count
 
 
 class Fault(Exception):
@@ -325,6 +328,17 @@ def session_of(tables, data, limit=LIMIT):
     for piece in parse_recording(data):
         session.add(*piece)
     return session
+
+
+def streamed(tables, data, limit=LIMIT):
+    """The session of a recording, up to its first bad line, and that line's `BadLine`, or None."""
+    session = Session(tables, limit)
+    try:
+        for piece in pieces_of(data):
+            session.add(*piece)
+    except BadLine as error:
+        return session, error
+    return session, None
 
 
 def judged(tables, data, limit=LIMIT):

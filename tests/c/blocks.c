@@ -50,6 +50,11 @@ uint32_t waywire_c_tables_core(void **tables)
 	return work == FAILS ? WAYWIRE_NO_MEMORY : WAYWIRE_OK;
 }
 
+uint32_t waywire_c_tables_core_unended(void **tables)
+{
+	return waywire_c_tables_core(tables);
+}
+
 /* Makes tables, and frees them; a block from before outlives them unless they free it. */
 static void before_and_after(void)
 {
@@ -95,10 +100,10 @@ uint32_t waywire_c_tables_read(struct handle tables, const void *text, size_t le
 	return WAYWIRE_NO_MEMORY;
 }
 
-uint32_t waywire_c_client_more_tables(struct handle *client, const void *text, size_t length, void **more,
+uint32_t waywire_c_end_more_tables(struct handle *end, const void *text, size_t length, void **more,
 	size_t *line, uint32_t *rule)
 {
-	(void)client, (void)text, (void)length, (void)more, (void)line, (void)rule;
+	(void)end, (void)text, (void)length, (void)more, (void)line, (void)rule;
 	return WAYWIRE_NO_MEMORY;
 }
 

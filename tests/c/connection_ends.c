@@ -66,20 +66,20 @@ static const waywire_listener listeners[] = {
 	{ "maker", on_ask, NULL },
 };
 
-static void serve(int socket)
+static void serve(int socket, const waywire_sizes *sizes)
 {
-	begin_server(socket, NULL);
+	begin_server(socket, sizes);
 	MUST(!waywire_connection_implement(server, listeners, 2, NULL));
 	MUST(!waywire_connection_add_global(server, "maker", 1, NULL));
 }
 
-static void begin(const waywire_sizes *of_client)
+static void begin(const waywire_sizes *sizes)
 {
 	int sockets[2];
 	before = count_open();
 	make_pair(sockets);
-	begin_client(sockets[0], of_client);
-	serve(sockets[1]);
+	begin_client(sockets[0], sizes);
+	serve(sockets[1], sizes);
 }
 
 static void end(void)
@@ -384,8 +384,9 @@ static void reads_on(void)
 /* The client takes a part now and then, and then nothing more. */
 static void reads_slowly(void)
 {
+	static const waywire_sizes large = { 65536, 64, 16384, 256, 0 };
 	char bytes[4096];
-	begin(NULL);
+	begin(&large);
 	hold_back();
 	waywire_connection_set_limits(server, 0, 1000000);
 	for (int i = 0; i < 3; i++) {
@@ -489,7 +490,7 @@ static pid_t begin_with_child(void)
 	MUST(child >= 0);
 	if (!child) {
 		close(sockets[0]);
-		serve(sockets[1]);
+		serve(sockets[1], NULL);
 		while (waywire_connection_dispatch(server, WAIT) > 0)
 			;
 		int error = errno;

@@ -49,12 +49,12 @@ static void globals(void)
 	target = registry;
 	MUST(!waywire_tables_interface(tables, WAYWIRE_WL_COMPOSITOR_NAME, &index));
 	MUST(!waywire_server_add_global(server, index, 6, &name));
-	MUST(!waywire_server_announce(server, NULL));
+	MUST(!waywire_server_announce(server, NULL, NULL));
 	carry_and_read_at_client();
 	MUST(waywire_wl_registry_dispatch_event(&registry_events, &mark, &report));
 	MUST(calls_that_came == 1 && number == name && !strcmp(heard, "wl_compositor"));
 	MUST(!waywire_server_withdraw(server, name));
-	MUST(!waywire_server_announce(server, NULL));
+	MUST(!waywire_server_announce(server, NULL, NULL));
 	carry_and_read_at_client();
 	number = 0;
 	MUST(waywire_wl_registry_event_dispatcher(&registry_events, &mark, &report));
@@ -105,6 +105,30 @@ static void failed(void)
 	close_pair();
 }
 
+/* A report stays as it is while the end writes, until its outbox is full. */
+static void answered(void)
+{
+	waywire_wl_callback callback;
+	uint16_t index;
+	uint32_t name;
+	size_t count = 0;
+	open_pair();
+	target = registry;
+	MUST(!waywire_tables_interface(tables, WAYWIRE_WL_COMPOSITOR_NAME, &index));
+	MUST(!waywire_server_add_global(server, index, 6, &name));
+	MUST(!waywire_server_announce(server, NULL, NULL));
+	carry_and_read_at_client();
+	while (!waywire_wl_display_sync(client, waywire_wl_display_of(waywire_end_display(client.end)), &callback))
+		count++;
+	MUST(count > 100 && waywire_end_out_room(client.end).bytes < 12);
+	MUST(!waywire_end_set_user(client.end, callback.object, &mark));
+	MUST(waywire_end_sent(client.end, SIZE_MAX).bytes == 12 * count);
+	MUST(!waywire_client_bind(client, registry, report.args[0].u, report.args[1].bytes, report.args[2].u, NULL));
+	MUST(waywire_wl_registry_dispatch_event(&registry_events, &mark, &report));
+	MUST(calls_that_came == 1 && number == name && !strcmp(heard, "wl_compositor"));
+	close_pair();
+}
+
 /* One dispatch over several interfaces, by that of the target. */
 static void by_interface(void)
 {
@@ -120,7 +144,7 @@ static void by_interface(void)
 	target = registry;
 	MUST(!waywire_tables_interface(tables, WAYWIRE_WL_COMPOSITOR_NAME, &index));
 	MUST(!waywire_server_add_global(server, index, 6, NULL));
-	MUST(!waywire_server_announce(server, NULL));
+	MUST(!waywire_server_announce(server, NULL, NULL));
 	carry_and_read_at_client();
 	MUST(waywire_dispatch(tables, listeners, 2, &mark, &report));
 	MUST(calls_that_came == 1 && !strcmp(heard, "wl_compositor"));
@@ -138,6 +162,7 @@ int main(void)
 {
 	read_tables(NULL);
 	globals();
+	answered();
 	by_interface();
 	deleted();
 	failed();

@@ -137,6 +137,60 @@ static void twenty(void)
 	waywire_tables_free(again);
 }
 
+/* An empty string of a report, and the empty text of an error, begin with a NUL: they are never null. */
+static void empty(void)
+{
+	waywire_tables *more = tables_over(tables, "interface some 1\nrequest say s\n");
+	struct pair pair;
+	waywire_report report;
+	waywire_arg none = waywire_string("");
+	open_pair(&pair, more, &sizes);
+	waywire_object some = bound(&pair, "some");
+	MUST(!waywire_end_send(pair.client.end, some, 0, &none, 1, NULL, NULL));
+	report = server_reads(&pair);
+	MUST(report.args[0].kind == WAYWIRE_STRING && !report.args[0].length);
+	MUST(report.args[0].bytes && !*(const char *)report.args[0].bytes);
+	MUST(report.text && !*report.text && !report.text_length);
+	MUST(!waywire_server_post_error(pair.server, some, 3, ""));
+	to_client(&pair);
+	MUST(!waywire_end_next(pair.client.end, &report) && report.kind == WAYWIRE_ERROR);
+	MUST(report.text && !*report.text && !report.text_length);
+	close_pair(&pair);
+	waywire_tables_free(more);
+}
+
+/* What waits in the outbox lies in two parts once it goes over the end of its memory. Together they are what goes. */
+static void peeked(void)
+{
+	static const waywire_sizes small = { 4096, 64, 4096, 64 };
+	struct pair pair;
+	int32_t number = 0;
+	bool is_in_two = false;
+	open_pair(&pair, tables, &small);
+	waywire_wl_region region = new_region(&pair, bound(&pair, "wl_compositor"));
+	for (int round = 0; round < 16; round++) {
+		unsigned char seen[8192], taken[2000];
+		waywire_part parts[2];
+		waywire_amounts amounts;
+		size_t count;
+		while (!waywire_wl_region_add(pair.client, region, number, 0, 1, 1))
+			number++;
+		MUST(!waywire_end_peek(pair.client.end, parts, NULL, 0, &count) && !count);
+		MUST(parts[0].length && parts[0].length + parts[1].length <= sizeof seen);
+		memcpy(seen, parts[0].bytes, parts[0].length);
+		if (parts[1].length)
+			memcpy(seen + parts[0].length, parts[1].bytes, parts[1].length);
+		is_in_two |= parts[1].length && parts[0].length < sizeof taken;
+		MUST(!waywire_end_take(pair.client.end, taken, sizeof taken, NULL, 0, &amounts));
+		MUST(amounts.bytes == sizeof taken && !memcmp(seen, taken, sizeof taken));
+	}
+	MUST(is_in_two);
+	close_pair(&pair);
+}
+
+#define FORTY_TWO "a text that is as long as forty-two bytes "
+#define LONG_TEXT FORTY_TWO FORTY_TWO FORTY_TWO
+
 /* An error that names an object which the client has destroyed, and a text that is too long for it. */
 static void errors(void)
 {
@@ -147,15 +201,14 @@ static void errors(void)
 	waywire_wl_region region = new_region(&pair, compositor);
 	server_reads(&pair);
 	MUST(!waywire_wl_region_destroy(pair.client, region));
-	/* 39 bytes, and then a character of two: the 40th byte would cut it */
-	MUST(!waywire_server_post_error(pair.server, region.object, 3,
-		"a text that has thirty-nine bytes of it" "\xc3\xa9" " and more"));
+	/* 126 bytes, and then a character of two: the 127th byte would cut it */
+	MUST(!waywire_server_post_error(pair.server, region.object, 3, LONG_TEXT "\xc3\xa9" " and more"));
 	MUST(waywire_end_has_failed(pair.server.end));
 	to_client(&pair);
 	MUST(!waywire_end_next(pair.client.end, &report) && report.kind == WAYWIRE_ERROR);
 	MUST(report.named == WAYWIRE_DEAD_OBJECT && waywire_object_equal(report.target, region.object));
-	MUST(report.id == region.object.id && report.code == 3 && report.text_length == 39);
-	MUST(!strcmp(report.text, "a text that has thirty-nine bytes of it"));
+	MUST(report.id == region.object.id && report.code == 3 && report.text_length == 126);
+	MUST(!strcmp(report.text, LONG_TEXT));
 	close_pair(&pair);
 }
 
@@ -361,7 +414,7 @@ static void asked(void)
 	open_pair(&pair, tables, &sizes);
 	MUST(!waywire_tables_interface(tables, seat, &index));
 	MUST(!waywire_server_add_global(pair.server, index, 1, &name));
-	MUST(!waywire_server_announce(pair.server, NULL));
+	MUST(!waywire_server_announce(pair.server, NULL, NULL));
 	to_client(&pair);
 	MUST(!waywire_wl_display_sync(pair.client, pair.display, NULL));
 	MUST(!waywire_end_next(pair.client.end, &report) && report.arg_count == 3);
@@ -370,7 +423,7 @@ static void asked(void)
 	MUST(names(&report.args[1], seat));
 	MUST(!waywire_client_bind(pair.client, pair.registry.object, name, seat, 1, NULL));
 	to_server(&pair);
-	MUST(!waywire_server_withdraw(pair.server, name) && !waywire_server_announce(pair.server, NULL));
+	MUST(!waywire_server_withdraw(pair.server, name) && !waywire_server_announce(pair.server, NULL, NULL));
 	MUST(!waywire_end_next(pair.server.end, &report) && report.arg_count == 1);
 	MUST(!waywire_end_next(pair.server.end, &report) && report.arg_count == 2);
 	ask(pair.server.end);
@@ -406,13 +459,17 @@ static void refused_by_server(const struct pair *pair)
 	uint16_t seat;
 	uint32_t name = 7;
 	size_t count = 7;
+	bool all = true;
+	waywire_report report;
 	MUST(!waywire_tables_interface(tables, "wl_seat", &seat));
 	MUST(waywire_server_add_global(wrong, seat, 1, &name) == WAYWIRE_OTHER_END && name == 7);
 	MUST(waywire_server_add_global(wrong, seat, 1, NULL) == WAYWIRE_OTHER_END);
 	MUST(waywire_server_withdraw(wrong, 1) == WAYWIRE_OTHER_END);
-	MUST(waywire_server_announce(wrong, &count) == WAYWIRE_OTHER_END && count == 7);
-	MUST(waywire_server_announce(wrong, NULL) == WAYWIRE_OTHER_END);
+	MUST(waywire_server_announce(wrong, &count, &all) == WAYWIRE_OTHER_END && count == 7 && all);
+	MUST(waywire_server_announce(wrong, NULL, NULL) == WAYWIRE_OTHER_END);
 	MUST(waywire_server_drop_object(wrong, pair->registry.object) == WAYWIRE_OTHER_END);
+	MUST(waywire_server_end_object(wrong, pair->registry.object) == WAYWIRE_OTHER_END);
+	MUST(waywire_server_next_unanswered(wrong, &report) == WAYWIRE_OTHER_END && report.kind == WAYWIRE_NOTHING);
 	MUST(waywire_server_post_error(wrong, pair->display.object, 1, "x") == WAYWIRE_OTHER_END);
 	MUST(is_state_of(wrong.end, before));
 }
@@ -451,6 +508,8 @@ int main(void)
 	faults();
 	unused();
 	twenty();
+	empty();
+	peeked();
 	errors();
 	greatest();
 	limits();

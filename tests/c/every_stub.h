@@ -160,7 +160,7 @@ static inline uint32_t advertise(const char *interface, uint32_t *version)
 	MUST(!waywire_tables_interface(tables, interface, &index));
 	MUST(!waywire_tables_version(tables, index, version));
 	MUST(!waywire_server_add_global(server, index, *version, &name));
-	MUST(!waywire_server_announce(server, NULL));
+	MUST(!waywire_server_announce(server, NULL, NULL));
 	do
 		carry_and_read_at_client();
 	while (report.kind != WAYWIRE_NOTHING);

@@ -576,6 +576,28 @@ static void announce(void)
 	waywire_inspector_free(inspector);
 }
 
+/* The first delete_id that nothing asked for, after each message. */
+static void take_back(void)
+{
+	static const struct {
+		const char *said;
+		uint64_t number;
+		uint32_t id;
+	} steps[] = { { "> 1.0 2", 0, 0 }, { "< 2.0 7", 0, 0 }, { "< 1.1 2", 0, 0 }, { "> 1.0 2", 0, 0 },
+		{ "< 1.1 2", 0, 0 }, { "> 1.1 2", 0, 0 }, { "< 1.1 2", 7, 2 }, { "< 1.1 9", 7, 2 }, { "> 2.0 1", 7, 2 } };
+	uint32_t id = 1;
+	MUST(!waywire_inspector_undeserved(NULL, &id) && !id);
+	MUST(!waywire_inspector_new(tables, WAYWIRE_USUAL_LIMIT, &inspector));
+	for (size_t i = 0; i < sizeof steps / sizeof *steps; i++) {
+		struct data data;
+		waywire_sender sender = read_step(steps[i].said, &data);
+		MUST(!waywire_inspector_pass(inspector, sender, data.bytes, data.length, 0));
+		MUST(waywire_inspector_undeserved(inspector, &id) == steps[i].number && id == steps[i].id);
+	}
+	MUST(waywire_inspector_undeserved(inspector, NULL) == 7);
+	waywire_inspector_free(inspector);
+}
+
 int main(void)
 {
 	tables = core_and(tables_text);
@@ -590,6 +612,7 @@ int main(void)
 	MUST(refusals > (long)SCENES);
 	refuse_values();
 	announce();
+	take_back();
 	waywire_tables_free(tables);
 	MUST(!used);
 	return 0;

@@ -99,7 +99,7 @@ static struct expected mistaken(struct call *call, enum mistake mistake, struct 
 		call->target.birth += 1000000;
 		return (struct expected){ WAYWIRE_STALE, NO_INDEX };
 	case NO_MESSAGE:
-		call->opcode = (uint16_t)(3 + chance(60000));
+		call->opcode = (uint16_t)(60000 + chance(5536)); /* tables that grow have the next ones */
 		return (struct expected){ WAYWIRE_NO_SUCH_MESSAGE, NO_INDEX };
 	case WRONG_KIND:
 		if (!call->arg_count)
@@ -117,6 +117,29 @@ static struct expected mistaken(struct call *call, enum mistake mistake, struct 
 	default:
 		return expected;
 	}
+}
+
+static bool is_number(const waywire_arg *arg)
+{
+	return arg->kind == WAYWIRE_INT || arg->kind == WAYWIRE_UINT || arg->kind == WAYWIRE_FIXED;
+}
+
+/* How many of the first arguments of a message are numbers. */
+static size_t numbers_in(const struct message *message)
+{
+	size_t count = 0;
+	while (count < message->arg_count && is_number(&message->args[count]))
+		count++;
+	return count;
+}
+
+/* Makes a call by the words of its arguments. */
+static waywire_status send_words(waywire_end *end, const struct call *call, bool has_words, size_t *index)
+{
+	uint32_t words[MOST_ARGS + 1];
+	for (size_t i = 0; i < call->arg_count; i++)
+		words[i] = call->args[i].kind == WAYWIRE_UINT ? call->args[i].u : (uint32_t)call->args[i].i;
+	return waywire_end_send_words(end, call->target, call->opcode, has_words ? words : NULL, call->arg_count, index);
 }
 
 static size_t tokens_in(const struct message *message)
@@ -157,7 +180,10 @@ static bool sends(int by, const struct message *message, waywire_object target, 
 {
 	unsigned char bytes[OUT_BYTES];
 	enum mistake mistake = chance(4) ? NONE : (enum mistake)chance(MISTAKES);
+	bool by_words = chance(2) && (mistake < NULL_BYTES || mistake == STALE || mistake == NO_MESSAGE || mistake >= FEWER);
 	struct call call = call_of(message, target);
+	if (numbers_in(message) < message->arg_count && by_words && (by_words = mistake == NONE && !chance(4)))
+		expected = (struct expected){ WAYWIRE_WRONG_ARGS, numbers_in(message) };
 	size_t index = NO_INDEX;
 	bool makes = message->arg_count && message->args[0].kind == WAYWIRE_NEW;
 	bool asks_index = chance(8), asks_made = makes || chance(8);
@@ -169,15 +195,17 @@ static bool sends(int by, const struct message *message, waywire_object target, 
 		expected = (struct expected){ WAYWIRE_NULL, NO_INDEX };
 	*new = stood;
 	refuse_some();
-	waywire_status status = waywire_end_send(mistake == NULL_END ? NULL : ends[by], call.target, call.opcode,
-		mistake == NULL_ARGS ? NULL : call.args, call.arg_count, asks_made ? new : NULL,
-		asks_index ? &index : NULL);
+	waywire_end *end = mistake == NULL_END ? NULL : ends[by];
+	waywire_status status = by_words
+		? send_words(end, &call, mistake != NULL_ARGS, asks_index ? &index : NULL)
+		: waywire_end_send(end, call.target, call.opcode, mistake == NULL_ARGS ? NULL : call.args,
+			call.arg_count, asks_made ? new : NULL, asks_index ? &index : NULL);
 	refuse_none();
 	if (status == WAYWIRE_NO_MEMORY && was_refused && makes && !expected.status)
 		expected.status = status;
 	MUST(status == expected.status);
 	MUST(index == (asks_index ? expected.index : NO_INDEX));
-	if (status || !asks_made)
+	if (status || !asks_made || by_words)
 		MUST(waywire_object_equal(*new, stood));
 	else
 		MUST((new->id != 0) == makes);
@@ -197,7 +225,7 @@ static const struct expected right = { WAYWIRE_OK, NO_INDEX };
 static void opens(int by, waywire_object object, bool is_all)
 {
 	MUST(object.id > 1 && object.id < MOST_IDS && objects[by][object.id].life == FREE);
-	objects[by][object.id] = (struct object){ object, LIVE, is_all, NULL };
+	objects[by][object.id] = (struct object){ object, LIVE, is_all, false, NULL };
 }
 
 static bool has_free_id(void)
@@ -254,27 +282,49 @@ static void delete_id_goes(uint32_t id)
 	goes(&ways[BY_SERVER], &message);
 }
 
+/* A call by which a server's caller ends an object. */
+typedef waywire_status end_call(waywire_server, waywire_object);
+
+static void ends_by(end_call *call, struct object *object)
+{
+	settle(&ways[BY_SERVER]);
+	bool room = fits(&ways[BY_SERVER], 12, 0);
+	MUST(call(server, object->value) == (room ? WAYWIRE_OK : WAYWIRE_FULL));
+	if (!room)
+		return;
+	object->life = FREE;
+	delete_id_goes(object->value.id);
+	MUST(call(server, object->value) == WAYWIRE_STALE);
+}
+
 /* A callback ends, by its event or without it. */
 static void ends_callback(struct object *object)
 {
 	struct message message = message_to(object->value, WAYWIRE_WL_CALLBACK_EVENT_DONE);
 	waywire_object new;
+	if (chance(2)) {
+		ends_by(chance(2) ? waywire_server_drop_object : waywire_server_end_object, object);
+		return;
+	}
 	message.arg_count = 1;
 	message.args[0] = waywire_uint(chance(1000));
-	settle(&ways[BY_SERVER]);
-	if (chance(2)) {
-		if (!sends(BY_SERVER, &message, object->value, right, 12, &new))
-			return;
-		goes(&ways[BY_SERVER], &message);
-	} else {
-		bool room = fits(&ways[BY_SERVER], 12, 0);
-		MUST(waywire_server_drop_object(server, object->value) == (room ? WAYWIRE_OK : WAYWIRE_FULL));
-		if (!room)
-			return;
-	}
+	if (!sends(BY_SERVER, &message, object->value, right, 12, &new))
+		return;
+	goes(&ways[BY_SERVER], &message);
 	object->life = FREE;
 	delete_id_goes(object->value.id);
-	MUST(waywire_server_drop_object(server, object->value) == WAYWIRE_STALE);
+}
+
+/* The caller of a server ends an object that the client has destroyed, and tries to end what it may not. */
+static void ends_held(void)
+{
+	struct object *object = &objects[BY_SERVER][2 + chance(MOST_IDS - 2)];
+	MUST(waywire_server_end_object(server, display) == WAYWIRE_NOT_DROPPABLE);
+	MUST(waywire_server_end_object(server, objects[BY_SERVER][REGISTRY_ID].value) == WAYWIRE_NOT_DROPPABLE);
+	if (object->life == LIVE && object->is_held)
+		ends_by(waywire_server_end_object, object);
+	else if (object->life == FREE)
+		MUST(waywire_server_end_object(server, object->value) == WAYWIRE_STALE);
 }
 
 static void writes_events(void)
@@ -396,6 +446,9 @@ static void reads_request(const struct message *message, const waywire_report *r
 		opens(BY_SERVER, report->args[0].object, message->target != 1);
 	if (message->target == 1 || message->opcode != END)
 		return;
+	target->is_held = of_server != tables;
+	if (target->is_held)
+		return;
 	target->life = FREE;
 	settle(&ways[BY_SERVER]);
 	delete_id_goes(message->target);
@@ -440,9 +493,10 @@ static void reads(int by)
 	const struct message *message = &way->messages[way->first];
 	settle(&ways[BY_SERVER]);
 	no_room = by == BY_CLIENT && whole && message->target != 1 && message->opcode == END
-		&& !fits(&ways[BY_SERVER], 12, 0);
+		&& of_server == tables && !fits(&ways[BY_SERVER], 12, 0);
 	refuse_some();
-	waywire_status status = waywire_end_next(ends[1 - by], &report);
+	waywire_status status = by == BY_CLIENT && chance(2) ? waywire_server_next_unanswered(server, &report)
+		: waywire_end_next(ends[1 - by], &report);
 	refuse_none();
 	if (status == WAYWIRE_NO_MEMORY)
 		MUST(was_refused && by == BY_CLIENT && whole && message->args[0].kind == WAYWIRE_NEW);
@@ -564,18 +618,20 @@ static void misuses(void)
 	MUST(waywire_client_bind_unannounced(wrong_client, display, 1, "fz_all", 1, NULL) == WAYWIRE_OTHER_END);
 	MUST(waywire_client_more_tables(wrong_client, text, strlen(text), NULL, NULL) == WAYWIRE_OTHER_END);
 	MUST(waywire_server_post_error(wrong_server, display, 1, "x") == WAYWIRE_OTHER_END);
+	MUST(waywire_server_end_object(wrong_server, display) == WAYWIRE_OTHER_END);
 	MUST(amounts.bytes == 9 && amounts.tokens == 9);
 	for (int by = BY_CLIENT; by <= BY_SERVER; by++)
 		MUST(waywire_end_is_drained(ends[by]) == (ways[by].sent == ways[by].length && !came[1 - by]));
 }
 
-/* The client's tables grow: what is there stays, so the model does not change. Where an allocation fails, they are
+/* The tables of one end grow: what is there stays, so the model does not change. Where an allocation fails, they are
  * what they were. */
 static void grows(void)
 {
 	static unsigned number;
 	char more[160], name[32];
-	const waywire_tables *before = waywire_end_tables(client.end);
+	waywire_end *end = ends[chance(2) ? BY_CLIENT : BY_SERVER];
+	const waywire_tables *before = waywire_end_tables(end);
 	uint16_t index;
 	number++;
 	snprintf(name, sizeof name, "fz_%u", number);
@@ -583,10 +639,10 @@ static void grows(void)
 		number, name);
 	if (chance(2))
 		refuse_some();
-	waywire_status status = waywire_client_more_tables(client, more, strlen(more), NULL, NULL);
+	waywire_status status = waywire_end_more_tables(end, more, strlen(more), NULL, NULL);
 	refuse_none();
 	MUST(!status || (status == WAYWIRE_NO_MEMORY && was_refused));
-	const waywire_tables *now = waywire_end_tables(client.end);
+	const waywire_tables *now = waywire_end_tables(end);
 	MUST((now == before) == (status != WAYWIRE_OK));
 	MUST(waywire_tables_interface(now, name, &index) == (status ? WAYWIRE_NOT_FOUND : WAYWIRE_OK));
 }
@@ -631,7 +687,8 @@ static void begins(void)
 	uint32_t name;
 	size_t count;
 	tables = core_and(text);
-	MUST(!waywire_client_new(tables, &sizes, &client) && !waywire_server_new(tables, &sizes, &server));
+	of_server = chance(2) ? tables : unended_and(unended_text);
+	MUST(!waywire_client_new(tables, &sizes, &client) && !waywire_server_new(of_server, &sizes, &server));
 	ends[BY_CLIENT] = client.end;
 	ends[BY_SERVER] = server.end;
 	MUST(!waywire_inspector_new(tables, WAYWIRE_USUAL_LIMIT, &inspector));
@@ -643,7 +700,7 @@ static void begins(void)
 	other = report.args[0].object;
 	opens(BY_CLIENT, registry, false);
 	opens(BY_SERVER, other, false);
-	MUST(!waywire_server_announce(server, &count) && count == 1);
+	MUST(!waywire_server_announce(server, &count, NULL) && count == 1);
 	carry_raw(BY_SERVER);
 	MUST(!waywire_end_next(client.end, &report) && report.args[0].u == name);
 	MUST(waywire_client_bind(client, registry, name, "fz_all", 2, &bound) == WAYWIRE_BAD_BIND);
@@ -686,7 +743,7 @@ static void session(unsigned long messages)
 		switch (chance(slow ? 7 : 12)) {
 		case 0: case 1: case 2: case 3: requests(); break;
 		case 4: case 5: writes_events(); break;
-		case 6: asks((int)chance(2)); break;
+		case 6: chance(2) ? asks((int)chance(2)) : ends_held(); break;
 		case 7:
 			if (chance(40))
 				reads((int)chance(2));
@@ -702,6 +759,8 @@ static void session(unsigned long messages)
 	waywire_end_free(client.end);
 	waywire_end_free(server.end);
 	waywire_inspector_free(inspector);
+	if (of_server != tables)
+		waywire_tables_free(of_server);
 	waywire_tables_free(tables);
 }
 

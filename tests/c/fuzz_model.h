@@ -55,12 +55,15 @@ static void refuse_none(void)
 
 /* ---- the model: one interface for all kinds, and what passes between two ends */
 
-static const char text[] = "interface fz_all 1\n"
-	"request all i u f s ?s o(fz_all) ?o(fz_all) a h\n"
-	"request make n(fz_all)\n"
-	"request end D\n"
-	"event all i u f s ?s o(fz_all) ?o(fz_all) a h\n"
-	"event words h h a\n";
+#define TEXT(destroys) "interface fz_all 1\n" \
+	"request all i u f s ?s o(fz_all) ?o(fz_all) a h\n" \
+	"request make n(fz_all)\n" \
+	"request end" destroys "\n" \
+	"event all i u f s ?s o(fz_all) ?o(fz_all) a h\n" \
+	"event words h h a\n"
+
+static const char text[] = TEXT(" D");
+static const char unended_text[] = TEXT(""); /* for a server whose caller ends objects */
 
 enum { ALL = 0, MAKE = 1, END = 2, WORDS = 1 };
 
@@ -106,12 +109,13 @@ struct object {
 	waywire_object value;
 	enum life life;
 	bool is_all; /* of fz_all; else a callback, or one of the first three */
+	bool is_held; /* at a server whose caller ends objects: the client has destroyed it */
 	void *user;
 };
 
 static struct way ways[2]; /* of requests, and of events */
 static struct object objects[2][MOST_IDS];
-static waywire_tables *tables;
+static waywire_tables *tables, *of_server;
 static waywire_client client;
 static waywire_server server;
 static waywire_end *ends[2]; /* theirs */

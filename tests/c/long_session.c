@@ -1,6 +1,6 @@
-/* Passes ten gigabytes of a session to an inspector. At the end it must have no more memory than after the
- * first 65 megabytes, when the allocator has reached its own limit. Then passes pieces after a message that
- * breaks a rule; the inspector must not keep any of them. */
+/* Passes ten gigabytes of a session to an inspector, which judges and follows it. At the end it must have no more
+ * memory than after the first 65 megabytes, when the allocator has reached its own limit. Then passes pieces after
+ * a message that breaks a rule; the inspector must not keep any of them. */
 #include "must.h"
 
 #include <malloc.h>
@@ -15,9 +15,19 @@ static const uint32_t get_registry[] = { 1, 12 << 16 | 1, 2 };
 static const uint32_t create_surface[] = { 3, 12 << 16, 5 };
 static const uint32_t get_keyboard[] = { 4, 12 << 16 | 1, 6 };
 
-static void pass(waywire_inspector *inspector, waywire_sender sender, const void *bytes, size_t length)
+static void judge(waywire_inspector *inspector, waywire_sender sender, const void *bytes, size_t length)
 {
 	MUST(!waywire_inspector_pass(inspector, sender, bytes, length, 0));
+}
+
+/* Goes past each message that the piece completes, which is read. */
+static void pass(waywire_inspector *inspector, waywire_sender sender, const void *bytes, size_t length)
+{
+	waywire_followed message;
+	judge(inspector, sender, bytes, length);
+	MUST(!waywire_inspector_follow(inspector, sender, bytes, length));
+	while (!waywire_inspector_ahead(inspector, sender, &message))
+		MUST(message.is_read && !waywire_inspector_go_past(inspector, sender));
 }
 
 /* Passes wl_registry.global of a name, and the bind of it at an id. */
@@ -45,6 +55,13 @@ static const unsigned char *events(void)
 	return block;
 }
 
+/* What is allocated. The C library counts large blocks, which it maps one by one, by themselves. */
+static size_t allocated(void)
+{
+	struct mallinfo2 now = mallinfo2();
+	return now.uordblks + now.hblkhd;
+}
+
 static bool is_lawful(waywire_inspector *inspector)
 {
 	const char *line;
@@ -61,14 +78,14 @@ static void pass_behind_the_end(waywire_inspector *inspector)
 	static const unsigned char piece[4096];
 	const uint32_t unknown_object[] = { 99, 8 << 16 };
 	size_t taken;
-	pass(inspector, WAYWIRE_FROM_CLIENT, unknown_object, sizeof unknown_object);
+	judge(inspector, WAYWIRE_FROM_CLIENT, unknown_object, sizeof unknown_object);
 	MUST(!is_lawful(inspector));
-	taken = mallinfo2().uordblks;
+	taken = allocated();
 	for (int passed = 0; passed < 1000; passed++) {
-		pass(inspector, WAYWIRE_FROM_CLIENT, piece, sizeof piece);
-		pass(inspector, WAYWIRE_FROM_SERVER, piece, sizeof piece);
+		judge(inspector, WAYWIRE_FROM_CLIENT, piece, sizeof piece);
+		judge(inspector, WAYWIRE_FROM_SERVER, piece, sizeof piece);
 	}
-	MUST(mallinfo2().uordblks <= taken);
+	MUST(allocated() <= taken);
 	MUST(!is_lawful(inspector));
 }
 
@@ -90,10 +107,10 @@ int main(void)
 		pass(inspector, WAYWIRE_FROM_SERVER, block + CUT, BLOCK - CUT);
 		if (passed == 1000ull * BLOCK) {
 			MUST(is_lawful(inspector));
-			taken = mallinfo2().uordblks;
+			taken = allocated();
 		}
+		MUST(!taken || allocated() <= taken); /* before the last verdict, whose line grows with its numbers */
 	}
-	MUST(mallinfo2().uordblks <= taken); /* before the line of the verdict, which grows with its numbers */
 	MUST(is_lawful(inspector));
 	pass_behind_the_end(inspector);
 	waywire_inspector_free(inspector);

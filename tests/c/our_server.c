@@ -334,7 +334,7 @@ static void serve(void)
 			on_keyboard_made(&report);
 	}
 	if (!ended)
-		MUST(!waywire_server_announce(server, NULL));
+		MUST(!waywire_server_announce(server, NULL, NULL));
 }
 
 /* Flushes, and waits until something comes. */

@@ -95,7 +95,7 @@ static inline waywire_object bound(struct pair *pair, const char *interface)
 	waywire_report report;
 	waywire_object made;
 	MUST(!waywire_server_add_global(pair->server, index, version, &name));
-	MUST(!waywire_server_announce(pair->server, NULL));
+	MUST(!waywire_server_announce(pair->server, NULL, NULL));
 	to_client(pair);
 	do {
 		MUST(!waywire_end_next(pair->client.end, &report));

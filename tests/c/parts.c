@@ -83,7 +83,7 @@ static waywire_wl_shm bind_shm(void)
 	carry();
 	MUST(!waywire_tables_interface(tables, WAYWIRE_WL_SHM_NAME, &index));
 	MUST(!waywire_server_add_global(server, index, 1, NULL));
-	MUST(!waywire_server_announce(server, NULL) && flush(&of_server));
+	MUST(!waywire_server_announce(server, NULL, NULL) && flush(&of_server));
 	MUST(fill(&of_client) && !waywire_end_next(client.end, &report));
 	MUST(!waywire_wl_shm_bind(client, registry, 1, 1, &shm));
 	carry();

@@ -24,6 +24,11 @@ static bool makes_core(void)
 	return is_made(waywire_tables_core(&made_tables));
 }
 
+static bool makes_core_unended(void)
+{
+	return is_made(waywire_tables_core_unended(&made_tables));
+}
+
 static bool reads(void)
 {
 	return is_made(waywire_tables_read(core, text, strlen(text), &made_tables, NULL, NULL));
@@ -120,20 +125,25 @@ static void opens_client(void)
 		MUST(!waywire_end_send(growing.end, display, WAYWIRE_WL_DISPLAY_REQUEST_SYNC, &new, 1, NULL, NULL));
 }
 
-/* A text that is refused leaves the tables of its client. */
-static bool grows(void)
+/* A text that is refused leaves the tables of its end. */
+static bool grows(waywire_end *end)
 {
-	const waywire_tables *before = waywire_end_tables(growing.end);
+	const waywire_tables *before = waywire_end_tables(end);
 	long blocks = used;
 	size_t line = 7;
 	uint32_t rule = 7;
 	uint16_t index;
-	waywire_status status = waywire_client_more_tables(growing, text, strlen(text), &line, &rule);
-	const waywire_tables *now = waywire_end_tables(growing.end);
+	waywire_status status = waywire_end_more_tables(end, text, strlen(text), &line, &rule);
+	const waywire_tables *now = waywire_end_tables(end);
 	MUST(line == 7 && rule == 7 && (now == before) == (status != WAYWIRE_OK));
 	MUST(waywire_tables_interface(now, "wp_two", &index) == (status ? WAYWIRE_NOT_FOUND : WAYWIRE_OK));
 	MUST(!status || used == blocks);
 	return is_done(status);
+}
+
+static bool client_grows(void)
+{
+	return grows(growing.end);
 }
 
 /* A bind that is refused writes nothing, and opens no object. */
@@ -148,11 +158,40 @@ static bool binds_unannounced(void)
 	return is_done(status);
 }
 
+/* A server that answers no fault, and the sync that it reads. */
+static waywire_server unanswering;
+
+static void opens_server(void)
+{
+	static const unsigned char syncs[] = { 1, 0, 0, 0, 0, 0, 12, 0, 2, 0, 0, 0 };
+	waywire_amounts fed;
+	MUST(!waywire_server_new(core, &sizes, &unanswering));
+	MUST(!waywire_end_feed(unanswering.end, syncs, sizeof syncs, NULL, 0, &fed));
+}
+
+static bool server_grows(void)
+{
+	return grows(unanswering.end);
+}
+
+/* A request that is refused memory stays, and opens no object. */
+static bool reads_unanswered(void)
+{
+	waywire_report report;
+	waywire_status status = waywire_server_next_unanswered(unanswering, &report);
+	MUST(report.kind == (status ? WAYWIRE_NOTHING : WAYWIRE_MESSAGE) && !waywire_end_has_failed(unanswering.end));
+	MUST(waywire_end_object_count(unanswering.end) == (status ? 1 : 2));
+	MUST(waywire_end_is_drained(unanswering.end) == !status);
+	MUST(status || (report.opcode == WAYWIRE_WL_DISPLAY_REQUEST_SYNC && report.args[0].object.id == 2));
+	return is_done(status);
+}
+
 int main(void)
 {
 	long before = used;
 	MUST(!waywire_tables_core(&core));
 	makes("core tables", makes_core);
+	makes("core tables of a server whose caller ends objects", makes_core_unended);
 	makes("tables of a text", reads);
 	makes("a client", makes_client);
 	makes("a server", makes_server);
@@ -162,9 +201,13 @@ int main(void)
 	each_refused("a verdict", judges, true);
 	waywire_inspector_free(passing);
 	opens_client();
-	each_refused("more tables of a client", grows, true);
+	each_refused("more tables of a client", client_grows, true);
 	each_refused("a bind that was not announced", binds_unannounced, true);
 	waywire_end_free(growing.end);
+	opens_server();
+	each_refused("a request that is not answered", reads_unanswered, true);
+	each_refused("more tables of a server", server_grows, true);
+	waywire_end_free(unanswering.end);
 	MUST(waywire_tables_read(core, "nonsense", 8, &made_tables, NULL, NULL) == WAYWIRE_BAD_LINE);
 	waywire_tables_free(core);
 	MUST(used == before);

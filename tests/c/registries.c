@@ -54,7 +54,7 @@ static size_t announce(void)
 	static unsigned char bytes[65536];
 	waywire_amounts taken;
 	size_t count;
-	MUST(!waywire_server_announce(server, &count));
+	MUST(!waywire_server_announce(server, &count, NULL));
 	MUST(!waywire_end_take(server.end, bytes, sizeof bytes, NULL, 0, &taken));
 	return count;
 }
@@ -104,7 +104,7 @@ static size_t announces(uint32_t first, uint32_t open)
 	size_t count;
 	(void)first, (void)open;
 	for (int i = 0; i < TIMES; i++)
-		MUST(!waywire_server_announce(server, &count) && !count);
+		MUST(!waywire_server_announce(server, &count, NULL) && !count);
 	return TIMES;
 }
 

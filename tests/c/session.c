@@ -103,7 +103,7 @@ static void serve(void)
 				WAYWIRE_WL_CALLBACK_EVENT_DONE, &one, 1, NULL, NULL));
 		}
 	}
-	MUST(!waywire_server_announce(server, NULL));
+	MUST(!waywire_server_announce(server, NULL, NULL));
 }
 
 static void hear(void)

@@ -50,6 +50,7 @@ static void null_of_one_end(void)
 	static const waywire_client no_client = { NULL };
 	static const waywire_server no_server = { NULL };
 	waywire_object made = { 7, 7 };
+	waywire_report report;
 	MUST(waywire_client_new(tables, &sizes, NULL) == WAYWIRE_NULL);
 	MUST(waywire_client_bind(no_client, display, 1, "wl_seat", 1, &made) == WAYWIRE_NULL);
 	MUST(waywire_client_bind_unannounced(no_client, display, 1, "wl_seat", 1, &made) == WAYWIRE_NULL);
@@ -59,8 +60,11 @@ static void null_of_one_end(void)
 	MUST(waywire_server_new(tables, &sizes, NULL) == WAYWIRE_NULL);
 	MUST(waywire_server_add_global(no_server, 0, 1, NULL) == WAYWIRE_NULL);
 	MUST(waywire_server_withdraw(no_server, 1) == WAYWIRE_NULL);
-	MUST(waywire_server_announce(no_server, NULL) == WAYWIRE_NULL);
+	MUST(waywire_server_announce(no_server, NULL, NULL) == WAYWIRE_NULL);
 	MUST(waywire_server_drop_object(no_server, display) == WAYWIRE_NULL);
+	MUST(waywire_server_end_object(no_server, display) == WAYWIRE_NULL);
+	MUST(waywire_server_next_unanswered(no_server, &report) == WAYWIRE_NULL);
+	MUST(waywire_server_next_unanswered(server, NULL) == WAYWIRE_NULL);
 	MUST(waywire_server_post_error(no_server, display, 0, "x") == WAYWIRE_NULL);
 }
 
@@ -75,6 +79,8 @@ static void null_end(void)
 	MUST(!waywire_end_tables(NULL));
 	MUST(waywire_end_has_failed(NULL) && waywire_end_is_drained(NULL));
 	MUST(is_none(waywire_end_in_room(NULL)) && is_none(waywire_end_out_room(NULL)));
+	MUST(!waywire_end_writes(NULL));
+	waywire_end_on_full(NULL, NULL, NULL);
 	MUST(is_none(waywire_end_goes(NULL, 9, 9)));
 	MUST(is_none(waywire_end_sent(NULL, 9)));
 	waywire_end_space(NULL, parts);
@@ -114,6 +120,28 @@ static void lengths(void)
 	MUST(index == 0);
 }
 
+/* What C may pass wrongly as words, and words for messages that have other arguments. */
+static void words(void)
+{
+	uint32_t many[22] = { 0 };
+	waywire_object stale = { 7, 1 };
+	size_t index = 9;
+	MUST(waywire_end_send_words(NULL, display, 0, many, 1, &index) == WAYWIRE_NULL);
+	MUST(waywire_end_send_words(client.end, display, 0, NULL, 1, &index) == WAYWIRE_NULL);
+	MUST(waywire_end_send_words(client.end, display, 0, NULL, SIZE_MAX, &index) == WAYWIRE_NULL);
+	MUST(waywire_end_send_words(client.end, stale, 0, many, 1, &index) == WAYWIRE_STALE);
+	MUST(waywire_end_send_words(client.end, display, 65535, many, 1, &index) == WAYWIRE_NO_SUCH_MESSAGE);
+	MUST(index == 9);
+	/* The argument of wl_display.sync is a new object. */
+	MUST(waywire_end_send_words(client.end, display, 0, many, 1, NULL) == WAYWIRE_WRONG_ARGS);
+	MUST(waywire_end_send_words(client.end, display, 0, many, 22, &index) == WAYWIRE_WRONG_ARGS && index == 0);
+	index = 9;
+	MUST(waywire_end_send_words(client.end, display, 0, many, SIZE_MAX, &index) == WAYWIRE_WRONG_ARGS);
+	MUST(index == 0);
+	index = 9;
+	MUST(waywire_end_send_words(client.end, display, 0, NULL, 0, &index) == WAYWIRE_WRONG_ARGS && index == 0);
+}
+
 static void kinds(void)
 {
 	waywire_arg arg = waywire_new();
@@ -150,7 +178,9 @@ static void calls(void)
 	MUST(waywire_server_withdraw(server, 1) == WAYWIRE_NO_SUCH_GLOBAL);
 	MUST(waywire_server_drop_object(server, display) == WAYWIRE_NOT_DROPPABLE);
 	MUST(waywire_server_drop_object(server, stale) == WAYWIRE_STALE);
-	MUST(!waywire_server_announce(server, &count) && count == 0);
+	MUST(waywire_server_end_object(server, display) == WAYWIRE_NOT_DROPPABLE);
+	MUST(waywire_server_end_object(server, stale) == WAYWIRE_STALE);
+	MUST(!waywire_server_announce(server, &count, NULL) && count == 0);
 	MUST(waywire_end_object_count(client.end) == 1);
 	MUST(!waywire_end_send(client.end, display, 0, &index, 1, &object, NULL));
 	MUST(object.id == 2 && object.birth == 1);
@@ -396,6 +426,7 @@ int main(void)
 	null_of_one_end();
 	null_end();
 	lengths();
+	words();
 	kinds();
 	calls();
 	faults();

@@ -28,7 +28,7 @@ from tests.libwayland.libraries import OUT, SONAME, SYSTEM, Library
 from tools.waywire import table_text
 
 INSPECT = os.environ.get("INSPECT", f"{TOP}/out/c/waywire-inspect").split()
-OURS = f"{TOP}/out/c/wayland"
+OURS = f"{TOP}/out/c/wayland/client"
 SOME = ("wayland-info", "weston-simple-shm", "zenity --info --text hello", "gtk4-demo")
 CORE = "the core's tables"
 TABLES = {"all tables": [], CORE: ["--no-tables"]}

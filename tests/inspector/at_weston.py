@@ -3,6 +3,7 @@
     python3 -m tests.inspector.at_weston [CLASS[.TEST]]..
 
 The environment is that of inspecting.py."""
+import re
 import signal
 import time
 
@@ -57,6 +58,41 @@ class Weston(real_clients.RealClients):
         _, frame, behind = self.read(path).rpartition(".frame(new id ")
         callback = behind.partition(")")[0]
         return bool(frame) and f"<- {callback}.done(" not in behind
+
+    def faulty(self, until, *words):
+        """The lines of a session with a fault, which is stopped once it is so far, and standard error."""
+        paths = self.start_at_files("--late", "0.5", *words, until=until)
+        self.finish(signal.SIGINT, None)
+        said, error = (self.read(it) for it in paths)
+        return said, said.splitlines()[-1], error
+
+    def test_faults(self):
+        """weston-simple-shm goes on with ids that come back late; while a callback waits it hangs, which is said."""
+        said, verdict, _ = self.faulty(lambda it: it.count(".frame(") > 30, "--fault", "hold 300ms wl_display.delete_id",
+                                       "weston-simple-shm")
+        self.assertRegex(verdict, r"\Alawful: .*; with \d+ faults on purpose\Z")
+        self.assertRegex(said, r"(?m)^fault 1, hold 300ms: <- wl_display@1\.delete_id\(\d+\)$")
+        said, verdict, _ = self.faulty(lambda it: "waiting since" in it, "--fault", "delay 1000s wl_callback.done 5",
+                                       "weston-simple-shm")
+        self.assertRegex(said, r"(?m)^waiting since .*wl_surface@\d+\.frame \(message \d+\) has had no answer$")
+        self.assertRegex(verdict, r"\Alawful: .*; with 1 fault on purpose\Z")
+
+    def test_faults_of_gtk(self):
+        """A dialog shows itself after a late configure, waits for a lost one, and ends with its connection."""
+        self.env["GDK_BACKEND"] = "wayland"
+        zenity = "zenity", "--info", "--text=waywire"
+        shown = r"(?m)^-> wl_surface@\d+\.attach\(wl_buffer"
+        said, verdict, _ = self.faulty(lambda it: re.search(shown, it), "--fault",
+                                       "delay 300ms xdg_surface.configure", *zenity)
+        self.assertRegex(said, shown)
+        self.assertRegex(verdict, r"\Alawful: .*; with \d+ faults? on purpose\Z")
+        said, verdict, _ = self.faulty(lambda it: "has had no configure" in it, "--fault", "drop xdg_surface.configure",
+                                       *zenity)
+        self.assertNotRegex(said, shown)
+        self.assertRegex(verdict, r"\Alawful: .*; with \d+ faults? on purpose\Z")
+        said, _, error = self.faulty(lambda it: "fault 1, kill: " in it, "--fault", "kill wl_surface.commit 1", *zenity)
+        self.assertNotRegex(said, r"(?m)^-> wl_surface@\d+\.commit")
+        self.assertIn("client 1 is closed: --fault kill", error)
 
     def test_the_compositor_is_killed(self):
         paths = self.start_at_files("weston-simple-shm")

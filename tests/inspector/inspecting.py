@@ -38,6 +38,11 @@ broken: > message 2 at byte 12: F2 unknown object
 BEHIND = "? <- wl_callback@2.done(7)\n? <- wl_display@1.delete_id(2)\n"
 # What is said of a question that has waited for a second or longer.
 WAITING = re.compile(r"^.*(?:: \d+ not answered|: none of \d+ answered).*\n", re.M)
+# What is said while a session stands still.
+STANDING = re.compile(r"^.*(?:waiting since [\d.]+ s: |(?:answered|any more|reads again) after [\d.]+ s"
+                      r'|^{"type":"(?:waiting|waited|not_reading|reads_again)").*\n', re.M)
+# What is said of a delete_id that nothing asked for: a line behind it, and the end of the verdict.
+TAKEN_BACK = re.compile(r"(?:^|; )the compositor took back id \d+, which nobody had given up$")
 # Who a client is, in words; a string, or what stands behind a number or an array to explain it.
 WHO = r"(?:[^()\"]*, )?process \d+"
 NAMED = re.compile(r'("[^"]*")|(?<=\d) \w+(?:\|\w+)*(?=[,)])|(?<=\]) \{[^}]*\}')
@@ -100,6 +105,8 @@ def main():
 class Inspected(unittest.TestCase):
     """A folder with a compositor's socket, and the tool."""
 
+    COMMAND = INSPECT
+
     def setUp(self):
         self.folder = self.enterContext(tempfile.TemporaryDirectory(prefix="inspect-"))
         self.recorded = f"{self.folder}/a.rec"
@@ -117,7 +124,7 @@ class Inspected(unittest.TestCase):
 
     def start(self, *words, **kept):
         """Starts the tool, and notes the path of its socket if there is no command."""
-        self.tool = subprocess.Popen([*INSPECT, *words], **self.how(kept))
+        self.tool = subprocess.Popen([*self.COMMAND, *words], **self.how(kept))
         self.addCleanup(self.end, self.tool)
         if not kept and sys.executable not in words:
             its = self.tool.stderr if "--json" in words else self.tool.stdout
@@ -166,6 +173,7 @@ class Inspected(unittest.TestCase):
 
     def at_once(self, said):
         """What was said, without what has waited on a slow machine. --stats lists that in any case."""
+        said = said and STANDING.sub("", said)
         return said if said is None or "objects left open" in said else WAITING.sub("", said)
 
     def of_one(self, said):
@@ -205,7 +213,8 @@ class Inspected(unittest.TestCase):
         if WAYWIRE:
             ran = [subprocess.run([WAYWIRE, job, *words, path], timeout=5 * LONG, **self.how({}))
                    for job in ("trace", "check")]
-            lines = [it for it in lines if not WAITING.match(f"{it}\n")]
+            lines = [it for it in lines if not WAITING.match(f"{it}\n") and not STANDING.match(f"{it}\n")]
+            lines = [TAKEN_BACK.sub("", it) for it in lines if not TAKEN_BACK.match(it)]
             is_broken = lines[-1].startswith("broken: ")
             self.assertEqual([it.returncode for it in ran], [is_broken] * 2)
             lines = [self.escaped(self.without_names(it)) for it in lines]
@@ -641,7 +650,7 @@ class Judging(Inspected):
         for words, verdict, status in (
             ([], "lawful: 2 requests, 1 events, 0 and 0 bytes left", 0),
             (["--no-tables", "--tables", f"{TOP}/protocols/viewporter.tables"],
-             "not judged from request 2 on: xdg_wm_base is not in the tables; lawful until then; "
+             "not judged from request 2 on: no table has xdg_wm_base; lawful until then; "
              "2 requests, 1 events", 0),
             (["--no-tables", "--tables", f"{TOP}/protocols/layer-shell.tables", "--tables",
               f"{TOP}/protocols/xdg-shell.tables"],
@@ -676,7 +685,7 @@ class Judging(Inspected):
             (["--read", "a", "--record", "b"],
              "--read cannot be used with COMMAND, --record or --picture"),
             (["--tables", bad, "true"], f"{bad} line 3: bad line"),
-            (["--tables", self.folder, "true"], f"cannot read {self.folder}: Is a directory"),
+            (["--tables", self.folder, "true"], f"{bad} line 3: bad line"),
             (["--record", f"{self.folder}/none/a", "true"],
              f"cannot write {self.folder}/none/a: No such file or directory"),
         ):

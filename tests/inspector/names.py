@@ -67,8 +67,9 @@ class Names(Talking):
                                         "<- xdg_toplevel@9.configure(1, 2, array[4] {1 maximized})"])
 
     def test_in_json(self):
-        told = self.told(*BOUND, (message(4, 0, 3),), (message(3, 0, 7),))
-        seat, shm = [it["arguments"][0] for it in told[-3:-1]]
+        told = self.told(*BOUND, (message(4, 0, 3),), (message(3, 0, 7),), (message(4, 0, 69),))
+        seat, shm, more = [it["arguments"][0] for it in told[-4:-1]]
+        self.assertEqual(more["names"], ["pointer", "touch", "0x40"])
         self.assertEqual(seat, {"kind": "uint", "name": "capabilities", "value": 3, "enum": "wl_seat.capability",
                                 "names": ["pointer", "keyboard"]})
         self.assertEqual(shm, {"kind": "uint", "name": "format", "value": 7, "enum": "wl_shm.format", "names": []})

@@ -24,21 +24,26 @@ def frame(callback, surface=10):
     return message(surface, 3, callback)
 
 
-class Asking(Talking):
+class Timed(Talking):
     """Recordings with times of their own, which end at a time."""
 
     def record(self, *said, last="# ended 9.000000\n"):
-        """Writes a recording: at 0 what BOUND has, then pairs of a time and a request, or in a tuple an event."""
+        """Writes a recording: at 0 what BOUND has, then pairs of a time and a request, or in a tuple an event. The
+        number of its descriptors may follow."""
         with open(self.recorded, "w", encoding="ascii") as file:
-            for seconds, data in (*((0, it) for it in BOUND), *said):
+            for seconds, data, *count in (*((0, it) for it in BOUND), *said):
                 sign, data = ("<", data[0]) if isinstance(data, tuple) else (">", data)
-                file.write(f"# {seconds:.6f}\n{sign} {data.hex()}\n")
+                file.write(f"# {seconds:.6f}\n{sign} {data.hex()}{''.join(f' +{it}' for it in count)}\n")
             file.write(last)
 
     def read(self, *options, status=0):
         said, told = self.ran("--read", self.recorded, *options, status=status)
         self.assertEqual(told, "")
         return said.splitlines()
+
+
+class Asking(Timed):
+    """What was asked and not answered."""
 
     def unanswered(self, *said, status=0, options=(), **how):
         """What is printed between the last message and the verdict."""
@@ -56,7 +61,7 @@ class Asking(Talking):
         self.assertEqual([it for it in stats if "answered" in it], ["asked and not answered", line])
         *_, told, verdict = map(json.loads, self.read("--json"))
         self.assertEqual(told, {
-            "type": "unanswered", "client": 1, "number": 22, "time": 1.017, "direction": "request",
+            "type": "unanswered", "client": 1, "number": 22, "since": 23, "time": 1.017, "direction": "request",
             "object": {"interface": "wl_surface", "id": 10, "birth": 16}, "message": "frame", "waiting": 3})
         self.assertEqual((verdict["verdict"], verdict["ended"], verdict["cut"]), ("lawful", 4.017, None))
 
@@ -98,8 +103,16 @@ class Asking(Talking):
             ("a cursor", [], message(11, 0, 1, 10, 0, 0), frame(12) + COMMIT),
             ("a cursor, later", [], frame(12) + COMMIT, message(11, 0, 1, 10, 0, 0)),
             ("a surface that is gone", [], frame(12) + COMMIT, message(10, 0)),
-            ("a surface that is gone with two", ["wl_surface.frame: none of 2 answered"],
-             frame(12) + frame(13) + COMMIT, message(10, 0)),
+            ("a surface that is gone with two", [], frame(12) + frame(13) + COMMIT, message(10, 0)),
+            ("a surface that goes before its frames come", [],
+             *(it for _ in range(3) for it in (message(3, 0, 12) + message(12, 3, 13) + message(12, 6) + message(12, 0),
+                                               (done(13) + message(1, 1, 12),)))),
+            ("a surface that goes, and its frames with it", [],
+             *(it for _ in range(3) for it in (message(3, 0, 12) + message(12, 3, 13) + message(12, 6) + message(12, 0),
+                                               (message(1, 1, 13) + message(1, 1, 12),)))),
+            ("the first configure", [f"wl_surface@10.commit: 1 not answered (no configure), {long}"], shown,
+             message(12, 1, 13) + COMMIT),
+            ("no role", [], shown, COMMIT),
             ("behind what broke a rule", [], sync(12), message(99, 0), shared),
             ("behind an error", [], sync(12), (error(1, 0, "no"),)),
         ):
@@ -108,12 +121,14 @@ class Asking(Talking):
                 self.assertEqual(self.unanswered(*((1, it) for it in said), status=int(is_bad)), wanted)
 
     def test_screencopy(self):
-        """A copy is answered by ready or failed. The frame itself asks nothing."""
+        """A copy is answered by ready or failed, and the frame by what a buffer has to be."""
         pool = raw(SHM, 0, struct.pack("<Ii", 12, 16))
         buffer, grab, copy = message(12, 0, 13, 0, 2, 2, 8, 0), message(SCREENCOPY, 0, 14, 0, 4), message(14, 0, 13)
         for said, wanted in (
-            ([grab], []),
-            ([grab, copy], ["zwlr_screencopy_frame_v1@14.copy: 1 not answered, waiting 8.0 s"]),
+            ([grab], ["zwlr_screencopy_manager_v1@8.capture_output: 1 not answered (no buffer), waiting 8.0 s"]),
+            ([grab, (message(14, 0, 0, 2, 2, 8),)], []), ([grab, (message(14, 3),)], []),
+            ([grab, (message(14, 0, 0, 2, 2, 8),), copy],
+             ["zwlr_screencopy_frame_v1@14.copy: 1 not answered, waiting 8.0 s"]),
             ([grab, copy, (message(14, 2, 0, 0, 0),)], []), ([grab, copy, (message(14, 3),)], []),
             ([grab, copy, message(14, 1)], []),
         ):
@@ -123,6 +138,46 @@ class Asking(Talking):
             with open(self.recorded, "w", encoding="ascii") as file:
                 file.write(text.replace(pool.hex(), f"{pool.hex()} +1"))
             self.assertEqual([it for it in self.read() if "answered" in it], wanted)
+
+    def closed(self, *said):
+        """The questions that messages close, each with its message, and those at the end."""
+        self.record(*said)
+        told = [json.loads(it) for it in self.read("--json")]
+        first = next(it["number"] for it in told if it.get("time") == 1)
+        numbers = ("asked", "since", "replaced", "number")
+        each = [{**it, "by": one["number"]} for one in told for it in one.get("closes", ())]
+        each += [{key: one[key] for key in (*numbers[1:], "type") if key in one}
+                 for one in told if one["type"] in ("unanswered", "open")]
+        return [{key: value - first + 1 if key in (*numbers, "by") else value for key, value in it.items()} for it in each]
+
+    def test_a_commit(self):
+        """A frame waits from the commit on that takes it into effect: of a synchronized subsurface, that of its parent."""
+        child, both = [(0, message(3, 0, 12)), (0, bind(8, "wl_subcompositor", 1, 13))], message(13, 1, 14, 12, 10)
+        for before, behind, since in (((), (), 3), ((message(14, 5),), (), 3), ((message(14, 5), message(14, 4)), (), 5),
+                                      ((), (message(14, 5),), 3), ((message(14, 0),), (), 3)):
+            said = [*before, frame(15, 12), message(12, 6), *behind, COMMIT, (message(15, 0, 7),)]
+            found = self.closed((0, (announced(8, "wl_subcompositor", 1),)), *child, (0, both), *((1, it) for it in said))
+            asked = 1 + len(before)
+            self.assertEqual(found, [{"asked": asked, "since": since, "answered": True, "by": len(said)}], (before, behind))
+
+    def test_a_buffer(self):
+        """It is held from the commit on that shows it, for each surface, and needs a release once another is shown."""
+        pool = (0, raw(SHM, 0, struct.pack("<Ii", 12, 64)), 1)
+        made = [(0, message(12, 0, at, 0, 2, 2, 8, 0)) for at in (13, 14)] + [(0, message(3, 0, 15))]
+        def shows(buffer, surface=10):
+            return [(1, message(surface, 1, buffer, 0, 0)), (1, message(surface, 6))]
+        for said, wanted in (
+            (shows(13), [{"number": 1, "since": 2, "type": "open"}]),
+            ([*shows(13), *shows(14)], [{"number": 3, "since": 4, "type": "open"},
+                                        {"number": 1, "since": 2, "replaced": 4, "type": "unanswered"}]),
+            ([*shows(13), *shows(14), *shows(13)], [{"number": 1, "since": 2, "type": "open"},
+                                                    {"number": 3, "since": 4, "replaced": 6, "type": "unanswered"}]),
+            ([*shows(13), *shows(13, 15), (1, (message(13, 0),))],
+             [{"asked": 3, "since": 4, "answered": True, "by": 5}, {"asked": 1, "since": 2, "answered": True, "by": 5}]),
+            ([*shows(13), (1, message(13, 0))], [{"asked": 1, "since": 2, "answered": False, "by": 3}]),
+            ([*shows(13), (1, message(10, 0))], [{"number": 1, "since": 2, "type": "open"}]),
+        ):
+            self.assertEqual(self.closed(pool, *made, *said), wanted)
 
     def test_by_the_tables(self):
         """An object that an event ends is a question, in any protocol."""
@@ -197,15 +252,15 @@ class Ending(Talking):
     def test_it_is_cut(self):
         """It ends with the last whole piece within the limit, which is reported. Everything is still passed on. The
         last line says when it was cut. The rest is missing, which is reported when the recording is read."""
-        self.start("--no-tables", "--record", self.recorded, "--output", "/dev/null")
+        self.start("--no-tables", "--record", self.recorded, "--record-limit", "16M", "--output", "/dev/null")
         client, compositor = self.client()
         part = sync(2) * 5000
         for _ in range(150):
             self.passes(client, compositor, part)
         _, error_said = self.finish(status=1)
         size = os.path.getsize(self.recorded)
-        self.assertEqual(error_said, f"waywire-inspect: {self.recorded} has {size} bytes, and 16777216 is the most that "
-                                     "is read; the recording ends there\n")
+        self.assertEqual(error_said, f"waywire-inspect: {self.recorded} has {size} bytes, and 16777216 is the limit; "
+                                     "the recording ends there\n")
         self.assertEqual((size <= 16777216, size > 16777216 - 140000), (True, True))
         cut = re.fullmatch(r"# cut (\d+\.\d{6})", self.last_line())
         self.assertTrue(cut, self.last_line())

@@ -181,7 +181,7 @@ def check_verdict(told, play, counts):
 def check(play, part, lines):
     """The lines that the tool printed for a session are right. Returns how many messages of each kind they had."""
     known, counts = Known(part), Counter(messages=0, unjudged=0)
-    told = [it for it in map(json.loads, lines) if it["type"] != "unanswered"]
+    told = [it for it in map(json.loads, lines) if it["type"] not in ("unanswered", "open")]
     must([it["type"] for it in told] == ["head", "client", *["message"] * len(play.said), "verdict"], "lines",
          [it for it in told if it["type"] in ("broken", "error", "bad_line")])
     is_judged = True

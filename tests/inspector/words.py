@@ -44,6 +44,13 @@ def error(target, code, words):
 class Talking(Inspected):
     """A client and a compositor that say what a test has listed."""
 
+    def written(self, name, lines):
+        """Writes a file, and returns its path."""
+        path = f"{self.folder}/{name}"
+        with open(path, "w", encoding="ascii") as file:
+            file.write(lines)
+        return path
+
     def talk(self, *said, options=(), status=0, numbered=False):
         """Passes bytes: a request, or in a tuple an event. Returns the lines that were printed, and what was said
         on standard error."""
@@ -81,13 +88,13 @@ class Unjudged(Talking):
                            (message(3, 0, 1),), message(9, 3, 0))
         self.assertEqual(lines[3:], [
             '-> wl_registry@2.bind(1, "own_shell1", 5, new id own_shell1@3)',
-            "not judged from here: own_shell1 is not in the tables",
+            "not judged from here: no table has own_shell1",
             "? -> unknown@3: opcode 1, 12 bytes",
             '? -> wl_registry@2.bind(2, "wl_compositor", 6, new id wl_compositor@4)',
             "? -> wl_compositor@4.create_surface(new id wl_surface@5)",
             "? <- unknown@3: opcode 0, 12 bytes",
             "? -> unknown@9: opcode 3, 12 bytes",
-            "not judged from request 2 on: own_shell1 is not in the tables; lawful until then; "
+            "not judged from request 2 on: no table has own_shell1; lawful until then; "
             "6 requests, 3 events"])
 
     def test_nothing_is_called_broken(self):
@@ -101,8 +108,8 @@ class Unjudged(Talking):
 
     def test_a_version_that_the_tables_lack(self):
         lines = self.lines(REGISTRY, (announced(1, "wl_compositor", 99),), bind(1, "wl_compositor", 99, 3))
-        self.assertEqual(lines[3], "not judged from here: version 99 of wl_compositor is not in the tables, "
-                                   "which have 6")
+        self.assertEqual(lines[3], "not judged from here: the tables have wl_compositor up to version 7, "
+                                   "and it is bound at 99")
 
     def test_what_was_not_announced_is_broken(self):
         for bound, words in ((bind(1, "own_shell1", 6, 3), "the global was announced with version 5"),
@@ -124,7 +131,7 @@ class Unjudged(Talking):
         self.assertEqual(lines[-4:], [
             '? <- wl_display@1.error(unknown@3, 2, "no")', "the last messages about unknown@3:",
             '  > message 2: -> wl_registry@2.bind(1, "own_shell1", 5, new id own_shell1@3)',
-            "not judged from request 2 on: own_shell1 is not in the tables; lawful until then; "
+            "not judged from request 2 on: no table has own_shell1; lawful until then; "
             "2 requests, 3 events; ended by wl_display.error"])
 
 
@@ -161,6 +168,20 @@ class Broken(Talking):
         ):
             with self.subTest(words):
                 self.assertEqual(self.broken(*self.SURFACE, data), [line, words, *about])
+
+    def test_what_is_newer_than_its_object(self):
+        """A message that only a newer version has is named, with its arguments; also if it is not judged."""
+        seat = (REGISTRY, (announced(1, "wl_seat", 4) + announced(2, "own_shell1", 1),), bind(1, "wl_seat", 4, 3))
+        self.assertEqual(self.broken(*seat, message(3, 3)), [
+            "-> wl_seat@3.release()", "F3: wl_seat@3 has version 4, and this request is there from version 5 on"])
+        pointer = (*seat, message(3, 0, 4))
+        self.assertEqual(self.broken(*pointer, (message(4, 8, 1, 0xffffff88),))[0],
+                         "<- wl_pointer@4.axis_discrete(1 horizontal_scroll, -120)")
+        self.assertEqual(self.broken(*pointer, (message(4, 8, 1),))[0],
+                         "<- wl_pointer@4.axis_discrete(1 horizontal_scroll, ..), bytes 0400000008000c0001000000")
+        lines = self.lines(*pointer, bind(2, "own_shell1", 1, 5), message(3, 3), (message(4, 8, 1, 5),))
+        self.assertEqual(lines[-3:-1], ["? -> wl_seat@3.release()",
+                                        "? <- wl_pointer@4.axis_discrete(1 horizontal_scroll, 5)"])
 
     def test_malformed(self):
         line, words = self.broken(*self.SURFACE, message(4, 1, 0, 0))
@@ -214,6 +235,50 @@ class Broken(Talking):
         for own, status in ((0, 1), (4, 4)):
             self.answering(error(1, 0, "no"))
             self.ran(*client(sync(2), 12, own), status=status)
+
+
+class TakenBack(Talking):
+    """A delete_id that nothing asked for is named, with the verdict too: the rules allow it."""
+
+    SURFACE = Broken.SURFACE
+    WORDS = "the compositor took back id {}, which nobody had given up"
+
+    def test_a_live_object(self):
+        """What the client wrote before it read that is no fault of its own."""
+        lines = self.lines(*self.SURFACE, (message(1, 1, 4),), message(4, 6), status=1)
+        self.assertEqual(lines[4:6], ["<- wl_display@1.delete_id(4)", self.WORDS.format(4)])
+        self.assertEqual(lines[-1], f"broken: > message 4 at byte 64: F2 unknown object; {self.WORDS.format(4)}")
+
+    def test_an_id_without_an_object(self):
+        lines = self.lines((message(1, 1, 9),), (message(1, 1, 8),), sync(2))
+        self.assertEqual(lines, [
+            "<- wl_display@1.delete_id(9)", self.WORDS.format(9), "<- wl_display@1.delete_id(8)",
+            "-> wl_display@1.sync(new id wl_callback@2)", f"{LAWFUL.format(1, 2)}; {self.WORDS.format(9)}"])
+
+    def test_what_was_given_up(self):
+        """A destroyed object, and one that an event ends, with or without that event."""
+        lines = self.lines(*self.SURFACE, message(4, 0), (message(1, 1, 4),), sync(4), (done(4),), sync(4),
+                           (message(1, 1, 4),))
+        self.assertFalse([it for it in lines if "took back" in it])
+        self.assertEqual(lines[-1], LAWFUL.format(6, 5))
+
+    def test_what_an_event_ends_though_no_text_says_so(self):
+        """wp_drm_lease_device_v1.released ends the device; its interface has requests, so the text leaves that out."""
+        device = "wp_drm_lease_device_v1"
+        lines = self.lines(REGISTRY, (announced(1, device, 1),), bind(1, device, 1, 3), message(3, 1),
+                           (message(3, 3),), (message(1, 1, 3),))
+        self.assertEqual(lines[-2:], ["<- wl_display@1.delete_id(3)", LAWFUL.format(3, 3)])
+
+    def test_between_two_halves_of_a_request(self):
+        """The request is whole after the delete_id, so its id had no object."""
+        lines = self.lines(REGISTRY[:8], (message(1, 1, 2),), REGISTRY[8:], (raw(2, 1, struct.pack("<I", 1)),))
+        self.assertEqual(lines[:2], ["<- wl_display@1.delete_id(2)", self.WORDS.format(2)])
+        self.assertEqual(lines[-1], f"{LAWFUL.format(1, 2)}; {self.WORDS.format(2)}")
+
+    def test_json(self):
+        told = self.told(*self.SURFACE, (message(1, 1, 4),))
+        self.assertEqual([it["note"] for it in told if "note" in it], [self.WORDS.format(4)])
+        self.assertEqual(told[-1]["words"], f"{LAWFUL.format(3, 2)}; {self.WORDS.format(4)}")
 
 
 class Printing(Talking):
@@ -276,6 +341,8 @@ class Printing(Talking):
 
     def test_stats(self):
         lines = self.lines(sync(2), (done(2),), sync(2), message(1, 1, 3), options=["--stats"])
+        # On a slow machine there are silences.
+        lines = [it for it in lines if not re.match(r"longest silences| +\d+\.\d{3} s from ", it)]
         at = lines.index(LAWFUL.format(3, 2))
         self.assertEqual([it.split() for it in lines[at + 1:-7]][:2],
                          [["messages", "bytes", "descriptors"], ["2", "24", "0", "->", "wl_display.sync"]])
@@ -302,6 +369,9 @@ class Globs(Talking):
             (["--only", "xdg_*"], ["wl_registry.bind", *made[1:], *configures, "xdg_surface.ack_configure"]),
             (["--only", "*.configure"], configures),
             (["--only", "xdg_?urface.*"], [made[2], configures[1], "xdg_surface.ack_configure"]),
+            (["--only", "xdg_surface@6"], [made[1], made[2], configures[1], "xdg_surface.ack_configure"]),
+            (["--only", "xdg_surface@6.*,wl_surface@6.commit"], [made[2], configures[1], "xdg_surface.ack_configure"]),
+            (["--except", "xdg_*@6,*@1,wl_registry,wl_surface@5"], [made[0], made[1], configures[0]]),
             (["--only", "*_surface.*ack*,wl_surface.com?it"], ["wl_surface.commit", "xdg_surface.ack_configure"]),
             (["--except", "xdg_*,wl_*"], []),
             (["--except", "xdg_*.*,wl_*.*"], []),
@@ -354,14 +424,14 @@ class Json(Talking):
 
     def test_kinds_of_arguments(self):
         told = self.told(*Printing.TITLED, raw(7, 2, text(b"a\xffb\"\n")), message(7, 1, 0),
-                         (raw(7, 0, struct.pack("<iiIII", -3, 4, 8, 4, 9)),))
+                         (raw(7, 0, struct.pack("<iiIII", -3, 4, 8, 4, 99)),))
         messages = [it for it in told if it["type"] == "message"]
         self.assertEqual(messages[-3]["arguments"], [
             {"kind": "string", "name": "title", "value": "a\ufffdb\"\n", "bytes": "61ff62220a"}])
         self.assertEqual(messages[-2]["arguments"], [{"kind": "object", "name": "parent", "id": 0}])
         self.assertEqual(messages[-1]["arguments"], [
             {"kind": "int", "name": "width", "value": -3}, {"kind": "int", "name": "height", "value": 4},
-            {"kind": "array", "name": "states", "size": 8, "value": "0400000009000000", "numbers": [4, 9],
+            {"kind": "array", "name": "states", "size": 8, "value": "0400000063000000", "numbers": [4, 99],
              "enum": "xdg_toplevel.state", "names": [["activated"], []]}])
 
     def test_births(self):
@@ -389,7 +459,7 @@ class Json(Talking):
     def test_unjudged(self):
         told = self.told(*Unjudged.GIVEN, message(3, 1, 77))
         self.assertEqual([it["judged"] for it in told if it["type"] == "message"], [True] * 3 + [False] * 2)
-        self.assertEqual(told[-3]["note"], "not judged from here: own_shell1 is not in the tables")
+        self.assertEqual(told[-3]["note"], "not judged from here: no table has own_shell1")
         self.assertEqual((told[-2]["object"], told[-2]["message"], told[-2]["arguments"]),
                          ({"interface": None, "id": 3, "birth": 0}, None, []))
         self.assertEqual(told[-1]["verdict"], "unjudged")
@@ -414,12 +484,6 @@ class Tables(Talking):
     """Which tables are read."""
 
     BASE = (REGISTRY, (announced(1, "xdg_wm_base", 5),), bind(1, "xdg_wm_base", 5, 3))
-
-    def written(self, name, lines):
-        path = f"{self.folder}/{name}"
-        with open(path, "w", encoding="ascii") as file:
-            file.write(lines)
-        return path
 
     def test_an_interface_that_is_given(self):
         """It replaces the installed interface; the other interfaces of that text stay."""
@@ -450,71 +514,32 @@ class Tables(Talking):
         self.assertRegex(self.ran("--tables", bad, "true", status=125)[1],
                          r"waywire-inspect: \S+bad.xml cannot be read\n\Z")
 
-    # A protocol of one interface, in a version.
-    OWN = """<?xml version="1.0"?><protocol name="own"><interface
-        version="{}" name = '{}'><request name="pull"><arg name="how" type="{}"/></request></interface></protocol>"""
+    def test_messages_that_no_text_holds(self):
+        """Their names have capitals, or one before them has. They are not judged; what is not there is broken."""
+        xml = self.written("own.xml", """<?xml version="1.0"?><protocol name="own"><interface name="own_keys" version="4">
+            <request name="fetchStates"/><request name="destroy" type="destructor" since="4"/><event name="stateChanged">
+            <arg name="key" type="uint"/></event><event name="state"/></interface></protocol>""")
+        options = ["--tables", xml, "--record", self.recorded]
 
-    def install(self, name, text):
-        """Installs an XML in place of those of the system."""
-        self.env["XDG_DATA_DIRS"] = f"{self.folder}/data"
-        path = f"{self.folder}/data/wayland-protocols/staging/{name}"
-        os.makedirs(os.path.dirname(path), exist_ok=True)
-        with open(path, "w", encoding="utf-8") as file:
-            file.write(text)
-        return path
+        def given(version, *said):
+            return (REGISTRY, (announced(1, "own_keys", 4),), bind(1, "own_keys", version, 3), *said)
 
-    def test_installed_xml(self):
-        """What no table has is read from the XML that the system has installed, and what cannot be read is
-        passed over."""
-        given = (REGISTRY, (announced(1, "own_thing", 1),), bind(1, "own_thing", 1, 3), message(3, 0, 5))
-        own = self.install("own/own-v1.xml", self.OWN.format(1, "own_thing", "int"))
-        bad = self.install("bad.xml", self.OWN.format(1, "bad_thing", "long"))
-        capital = self.install("capital.xml", self.OWN.format(1, "Capital", "int"))
-        older = self.install("older.xml", self.OWN.format(1, "xdg_wm_base", "int"))
-        self.install("notes.txt", self.OWN.format(1, "no_thing", "int"))
-        lines = self.lines(*given, options=["--record", self.recorded])
-        self.assertEqual(lines[-2:], ["-> own_thing@3.pull(5)", "lawful: 3 requests, 1 events, 0 and 0 bytes left"])
-        self.checked(self.recorded, lines, "--tables", f"{self.recorded}.tables")
-        _, said = self.talk(*given, options=["--verbose"])
-        for it in (f"{own} is read: it has what no table has\n",
-                   f"passed over: {bad}: argument how has the type long\n",
-                   f"{capital} is passed over: it has a name that no table can have\n"):
-            self.assertIn(it, said)
-        self.assertNotIn(older, said)
-        self.assertIn("own_thing is not in the tables", self.lines(*given, options=["--no-tables"])[-1])
-
-    def test_installed_xml_that_names_others(self):
-        """Its messages may name interfaces of other XML and of the texts."""
-        self.install("one.xml", """<protocol name="one"><interface name="one_thing" version="1"><request name="use">
-            <arg name="a" type="new_id" interface="two_thing"/><arg name="b" type="object" interface="xdg_toplevel"
-            allow-null="true"/></request></interface></protocol>""")
-        self.install("two.xml", self.OWN.format(1, "two_thing", "int"))
-        lines = self.lines(REGISTRY, (announced(1, "one_thing", 1),), bind(1, "one_thing", 1, 3), message(3, 0, 4, 0),
-                           message(4, 0, 5))
-        self.assertEqual(lines[-3:-1], ["-> one_thing@3.use(new id two_thing@4, nil)", "-> two_thing@4.pull(5)"])
-
-    def test_installed_xml_that_is_newer(self):
-        """A newer version replaces the one of an installed text, but not one that is given by --tables."""
-        newer = self.OWN.format(9, "xdg_wm_base", "int")
-        self.install("newer.xml", newer)
-        self.install("oldest.xml", self.OWN.format(1, "xdg_wm_base", "string"))
-        given = (REGISTRY, (announced(1, "xdg_wm_base", 9),), bind(1, "xdg_wm_base", 9, 3), message(3, 0, 5))
-        self.assertEqual(self.lines(*given)[-2], "-> xdg_wm_base@3.pull(5)")
-        own = self.written("own.tables", "interface xdg_wm_base 1\nrequest own D\n")
-        lines = self.lines(*given, options=["--tables", own])
-        self.assertIn("not judged from here: version 9 of xdg_wm_base is not in the tables, which have 1", lines)
-
-    def test_xml_as_a_text(self):
-        """XML whose name does not say so is called XML, and a text whose name says XML is called a text."""
-        xml = self.written("own.tables", self.OWN.format(1, "own_thing", "int"))
-        said = f"{xml} is XML, not a table text; the name of a protocol's XML ends with .xml"
-        self.assertEqual(self.ran("--tables", xml, "true", status=125), ("", f"waywire-inspect: {said}\n"))
-        text = self.written("own.xml", "interface own_thing 1\n")
-        self.assertIn(f"{text} is a table text, not the XML of a protocol\n",
-                      self.ran("--tables", text, "true", status=125)[1])
+        for said, printed, front, name in (
+            (message(3, 0), "-> own_keys@3: opcode 0, 8 bytes", "request 3", "fetchStates"),
+            (message(3, 1), "-> own_keys@3: opcode 1, 8 bytes", "request 3", "destroy"),
+            ((message(3, 0, 1),), "<- own_keys@3: opcode 0, 12 bytes", "event 2", "stateChanged"),
+            ((message(3, 1),), "<- own_keys@3: opcode 1, 8 bytes", "event 2", "state"),
+        ):
+            lines, _ = self.talk(*given(4, said), options=options)
+            why = f"no table can hold own_keys.{name}"
+            self.assertEqual(lines[3:5], [printed, f"not judged from here: {why}"])
+            self.assertTrue(lines[5].startswith(f"not judged from {front} on: {why}; lawful until then; "), lines[5])
+            self.assertEqual(self.ran("--read", self.recorded)[0].splitlines(), lines)
+        for said in given(3, message(3, 1)), given(4, message(3, 2)), given(4, (message(3, 2),)):
+            self.assertIn("F3 unknown message", self.talk(*said, options=options, status=1)[0][-1])
 
     def test_no_tables(self):
-        self.assertIn("not judged from here: xdg_wm_base is not in the tables",
+        self.assertIn("not judged from here: no table has xdg_wm_base",
                       self.lines(*self.BASE, options=["--no-tables"]))
 
     def test_what_is_recorded(self):
@@ -623,11 +648,11 @@ class Reading(Talking):
         for it in ("", ".2"):
             os.replace(self.recorded, self.recorded + it) if it else None
             self.assertTrue(self.read_of(self.recorded + it)[-1].startswith("lawful: "))
-        self.assertIn("not judged from here: xdg_wm_base is not in the tables",
+        self.assertIn("not judged from here: no table has xdg_wm_base",
                       self.read_of(self.recorded + ".2", "--no-tables"))
         with open(f"{self.recorded}.tables", "w", encoding="ascii") as file:
             file.write("interface own 1\n")
-        self.assertIn("not judged from here: xdg_wm_base is not in the tables",
+        self.assertIn("not judged from here: no table has xdg_wm_base",
                       self.read_of(self.recorded + ".2"))
 
     def test_without_times(self):

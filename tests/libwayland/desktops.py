@@ -10,9 +10,11 @@ import tempfile
 
 from tests import compositors
 from tests.checks import COMES_UP, LONG, Skipped, end, has_come, is_installed, need
-from tests.libwayland.libraries import SYSTEM
+from tests.libwayland.libraries import SYSTEM, SYSTEM_SERVER
 
 COPIED = b"a text that was copied"
+# The distribution's Python has the modules of its packages.
+PYTHON = "/usr/bin/python3"
 # Programs choose Wayland, start no bus of their own, and draw without a graphics card.
 ENV = {"GDK_BACKEND": "wayland", "QT_QPA_PLATFORM": "wayland", "SDL_VIDEODRIVER": "wayland",
        "MOZ_ENABLE_WAYLAND": "1", "NO_AT_BRIDGE": "1", "GSK_RENDERER": "cairo",
@@ -20,6 +22,7 @@ ENV = {"GDK_BACKEND": "wayland", "QT_QPA_PLATFORM": "wayland", "SDL_VIDEODRIVER"
 UNSET = ("DISPLAY", "DBUS_SESSION_BUS_ADDRESS", "WAYLAND_SOCKET", "WAYLAND_DEBUG", "SWAYSOCK")
 # What a compositor is here, and what these tests say to it.
 NEEDED = {"sway": ("sway", "swaymsg", "wtype", "wl-copy", "wl-paste"), "weston": ("weston",),
+          "phoc": ("phoc", "wl-copy", "wl-paste"),
           "kwin": ("kwin_wayland", "dbus-daemon", "gdbus", "wl-copy", "wl-paste"),
           "mutter": ("mutter", "dbus-daemon")}
 # How long a keyboard stays, in milliseconds.
@@ -137,6 +140,12 @@ class Sway(Desktop):
         return bool(windows)
 
 
+class Phoc(Desktop):
+    """Phoc, where a program without a window can copy and paste."""
+
+    has_clipboard = True
+
+
 def group_of(process):
     try:
         return os.getpgid(process)
@@ -195,12 +204,13 @@ def come_up(kind, name, room, words, path, its_env, **kept):
 
 
 @contextlib.contextmanager
-def sway():
-    """Sway with a keyboard, and a text in the clipboard."""
+def sway(server=SYSTEM_SERVER, has_xwayland=False):
+    """Sway with a keyboard, and a text in the clipboard, over a libwayland-server."""
     need(*NEEDED["sway"])
     with tempfile.TemporaryDirectory(prefix="sway-") as room:
         env = environment(room)
-        words, path, kept = compositors.sway(room, env)
+        words, path, kept = compositors.sway(room, env, has_xwayland)
+        kept["env"] = server.env(kept["env"])
         desktop = come_up(Sway, "sway", room, words, path, env, **kept)
         try:
             desktop.renew_keyboard()
@@ -212,14 +222,48 @@ def sway():
 
 
 @contextlib.contextmanager
-def weston():
+def phoc(server=SYSTEM_SERVER):
+    """Phoc with a text in the clipboard, over a libwayland-server."""
+    need(*NEEDED["phoc"])
+    with tempfile.TemporaryDirectory(prefix="phoc-") as room:
+        env = environment(room)
+        words, path, kept = compositors.phoc(room, env)
+        kept["env"] = server.env(kept["env"])
+        desktop = come_up(Phoc, "phoc", room, words, path, env, **kept)
+        try:
+            if not desktop.offers_text():
+                raise Skipped("wl-copy has not come up")
+            yield desktop
+        finally:
+            desktop.end()
+
+
+@contextlib.contextmanager
+def weston(server=SYSTEM_SERVER):
     need(*NEEDED["weston"])
     with tempfile.TemporaryDirectory(prefix="weston-") as room:
         os.chmod(room, 0o700)
         env = environment(room)
         words, path, kept = compositors.weston(room, env)
+        kept["env"] = server.env(kept["env"])
         desktop = come_up(Desktop, "weston", room, words, path, env, **kept)
         try:
+            yield desktop
+        finally:
+            desktop.end()
+
+
+@contextlib.contextmanager
+def weston_in_sway(server=SYSTEM_SERVER):
+    """Weston in a window of a sway, so that it has a keyboard. Weston without a screen has none."""
+    need(*NEEDED["weston"])
+    with sway() as outer:
+        words = ["weston", "--backend=wayland-backend.so", "--socket=weston", "--use-pixman", "--idle-time=0"]
+        desktop = come_up(Desktop, "weston", outer.room, words, f"{outer.env['XDG_RUNTIME_DIR']}/weston", outer.env,
+                          env=server.env(outer.env), start_new_session=True)
+        try:
+            if not has_come(lambda: outer.windows_of(desktop.process)):
+                raise Skipped("weston has no window at sway")
             yield desktop
         finally:
             desktop.end()

@@ -7,8 +7,9 @@ import subprocess
 import tempfile
 
 from tests import compositors
-from tests.checks import COMES_UP, Skipped, end, need
+from tests.checks import COMES_UP, Skipped, copy_program, end, has_come, need
 from tests.libwayland import desktops
+from tests.libwayland.libraries import SOURCES, SYSTEM_SERVER
 
 # foot is not here: it crashes at KWin's virtual output, over the system's library, too.
 AT_KWIN = """
@@ -117,15 +118,16 @@ def bus(room):
 
 
 @contextlib.contextmanager
-def with_bus(kind, name, words_in, **more):
-    """A compositor with a bus. `words_in` returns the compositor's command for a room; `more` is of the compositor's
-    environment alone."""
+def with_bus(kind, name, words_in, server, **more):
+    """A compositor with a bus, over a libwayland-server. `words_in` returns the compositor's command for a room; `more`
+    is of the compositor's environment alone."""
     need(*desktops.NEEDED[name])
     with tempfile.TemporaryDirectory(prefix=f"{name}-") as room, bus(room) as address:
         env = desktops.environment(room)
         own = {name: value for name, value in env.items() if name not in OF_CLIENTS}
         own |= {"XDG_RUNTIME_DIR": room, "DBUS_SESSION_BUS_ADDRESS": address, **more}
-        desktop = desktops.come_up(kind, name, room, words_in(room), f"{room}/{name}", env, env=own)
+        desktop = desktops.come_up(kind, name, room, words_in(room), f"{room}/{name}", env,
+                                   env=server.env(own))
         try:
             yield desktop
         finally:
@@ -135,7 +137,7 @@ def with_bus(kind, name, words_in, **more):
 def words_of_kwin(room):
     """Runs a copy of the program, because the installed one has a file capability: if the kernel does not grant
     it, the program does not start. A copy has no capability."""
-    program = shutil.copy(shutil.which("kwin_wayland"), room)
+    program = copy_program(shutil.which("kwin_wayland"), room)
     return [program, "--virtual", "--no-lockscreen", "--socket", "kwin"]
 
 
@@ -144,9 +146,27 @@ def words_of_mutter(_room):
             "--virtual-monitor", "1024x768"]
 
 
-def kwin():
-    return with_bus(KWin, "kwin", words_of_kwin)
+def kwin(server=SYSTEM_SERVER):
+    return with_bus(KWin, "kwin", words_of_kwin, server)
 
 
-def mutter(**more):
-    return with_bus(desktops.Desktop, "mutter", words_of_mutter, **more)
+def mutter(server=SYSTEM_SERVER, **more):
+    return with_bus(desktops.Desktop, "mutter", words_of_mutter, server, **more)
+
+
+@contextlib.contextmanager
+def mutter_with_keyboard(server=SYSTEM_SERVER):
+    """Mutter without a screen has no keyboard of its own."""
+    with mutter(server) as desktop:
+        path = f"{desktop.room}/keyboard"
+        words = [desktops.PYTHON, f"{SOURCES}/keyboard_of_mutter.py", f"unix:path={desktop.room}/bus"]
+        with open(path, "wb") as said:
+            process = desktop.start_beside(words, stdout=said, stderr=said)
+
+        def said_so_far():
+            with open(path, encoding="utf-8", errors="replace") as said:
+                return said.read()
+        has_come(lambda: "a keyboard" in said_so_far() or process.poll() is not None)
+        if process.poll() is not None or "a keyboard" not in said_so_far():
+            raise Skipped(f"mutter gives no keyboard: {said_so_far()[-300:]!r}")
+        yield desktop

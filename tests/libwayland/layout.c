@@ -1,5 +1,5 @@
 /* Prints the size of each type that libwayland's programs are compiled against, the offset and the size of each
- * field, and the value of each constant. HEADER is the header that has them: c/libwayland/wayland-abi.h and that of
+ * field, and the value of each constant. HEADER is the header that has them: c/libwayland/common/wayland-abi.h and that of
  * libwayland give the same lines. */
 #include <stdio.h>
 

@@ -12,8 +12,6 @@ from tests.libwayland import desktops
 from tests.libwayland.libraries import SOURCES
 
 KINDS = ("gtk3", "gtk4", "qt", "foot", "firefox", "wl-clipboard")
-# The distribution's Python has the modules of its packages.
-PYTHON = "/usr/bin/python3"
 MODULES = {"gtk3": "import gi; gi.require_version('Gtk', '3.0'); from gi.repository import Gtk",
            "gtk4": "import gi; gi.require_version('Gtk', '4.0'); from gi.repository import Gtk",
            "qt": "import PyQt5.QtWidgets"}
@@ -84,10 +82,10 @@ class Program:
                 raise Failed(f"{kind} has opened no window within {COMES_UP} s: {file.read()[-600:]}")
 
     def words(self):
-        ran = subprocess.run([PYTHON, "-c", MODULES[self.kind]], capture_output=True, check=False)
+        ran = subprocess.run([desktops.PYTHON, "-c", MODULES[self.kind]], capture_output=True, check=False)
         if ran.returncode:
             raise Skipped(f"Python's modules for {self.kind} are not installed")
-        return [PYTHON, f"{SOURCES}/window.py", self.kind]
+        return [desktops.PYTHON, f"{SOURCES}/window.py", self.kind]
 
     def has_ended(self):
         return self.process.poll() is not None
@@ -278,14 +276,13 @@ def case(clipboard, source, target, copying, pasting, theirs):
     return test
 
 
-def firefox_shows_a_page_and_quits(ours):
+def shows_a_page_and_quits(firefox):
     """Its window has the page's title; when it is closed, the program ends with status 0."""
-    firefox = ours("firefox")
     if not has_come(lambda: any(re.match("(a page|ready|copied|pasted)", it) for it in firefox.titles())):
         raise Failed(f"its windows are {firefox.titles()}")
     if not any(map(firefox.library.is_loaded_by, desktops.members(firefox.process))):
         raise Failed("firefox has not loaded the library")
-    ours.kept().close(firefox.process)
+    firefox.desktop.close(firefox.process)
     if not has_come(firefox.has_ended) or firefox.process.returncode:
         raise Failed(f"it has not ended, or with status {firefox.process.returncode}")
 
@@ -299,6 +296,6 @@ def cases(ours, theirs, is_whole):
              for its in libraries for source in KINDS for target in KINDS]
 
     def firefox():
-        firefox_shows_a_page_and_quits(ours)
+        shows_a_page_and_quits(ours("firefox"))
     firefox.__name__ = "firefox shows a page and quits"
     return [*found, firefox]

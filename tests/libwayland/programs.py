@@ -213,11 +213,11 @@ class Running:
         return "by force"
 
 
-def played(desktop, words, library, quiet):
-    """Runs a program, and says how that went."""
+def played(desktop, words, library, quiet, kind=Running):
+    """Runs a program, and says how that went. Its kinds of messages are those that `kind` finds."""
     if desktop.has_clipboard and not desktop.offers_text():
         raise Skipped("wl-copy has not come up")
-    running = Running(desktop, words, library)
+    running = kind(desktop, words, library)
     try:
         running.settles(quiet)
         is_shown = bool(DRAWN.search(running.said()))
@@ -296,7 +296,7 @@ def has_no_error_of_memory(desktop, line, library):
 def is_of_library(error):
     """Whether an error of valgrind has a call of the library in it: its name, or the name of one of its
     sources."""
-    sources = "|".join(map(os.path.basename, glob.glob(f"{TOP}/c/libwayland/*.c")))
+    sources = "|".join(map(os.path.basename, glob.glob(f"{TOP}/c/libwayland/*/*.c")))
     return bool(re.search(rf"{re.escape(SONAME)}|\((?:{sources or 'none'}):\d+\)", error))
 
 

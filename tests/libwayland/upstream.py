@@ -1,33 +1,39 @@
-"""Runs libwayland's own tests of its client, unchanged, with the library under test.
+"""Runs libwayland's own tests of its client and of its server, unchanged, with the library under test.
 
 They come with the sources of wayland. That of the distribution is fetched by scripts/install-packages, and its tests
-are compiled against the system's headers and its libwayland-server. Those of a later version need its source beside
-the first, and are compiled with the server of that source; they are skipped if it is not there.
+are compiled against the system's headers and its other library. Those of a later version need its source beside
+the first, and are compiled with the other library of that source; they are skipped if it is not there.
 
-Two suites test little of the library: connection-test tests libwayland's own connection.c, which is compiled into it,
-and sanity-test the runner of these tests, with a client and a server beside it. Both have libwayland's wl_list and
-wl_array compiled in, too; those of the library are tested by list-test and array-test. proxy-test is not among what
-meson builds."""
+Two suites of the client test little of the library: connection-test tests libwayland's own connection.c, which is
+compiled into it, and sanity-test the runner of these tests, with a client and a server beside it. Both have
+libwayland's wl_list and wl_array compiled in, too; those of the library are tested by list-test and array-test.
+proxy-test is not among what meson builds."""
 
 import functools
 import glob
 import os
 import re
 import subprocess
+from typing import NamedTuple
 
 from tests.checks import Failed, Skipped, ends_of, has_come, need, run
 from tests.libwayland.desktops import end_group
-from tests.libwayland.libraries import OUT, SONAME, SYSTEM, need_headers
+from tests.libwayland.libraries import OUT, SERVER_SONAME, SONAME, SYSTEM, SYSTEM_SERVER, Library, need_headers
 
 FOLDER = os.environ.get("WAYWIRE_SOURCES", "/usr/src/waywire")
 # The version of wayland that has the behaviour of the functions that came after 1.21.
 LATER = "1.23.1"
-SUITES = ("display", "queue", "proxy", "socket", "compositor-introspection", "protocol-logger",
-          "sanity", "connection", "list", "array")
+CLIENT_SUITES = ("display", "queue", "proxy", "socket", "compositor-introspection", "protocol-logger",
+                 "sanity", "connection", "list", "array")
+# newsignal-, message-, interface-, map- and os-wrappers-test test private code, which is compiled into them.
+SERVER_SUITES = ("array", "client", "compositor-introspection", "display", "event-loop", "list", "protocol-logger",
+                 "queue", "resources", "sanity", "signal", "socket")
 # What a suite has of libwayland's private code.
 PRIVATE = {"socket": ["wayland-os"], "sanity": ["wayland-util"],
            "connection": ["connection", "wayland-os", "wayland-util"]}
-SERVER = ("wayland-server", "wayland-shm", "event-loop", "connection", "wayland-os", "wayland-util")
+COMMON = ("connection", "wayland-os", "wayland-util")
+SERVER = ("wayland-server", "wayland-shm", "event-loop", *COMMON)
+CLIENT = ("wayland-client", *COMMON)
 RUNNER = ("test-runner", "test-helpers", "test-compositor")
 # The tests of older versions than LATER that ask for what a later version changed, and what that is.
 CHANGED = {"send_overflow_disconnection": "since 1.23 requests wait without a limit, unless the program sets one"}
@@ -59,14 +65,31 @@ def written(path, text):
         file.write(text)
 
 
-class Source:
-    """A source of wayland, and what is compiled from it."""
+class Part(NamedTuple):
+    """What is tested of libwayland: `over` is what the names of its tests say, `sonames` are the files of the
+    libraries under test, `system` is the system's library, and `other` are the sources of what is not under test."""
 
-    def __init__(self, folder):
-        self.folder = folder
+    name: str
+    over: str
+    suites: tuple
+    sonames: tuple
+    system: Library
+    other: tuple
+
+
+THE_CLIENT = Part("client", "", CLIENT_SUITES, (SONAME,), SYSTEM, SERVER)
+THE_SERVER = Part("server", " over our server", SERVER_SUITES, (SERVER_SONAME,), SYSTEM_SERVER, CLIENT)
+BOTH = Part("both", " over both of ours", SERVER_SUITES, (SERVER_SONAME, SONAME), SYSTEM_SERVER, ())
+
+
+class Source:
+    """A source of wayland, and what is compiled from it for a part's tests."""
+
+    def __init__(self, folder, part):
+        self.folder, self.part = folder, part
         self.version = os.path.basename(folder).partition("-")[2]
         self.is_later = numbers(self.version) >= numbers(LATER)
-        self.built_in = f"{OUT}/upstream-{self.version}"
+        self.built_in = f"{OUT}/upstream-{self.version}-{part.name}"
 
     def files(self, folder, names):
         return [f"{self.folder}/{folder}/{it}.c" for it in names]
@@ -119,13 +142,13 @@ class Source:
         system's may lack what it calls."""
         path = f"{self.built_in}/{suite}-test"
         files = self.files("tests", (f"{suite}-test", *RUNNER))
-        files += self.files("src", SERVER if self.is_later else PRIVATE.get(suite, ()))
+        files += self.files("src", (self.is_later and self.part.other) or PRIVATE.get(suite, ()))
         if suite == "display":
             files.append(f"{self.built_in}/tests-protocol.c")
         libraries = ["-lwayland-client", "-lwayland-server"]
         if self.is_later:
             files.append(f"{self.built_in}/wayland-protocol.c")
-            libraries = [f"-L{library.folder}", f"-l:{SONAME}"]
+            libraries = [*(f"-L{it}" for it in library.folders), *(f"-l:{it}" for it in self.part.sonames)]
         run([*self.compiler(), *files, "-o", path, *libraries, "-lffi", "-lpthread", "-ldl", "-lm"])
         return path
 
@@ -164,27 +187,28 @@ def case(source, suite, name, library):
     library, it says nothing about the library under test."""
     def test():
         need("cc")
-        if name in CHANGED and not source.is_later and library is not SYSTEM:
+        their = source.part.system
+        if name in CHANGED and not source.is_later and library is not their and source.part is not THE_SERVER:
             raise Skipped(CHANGED[name])
         for turn in range(RUNS):
             found, said = source.ran(suite, library) if turn else source.first_run(suite, library)
             how, is_well = ended(name, found)
             if is_well:
                 return
-        if library is not SYSTEM and not source.is_later:
-            theirs, is_their_well = ended(name, source.first_run(suite, SYSTEM)[0])
+        if library is not their and not source.is_later:
+            theirs, is_their_well = ended(name, source.first_run(suite, their)[0])
             if not is_their_well:
                 raise Skipped(f"it fails over the system's library, too: {theirs}")
         raise Failed(f"{how}\n{ends_of(said)}")
-    test.__name__ = f"{suite}-test of libwayland {source.version}: {name}"
+    test.__name__ = f"{suite}-test of libwayland {source.version}{source.part.over}: {name}"
     return test
 
 
-def without(what, why):
+def without(what, part, why):
     """A test that stands for those that cannot be run."""
     def test():
         raise why
-    test.__name__ = f"tests of libwayland {what}"
+    test.__name__ = f"tests of libwayland {what}{part.over}"
     return test
 
 
@@ -193,18 +217,18 @@ def cases_of(source, library):
     try:
         source.compiler()
     except (Failed, Skipped) as why:
-        return [without(source.version, why)]
-    return [case(source, suite, name, library) for suite in SUITES for name in source.names_of(suite)]
+        return [without(source.version, source.part, why)]
+    return [case(source, suite, name, library) for suite in source.part.suites for name in source.names_of(suite)]
 
 
-def cases(library):
+def cases(library, part=THE_CLIENT):
     """The tests of the distribution's source, which is the newest below LATER, and of the newest from LATER on."""
-    found = [Source(os.path.dirname(it)) for it in glob.glob(f"{FOLDER}/wayland-*/meson.build")]
+    found = [Source(os.path.dirname(it), part) for it in glob.glob(f"{FOLDER}/wayland-*/meson.build")]
     made = []
     for what, is_later in (("of the distribution", False), (f"{LATER} or later", True)):
         sources = [it for it in found if it.is_later is is_later]
         if sources:
             made += cases_of(max(sources, key=lambda it: numbers(it.version)), library)
         else:
-            made.append(without(what, Skipped(f"no source of wayland {what} is in {FOLDER}")))
+            made.append(without(what, part, Skipped(f"no source of wayland {what} is in {FOLDER}")))
     return made

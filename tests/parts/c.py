@@ -26,6 +26,7 @@ from tools.waywire import table_text
 OUT = os.path.join(TOP, "out", "c")
 ARCHIVE = os.path.join(OUT, "libwaywire.a")
 INSPECT = os.path.join(OUT, "waywire-inspect")
+REPLAY = os.path.join(OUT, "waywire-replay")
 TESTS = os.path.join(TOP, "tests", "c")
 EXAMPLES = os.path.join(TOP, "examples", "c")
 C = ["cc", "-O1", "-g", "-Wall", "-Wextra", "-Werror", "-Wno-missing-field-initializers", "-I", os.path.join(TOP, "include"), "-I", TESTS]
@@ -138,11 +139,12 @@ OF_ONE_END = {
                'waywire_client_bind_unannounced({}, object, 1, "wl_seat", 1, &object)',
                'waywire_client_more_tables({}, "", 0, NULL, NULL)', "waywire_wl_display_sync({}, display, NULL)"],
     "server": ["waywire_server_add_global({}, 0, 1, NULL)", "waywire_server_withdraw({}, 1)",
-               "waywire_server_announce({}, NULL)", "waywire_server_drop_object({}, object)",
+               "waywire_server_announce({}, NULL, NULL)", "waywire_server_drop_object({}, object)",
+               "waywire_server_end_object({}, object)", "waywire_server_next_unanswered({}, &report)",
                'waywire_server_post_error({}, object, 1, "x")', "waywire_wl_callback_send_done({}, callback, 1)"],
 }
 OF_BOTH = ["waywire_end_live({}, object, NULL, NULL)", "waywire_end_next({}, &report)", "waywire_end_free({})",
-           "waywire_end_tables({})"]
+           "waywire_end_tables({})", 'waywire_end_more_tables({}, "", 0, NULL, NULL)']
 # Typed calls, with objects of the right interface and with objects of another.
 OF_INTERFACES = {
     "right": ["waywire_wl_surface_attach(client, surface, buffer, 0, 0)",
@@ -267,8 +269,10 @@ ALONE = (
     # Objects of the server that are replaced while they live: the reports have the old objects and their pointers, and a
     # program that frees these leaks nothing.
     of_program("replaced_objects", "replaced", OUTPUTS, checked=[OUTPUTS]),
-    # A client's tables grow while it has objects: texts that are refused, and when tables are freed.
+    # An end's tables grow while it has objects: texts that are refused, when tables are freed, and a late global.
     of_program("tables_that_grow", "more_tables", "all", checked=()),
+    # What a server's caller does in place of the library: it ends objects, and answers faults.
+    of_program("server_whose_caller_decides", "ended", checked=()),
     # A million messages of random calls, some of them wrong, compared with a model; some allocations fail.
     of_program("random_calls", "fuzz", "1000000", wraps=MEMORY[:2], timeout=2 * LONG),
     # A connection that is broken or closed while descriptors wait leaves none open.
@@ -277,6 +281,10 @@ ALONE = (
     of_program("socket_takes_a_part", "parts"),
     # Bytes whose tokens had no room wait in the space that was lent, whatever is read and sent meanwhile.
     of_program("space_keeps_what_was_written", "space"),
+    # A server asks for the room of its outbox once for the messages of a read; nothing that is written takes the room of
+    # a callback, and a global that a callback adds comes before the answer to the next message.
+    of_program("asks_for_room_once_a_read", "asking",
+               wraps=("waywire_end_out_room", "waywire_server_announce"), checked=()),
     # 100,000 open registries take less than 40 MB.
     of_program("many_registries", "registries"),
     # Ten gigabytes pass an inspector.
@@ -498,15 +506,15 @@ def client_pastes_at_sway(_program):
     clipboards.client_pastes_at_sway([example("client"), "--paste"], checked)
 
 
-def inspecting(program, *names, by=(), file="inspecting"):
-    """Runs tests of a file in tests/inspector, with a command that runs the tool. Says which are skipped, and why. If a
-    compositor did not start, it is not tried again."""
+def inspecting(program, *names, by=(), file="inspecting", folder="inspector"):
+    """Runs tests of a file in tests/inspector or tests/replay, with a command that runs the tools. Says which are
+    skipped, and why. If a compositor did not start, it is not tried again."""
     if file in LATE:
         raise Skipped(LATE[file])
-    env = {**os.environ, "INSPECT": " ".join([*by, INSPECT])}
+    env = {**os.environ, "INSPECT": " ".join([*by, INSPECT]), "REPLAY": " ".join([*by, REPLAY])}
     if program and os.path.exists(program):
         env["WAYWIRE"] = program
-    said = run([sys.executable, "-m", f"tests.inspector.{file}", *names], env=env, timeout=2 * LONG)
+    said = run([sys.executable, "-m", f"tests.{folder}.{file}", *names], env=env, timeout=2 * LONG)
     skipped = re.findall("^skipped: (.*)", said, re.M)
     late = re.search(r": ((?:sway|weston) has not come up .*)", said)
     if late:
@@ -522,9 +530,15 @@ def inspecting(program, *names, by=(), file="inspecting"):
 def inspector_has_no_error_and_no_leak(program):
     need("valgrind")
     inspecting(program, "Asking", by=[*VALGRIND, "--track-fds=yes"], file="questions")
+    inspecting(program, "Hanging.test_what_hangs", "Hanging.test_a_buffer", "Hanging.test_a_selection",
+               by=[*VALGRIND, "--track-fds=yes"], file="hangs")
+    inspecting(program, "Bytes.test_descriptors", "Bytes.test_what_cannot_be_cut", "Verbs.test_lines", "Ends.test_a_signal",
+               by=[*VALGRIND, "--track-fds=yes"], file="faults")
     inspecting(program, "Names.test_in_json", "Names.test_arrays_of_numbers", "Names.test_what_an_xml_says",
                by=[*VALGRIND, "--track-fds=yes"], file="names")
     inspecting(program, "Before", by=[*VALGRIND, "--track-fds=yes"], file="lines")
+    inspecting(program, "Judging", "Files.test_a_recording", "Lacking.test_null_for_an_object_that_is_gone",
+               by=[*VALGRIND, "--track-fds=yes"], file="debug_logs")
     inspecting(program, "Unjudged", "Broken.test_what_was_destroyed", "Printing.test_stats", "Json.test_messages",
                "Json.test_kinds_of_arguments", "Json.test_births", "Json.test_broken", "Json.test_unjudged",
                "Tables.test_an_interface_that_is_given", "Recording.test_head_and_times",
@@ -558,14 +572,36 @@ INSPECTOR = (
     of_inspector("inspector", tests="Passing Sockets Judging Failing"),
     # What it prints, records and reads.
     of_inspector("inspector_words", "words"),
+    # The XML that it reads.
+    of_inspector("inspector_installed_xml", "installed_xml"),
     # What was asked and not answered, and when a session ended.
     of_inspector("inspector_questions", "questions"),
+    # What hangs, while it does.
+    of_inspector("inspector_hangs", "hangs"),
+    # What --strict refuses, and what ends the tool at once.
+    of_inspector("inspector_strict", "strict"),
+    # The keys of --json, and their schema.
+    of_inspector("inspector_json_lines", "json_lines", needed="jq"),
     # The names that it prints beside numbers.
     of_inspector("inspector_names", "names"),
+    # The files that it reads and writes.
+    of_inspector("inspector_files", "files"),
+    of_inspector("inspector_windows", "windows"),
+    # Those of a direction, and those of a file that changes.
+    of_inspector("inspector_filters", "filters"),
+    # Recordings of any length, and those that grow.
+    of_inspector("inspector_reads_long_recordings", "long_recordings"),
+    # Faults on purpose, in messages that pass.
+    of_inspector("inspector_faults", "faults"),
+    of_inspector("inspector_silences", "silences"),
     # What it prints beside messages: times, programs, what led to an error.
     of_inspector("inspector_lines", "lines"),
+    # Logs of WAYLAND_DEBUG.
+    of_inspector("inspector_debug_logs", "debug_logs"),
     # Generated sessions with interfaces that it does not know.
     of_inspector("inspector_names_what_is_so", "unknown_sessions"),
+    # Recorded sessions, read without some of their tables.
+    of_inspector("inspector_without_tables", "without_tables"),
     # The cost of an attack is linear in the number of its messages.
     of_inspector("inspector_takes_what_passes", "attacks", needed="valgrind"),
 )
@@ -574,6 +610,13 @@ INSPECTOR_AT_PROGRAMS = (
     # Also if the compositor hangs or is killed.
     of_inspector("inspector_at_a_client_of_weston", "at_weston", "Weston.test_simple_shm "
                  "Weston.test_the_compositor_hangs Weston.test_the_compositor_is_killed", "weston weston-simple-shm"),
+    # Faults on purpose.
+    of_inspector("inspector_makes_faults_at_a_client_of_weston", "at_weston", "Weston.test_faults",
+                 "weston weston-simple-shm"),
+    of_inspector("inspector_makes_faults_at_a_client_of_gtk", "at_weston", "Weston.test_faults_of_gtk", "weston zenity"),
+    of_inspector("inspector_makes_faults_at_programs", "faults_at_programs", needed="sway wl-copy wl-paste"),
+    # The script of docs/BUILDS.md.
+    of_inspector("inspector_in_a_build", "in_a_build", needed="weston weston-simple-shm"),
     of_inspector("inspector_at_a_client_of_cairo", "at_weston", "Weston.test_flower", "weston weston-flower"),
     of_inspector("inspector_at_a_client_of_gtk", "at_weston", "Weston.test_gtk", "weston zenity"),
     # A compositor that makes an object for each selection.
@@ -594,9 +637,29 @@ INSPECTOR_AT_PROGRAMS = (
     of_desktop("mpv", "mpv", "mpv"),
     of_desktop("the_clients_of_weston", "weston", "weston-flower"),
     of_desktop("the_primary_selection", "primary_selection", "wl-paste"),
+    # What it reads in their logs is what it has said of their sessions.
+    of_inspector("inspector_debug_logs_at_sway", "debug_logs_of_programs", "AtSway TheLogOfSway", "sway wtype wl-copy"),
+    of_inspector("inspector_debug_logs_at_weston", "debug_logs_of_programs", "AtWeston", "weston"),
+    of_inspector("inspector_debug_logs_at_kwin_and_mutter", "debug_logs_of_programs", "AtKWinAndMutter",
+                 "kwin_wayland mutter dbus-daemon"),
     # It names the message of sway that breaks a rule.
     of_desktop("wf_recorder", "wf_recorder", "wf-recorder"),
 )
+
+
+def replay(program):
+    """waywire-replay at compositors that the tests play: what it sends, where the sessions part, what it refuses."""
+    inspecting(program, file="replaying", folder="replay")
+
+
+def replay_has_no_error_and_no_leak(program):
+    need("valgrind")
+    inspecting(program, "Playing", "Parting", by=[*VALGRIND, "--track-fds=yes"], file="replaying", folder="replay")
+
+
+def replay_at_compositors(program):
+    """Programs that were recorded at a compositor are played there to their end."""
+    inspecting(program, file="at_compositors", folder="replay")
 
 
 TESTS_IN_ORDER = (header_is_c99_and_cpp, every_message_goes_by_its_stub,
@@ -613,13 +676,15 @@ TESTS_IN_ORDER = (header_is_c99_and_cpp, every_message_goes_by_its_stub,
                   gtk_copies_and_pastes_at_our_compositor, foot_copies_at_our_compositor,
                   windows_copy_and_paste_at_our_compositor, client_pastes_at_our_compositor,
                   client_pastes_during_a_drag, client_pastes_at_sway,
-                  *INSPECTOR, inspector_has_no_error_and_no_leak, inspector_is_installed, taken_from_a_package,
+                  *INSPECTOR, inspector_has_no_error_and_no_leak, replay, replay_has_no_error_and_no_leak,
+                  replay_at_compositors, inspector_is_installed, taken_from_a_package,
                   compiled_without_a_proof, *INSPECTOR_AT_PROGRAMS)
 BY_NAME = {it.__name__: it for it in TESTS_IN_ORDER}
 # What `make check` runs.
 SHORT = [BY_NAME[it] for it in """header_is_c99_and_cpp ends_and_objects_have_types session values tables_that_grow
-    memory_has_one_form pointers_of_both_ranges replaced_objects sockets connections no_descriptor_is_left_open
-    socket_takes_a_part space_keeps_what_was_written exports_its_calls_alone examples""".split()]
+    memory_has_one_form followed_messages pointers_of_both_ranges replaced_objects sockets connections
+    no_descriptor_is_left_open socket_takes_a_part space_keeps_what_was_written exports_its_calls_alone
+    examples""".split()]
 
 
 def asked(words):

@@ -2,14 +2,16 @@
 
     ./test compare PROGRAM [COUNT [SEED]]
 
-The recordings of examples/ come first, each as it is, with all texts of protocols/. COUNT others follow.
+The recordings of examples/ come first, each as it is, with all texts of protocols/. If the program takes
+`--stream`, a small one follows, cut at each byte and with each byte changed. COUNT others follow.
 Half of these are sessions written from the tables, message by message, with objects, ids, binds and
 descriptors that are mostly right. The rest are those of examples/ with bytes changed, pieces left out,
 doubled or swapped, or token counts changed. All are cut into new pieces, and some have a change in their
 text. If the program takes `--tables`, it gets all texts of protocols/ or a random text; if it
 takes `--limit`, it gets a limit. `trace` and `check` must print exactly what the reference says, with its
-exit status. COUNT is 300 and SEED is 1 by default; the same SEED makes the same files. If a run differs,
-its files are left in the folder of temporary files. The last line is 'N passed, M failed'.
+exit status; also with `--stream`, of the file and of standard input, if the program takes that. COUNT is 300
+and SEED is 1 by default; the same SEED makes the same files. If a run differs, its files are left in the
+folder of temporary files. The last line is 'N passed, M failed'.
 """
 
 import glob
@@ -354,6 +356,15 @@ def examples():
             yield file.read()
 
 
+def cut_and_changed(chance):
+    """A text cut at each of its bytes, and with each of them changed."""
+    with open(f"{TOP}/examples/in_pieces.rec", "rb") as file:
+        text = file.read()
+    for place in range(len(text)):
+        yield text[:place]
+        yield text[:place] + bytes([chance.choice(b"\r\n\t +->#x0fF\xff")]) + text[place + 1 :]
+
+
 class Case(NamedTuple):
     """The arguments and files of two runs. An empty table text stands for the core alone."""
 
@@ -367,6 +378,9 @@ def cases(count, seed, takes):
     texts, core = joined_tables(), table_text.core_tables()
     for text in examples():
         yield Case(texts if "--tables" in takes else b"", text, reference.LIMIT)
+    if "--stream" in takes:
+        for text in cut_and_changed(random.Random(seed)):
+            yield Case(b"", text, reference.LIMIT)
     stored = [reference.parse_recording(it) for it in examples()]
     for number in range(count):
         chance = random.Random(f"{seed} {number}")
@@ -401,24 +415,52 @@ def wanted(core, case):
     return int(is_broken), session.hint, [verdict], session.lines + [verdict] * is_broken
 
 
-def wrong_with(program, core, case, files):
-    """The difference between the program's output and the reference's; None if there is none."""
-    status, error, *outputs = wanted(core, case)
-    options = ["--tables", files[0]] if case.tables else []
-    options += ["--limit", str(case.limit)] if case.limit != reference.LIMIT else []
-    for command, lines in zip(("check", "trace"), outputs):
-        words = [program, command, *options, files[1]]
+def wanted_of_stream(core, case):
+    """The same with `--stream`: no line about tables, and the trace of the lines before a bad one."""
+    status, error, verdict, lines = wanted(core, case)
+    if error.startswith("waywire: line"):
+        tables = table_text.read_more(core, case.tables)
+        lines = reference.streamed(tables, case.recording, case.limit)[0].lines
+    return status, error if status == 3 else "", verdict, lines
+
+
+class Ran(NamedTuple):
+    """A run's words, what it reads from standard input, and what it must print."""
+
+    words: list[str]
+    given: bytes
+    status: int
+    error: str
+    lines: list[str]
+
+    def wrong(self, program):
+        """What the program does not do as it must, or None."""
+        command = " ".join(self.words)
         try:
-            ran = subprocess.run(words, capture_output=True, encoding="latin-1", timeout=LONG)
+            ran = subprocess.run([program, *self.words], input=self.given, capture_output=True, timeout=LONG)
         except (OSError, subprocess.TimeoutExpired) as error:
             return f"{command} is not run: {error}"
-        if ran.stdout != "".join(f"{it}\n" for it in lines):
-            pairs = zip([*ran.stdout.split("\n"), None], [*lines, "", None])
+        output, said = ran.stdout.decode("latin-1"), ran.stderr.decode("latin-1")
+        if output != "".join(f"{it}\n" for it in self.lines):
+            pairs = zip([*output.split("\n"), None], [*self.lines, "", None])
             found, line = next((it for it in pairs if it[0] != it[1]), (None, None))
             return f"{command} prints {found!r}, the reference {line!r}"
-        if (ran.returncode, ran.stderr) != (status, error):
-            return f"{command} ends with {ran.returncode} and {ran.stderr!r}, not {status} and {error!r}"
-    return None
+        if (ran.returncode, said) != (self.status, self.error):
+            return f"{command} ends with {ran.returncode} and {said!r}, not {self.status} and {self.error!r}"
+        return None
+
+
+def runs(core, case, files, takes):
+    """The runs of a case."""
+    options = ["--tables", files[0]] if case.tables else []
+    options += ["--limit", str(case.limit)] if case.limit != reference.LIMIT else []
+    status, error, verdict, lines = wanted(core, case)
+    yield Ran(["check", *options, files[1]], b"", status, error, verdict)
+    yield Ran(["trace", *options, files[1]], b"", status, error, lines)
+    if "--stream" in takes:
+        status, error, verdict, lines = wanted_of_stream(core, case)
+        yield Ran(["check", *options, "--stream", files[1]], b"", status, error, verdict)
+        yield Ran(["trace", *options, "--stream", "-"], case.recording, status, error, lines)
 
 
 def main():
@@ -430,7 +472,7 @@ def main():
     except (OSError, Failed, subprocess.TimeoutExpired) as error:
         print(f"failed: {error}")
         return counted(0, 1)
-    takes = [it for it in ("--tables", "--limit") if it in shown]
+    takes = [it for it in ("--tables", "--limit", "--stream") if it in shown]
     core = table_text.core_tables()
     passed = failed = 0
     with tempfile.TemporaryDirectory() as folder:
@@ -439,7 +481,7 @@ def main():
             for path, text in zip(files, case):
                 with open(path, "wb") as file:
                     file.write(text)
-            wrong = wrong_with(program, core, case, files)
+            wrong = next(filter(None, (it.wrong(program) for it in runs(core, case, files, takes))), None)
             if wrong is None:
                 passed += 1
                 continue

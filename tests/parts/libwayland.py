@@ -1,9 +1,10 @@
-"""Compares the libwayland-client of waywire with the system's: runs libwayland's own tests, our own programs and
-programs of the distribution with each of the two.
+"""Compares the libwayland-client and the libwayland-server of waywire with the system's: runs libwayland's own tests,
+our own programs, and programs and compositors of the distribution with each of the two.
 
-    ./test libwayland [--whole] [--library=FOLDER] [WORD..]
+    ./test libwayland [--whole] [--library=FOLDER] [--server=FOLDER] [WORD..]
 
-The library under test is the libwayland-client.so.0 of FOLDER [default: the one that `make` builds].
+The libraries under test are the libwayland-client.so.0 and the libwayland-server.so.0 of these folders [default: those
+that `make` builds]. Each test of the server has that word in its name.
 --whole also runs the longer tests. With words, only the tests run whose names contain one of them. It
 prints what failed, and what was skipped because something is not installed (scripts/install-packages
 installs all of it). The last line counts what passed and failed. The exit status is 0 if nothing
@@ -17,9 +18,12 @@ from concurrent.futures import ThreadPoolExecutor
 from tests import checks
 from tests.checks import TOP, can
 from tests.libwayland import calls, desktops, kwin_and_mutter, pasting, programs, upstream, waywire_run
-from tests.libwayland.libraries import SONAME, SYSTEM, Library
+from tests.libwayland.libraries import SERVER_SONAME, SONAME, SYSTEM, Library
+from tests.libwayland.server import calls as server_calls
+from tests.libwayland.server import pairs
 
-OURS = f"{TOP}/out/c/wayland"
+OURS = f"{TOP}/out/c/wayland/client"
+OUR_SERVER = f"{TOP}/out/c/wayland/server"
 
 
 def arguments():
@@ -27,6 +31,8 @@ def arguments():
     parser.add_argument("--whole", action="store_true", help="also runs the longer tests")
     parser.add_argument("--library", metavar="FOLDER",
                         help="the folder of the libwayland-client.so.0 under test [default: that which make builds]")
+    parser.add_argument("--server", metavar="FOLDER",
+                        help="the folder of the libwayland-server.so.0 under test [default: that which make builds]")
     parser.add_argument("words", nargs="*", metavar="WORD",
                         help="runs only the tests whose names contain one of the words")
     return parser.parse_args()
@@ -66,23 +72,39 @@ def groups(library, shared, is_whole):
             [*desktops.at("kwin", at_kwin), *desktops.at("mutter", at_mutter)])
 
 
+def groups_of_server(server, both, in_pairs, is_whole):
+    """The tests of the libwayland-server, in groups as above. `both` is that library beside that of clients."""
+    return ([*upstream.cases(server, upstream.THE_SERVER), *upstream.cases(both, upstream.BOTH),
+             *server_calls.cases(server, is_whole), *in_pairs.cases(is_whole, "weston")],
+            in_pairs.cases(is_whole, "sway", "phoc"),
+            in_pairs.cases(is_whole, "kwin", "mutter"))
+
+
+def lacking(folders):
+    """What is said of libraries that are not there."""
+    return [f"{folder} has no {name}" for folder, name in folders if not os.path.exists(f"{folder}/{name}")]
+
+
 def main():
     given = arguments()
-    folder = given.library or OURS
+    folder, server_folder = given.library or OURS, given.server or OUR_SERVER
     if not can("the library over that of waywire", "cc", "make"):
         return checks.counted(0, 0)
-    if not given.library and not checks.make():
-        print("failed: the library is not built")
+    if not (given.library and given.server) and not checks.make():
+        print("failed: the libraries are not built")
         return checks.counted(0, 1)
-    if not os.path.exists(f"{folder}/{SONAME}"):
-        print(f"failed: {folder} has no {SONAME}")
+    if wrong := lacking(((folder, SONAME), (server_folder, SERVER_SONAME))):
+        print(f"failed: {wrong[0]}")
         return checks.counted(0, 1)
-    library = Library(folder)
-    shared = Shared(library)
-    lists = checks.chosen(groups(library, shared, given.whole), given.words)
+    library, server = Library(folder), Library(server_folder, SERVER_SONAME)
+    both = Library(server_folder, SERVER_SONAME, beside=library)
+    shared, in_pairs = Shared(library), pairs.Pairs(server, folder)
+    lists = checks.chosen((*groups(library, shared, given.whole),
+                           *groups_of_server(server, both, in_pairs, given.whole)), given.words)
     try:
         with ThreadPoolExecutor() as pool:
             counts = [*pool.map(checks.passed_and_failed, lists)]
     finally:
+        in_pairs.end()
         shared.end()
     return checks.counted(*map(sum, zip(*counts)))

@@ -1,4 +1,5 @@
-"""Tests what the pages show: each command of README.md, in the order of the page, and the programs of docs/GUIDE.md.
+"""Tests what the pages show: each command of README.md, in the order of the page, and the programs of docs/GUIDE.md,
+examples/c/loop.c and examples/loop.rattle.
 
     ./test pages [AtOnce | OverTheLibrary][.TEST]
 
@@ -23,7 +24,7 @@ ARCHIVE = "crates/waywire_c/out/libwaywire_c.a"
 # The commands that are not run here: those that run this program, and those that build the library.
 NOT_RUN = ("./test", "make UNPROVED=1")
 # The section whose commands need the library for C, and a compositor, and what these commands write into out/.
-AT_A_COMPOSITOR = "## Watch a client and its compositor"
+AT_A_COMPOSITOR = "## Debug a program"
 MADE = ("session.rec", "session.rec.tables", "session.html")
 UNPROVED = "waywire: this run is not proved (./waywire --build proves and builds the program)"
 TIME = re.compile(r"^ +\d+\.\d{6} ")
@@ -38,7 +39,8 @@ def need_library():
     made = subprocess.run(["make", "-q", ARCHIVE], cwd=TOP, capture_output=True, check=False)
     if made.returncode or not os.path.exists(f"{TOP}/out/c/libwaywire.a"):
         raise Skipped("the library for C is not built: make")
-    checks.make("include/waywire-core.h", "rust/waywire/src/wayland.rs")
+    checks.make("include/waywire-core.h", "rust/waywire/src/wayland.rs", "rust/waywire/src/data_device.rs",
+                "rust/waywire-sys/lib/libwaywire.a")
 
 
 @contextlib.contextmanager
@@ -71,7 +73,8 @@ def put_aside(folder, names):
 
 def blocks(text, language=""):
     """The fenced blocks of a text in this language."""
-    return re.findall(rf"(?ms)^```{language}\n(.*?)^```$", text)
+    found = re.findall(r"(?ms)^```([a-z]*)\n(.*?)^```$", text)
+    return [block for named, block in found if named == language]
 
 
 def section(page, heading):
@@ -162,12 +165,6 @@ class OfPages(unittest.TestCase):
         before, rest = read("README.md").split(f"\n{AT_A_COMPOSITOR}\n")
         return before, *re.split(r"\n(?=## )", rest, maxsplit=1)
 
-    def program(self, language):
-        """The program of docs/GUIDE.md in this language."""
-        fence = "c" if language == "C" else "rust"
-        [text] = blocks(section("docs/GUIDE.md", f"### The loop in {language}"), fence)
-        return text
-
 
 class AtOnce(OfPages):
     """Commands and programs that run without a proof."""
@@ -175,20 +172,21 @@ class AtOnce(OfPages):
     @unittest.skipUnless(is_installed("rt"), "the toolchain is not installed")
     def test_commands(self):
         before, _, after = self.parts()
-        self.try_all(before, {**os.environ})
-        self.try_all(after, {**os.environ})
+        self.try_all(before + after, {**os.environ})
 
     def test_c_compiles(self):
         need("cc", "c++", "make")
         self.assertTrue(checks.make("include/waywire-core.h", "include/waywire-version.h"))
         for words in STRICT:
-            run([*words, "-Wall", "-Wextra", "-Werror", "-fsyntax-only", "-I", "include", "-"],
-                input=self.program("C").encode())
+            for program in (read("examples/c/loop.c"), *blocks(read("README.md"), "c")):
+                # Callbacks do not use all that they get.
+                run([*words, "-Wall", "-Wextra", "-Werror", "-Wno-unused-parameter", "-fsyntax-only", "-I", "include",
+                     "-"], input=program.encode())
 
     @unittest.skipUnless(is_installed("rt"), "the toolchain is not installed")
     def test_rattle(self):
-        """The program over a compositor in the same process, with a copy of the crates below it."""
-        program = f"#![tactic(auto)]\n\n{self.program('Rattle')}{read('tests/guide_compositor.rattle')}"
+        """The guide's program over a compositor in the same process, with a copy of the crates below it."""
+        program = f"#![tactic(auto)]\n\n{read('examples/loop.rattle')}{read('tests/guide_compositor.rattle')}"
         said = checks.tried("guide", "wl anyhow", {"main": program})
         # The memory that was sent, and the keymap that was received.
         self.assertEqual(said.splitlines()[:2], ["closed 3", "closed 7"], said)
@@ -207,17 +205,15 @@ class OverTheLibrary(OfPages):
     def test_c(self):
         """The commands of the page, in a folder with the library at the same place as in the repository."""
         with compositor() as board, tempfile.TemporaryDirectory() as room:
-            for name in ("include", "out"):
+            for name in ("examples", "include", "out"):
                 os.symlink(f"{TOP}/{name}", f"{room}/{name}")
-            with open(f"{room}/client.c", "w", encoding="utf-8") as file:
-                file.write(self.program("C"))
             (build, _), (client, shown) = commands(section("docs/GUIDE.md", "### The loop in C"))
             run(build.split(), cwd=room)
             checked = checks.VALGRIND if is_installed("valgrind") else []
             self.assertEqual(run([*checked, client], cwd=room, env=board.env).splitlines(), shown)
 
     def test_rust(self):
-        """A package of its own, with the lines of rust/waywire/README.md, which uses the folder out/c."""
+        """A package of its own, with the lines of rust/waywire/README.md, which links the archive that `make` built."""
         need("cargo")
         [manifest] = blocks(read("rust/waywire/README.md"), "toml")
         manifest = manifest.replace("../waywire/rust/waywire", f"{TOP}/rust/waywire")
@@ -225,12 +221,13 @@ class OverTheLibrary(OfPages):
             os.mkdir(f"{room}/src")
             with open(f"{room}/Cargo.toml", "w", encoding="utf-8") as file:
                 file.write(f'[package]\nname = "client"\nversion = "0.0.0"\nedition = "2021"\n\n{manifest}')
-            with open(f"{room}/src/main.rs", "w", encoding="utf-8") as file:
-                file.write(self.program("Rust"))
             env = {**os.environ, **{it: board.env[it] for it in ("XDG_RUNTIME_DIR", "WAYLAND_DISPLAY")},
-                   "WAYWIRE_DIR": f"{TOP}/out/c", "CARGO_NET_OFFLINE": "true",
-                   "CARGO_TARGET_DIR": f"{TOP}/out/pages", "RUSTFLAGS": "-D warnings"}
-            self.assertEqual(run(["cargo", "run", "--quiet"], cwd=room, env=env), "a keymap of 0 bytes\n")
+                   "CARGO_NET_OFFLINE": "true", "CARGO_TARGET_DIR": f"{TOP}/out/pages", "RUSTFLAGS": "-D warnings"}
+            [readme], [guide] = (blocks(read(it), "rust") for it in ("README.md", "docs/GUIDE.md"))
+            for program, shown in ((guide, "a keymap of 0 bytes\n"), (readme, "wl_compositor, version ")):
+                with open(f"{room}/src/main.rs", "w", encoding="utf-8") as file:
+                    file.write(program)
+                self.assertIn(shown, run(["cargo", "run", "--quiet"], cwd=room, env=env))
 
 
 def main():

@@ -24,7 +24,8 @@ The words are quoted as in a shell; the program runs in the root of the reposito
 `words:` each is run, and all of these runs must be the same. A missing `output:` or `error:` is empty.
 `output has:` gives a part of standard output. An empty line between two lines of a text belongs to the
 text. With a line `output to: full` the program has a full disk as its standard output, with `closed` none
-at all, and with `nobody` a pipe without a reader; with several of these words it is run with each.
+at all, and with `nobody` a pipe without a reader; with several of these words it is run with each. A line
+`input: FILE` gives it that file as its standard input; without this line there is none.
 
 These words stand for files that are made for the run: {empty}; {longest} has 16,777,216 bytes, and {too-long}
 one more; {many} has 200,001 pieces. These words stand for paths at which there is no file: {no-file};
@@ -52,7 +53,7 @@ SYNC = "> 0100000000000c0002000000\n< 0200000000000c0007000000\n< 0100000001000c
 
 def read_case(path):
     """The fields of a case: words, status, destination of the output, and texts."""
-    case = {"words": [], "status": None, "output to": "us"}
+    case = {"words": [], "status": None, "output to": "us", "input": os.devnull}
     field, empty = None, 0
     with open(path, encoding="utf-8") as file:
         lines = file.read().split("\n")
@@ -102,11 +103,17 @@ def make_files(folder):
     return files
 
 
-def run(program, words, where, files):
-    """The standard output, the standard error and the status of a run with these words, whose output goes there."""
+def run(program, words, given, where, files):
+    """The standard output, the standard error and the status of a run with these words, which reads the given file as
+    its standard input and whose output goes there."""
     words = [files.get(word, word) for word in shlex.split(words)]
-    options = {"cwd": checks.TOP, "stdin": subprocess.DEVNULL, "stderr": subprocess.PIPE}
-    options["timeout"] = checks.LONG
+    with open(os.path.join(checks.TOP, files.get(given, given)), "rb") as file:
+        options = {"cwd": checks.TOP, "stdin": file, "stderr": subprocess.PIPE, "timeout": checks.LONG}
+        return run_with(program, words, where, options)
+
+
+def run_with(program, words, where, options):
+    """The same with these options of a process."""
     if where == "us":
         done = subprocess.run([program, *words], stdout=subprocess.PIPE, check=False, **options)
         return done.stdout, done.stderr, done.returncode
@@ -160,7 +167,7 @@ def wrong_with(program, case, words, where, files):
     """What is wrong with one run of a case, or None."""
     folder = os.path.dirname(files["{empty}"])
     before = listed(folder)
-    output, error, status = run(program, words, where, files)
+    output, error, status = run(program, words, case["input"], where, files)
     after = listed(folder)
     if after != before:
         return f"the folder has {sorted(set(after) ^ set(before))} changed"

@@ -15,11 +15,13 @@ takes seconds. Then it tries the mutants of the named crates, and runs the tests
 of them, and the stored runs if the program does. A crate of unproved.txt can be named too: it is run,
 and so is what uses it.
 
-For each step it prints a line with the result. The last line is 'N passed, M failed'."""
+For each step it prints a line with the result; on a terminal, the last line says what runs. The last line is 'N passed, M failed'."""
 
+import contextlib
 import glob
 import re
 import subprocess
+import sys
 import threading
 import time
 from concurrent.futures import ThreadPoolExecutor
@@ -43,8 +45,30 @@ class Count:
 
     def __init__(self):
         self.passed = self.failed = 0
-        self.left = []
+        self.left, self.running, self.began = [], [], time.monotonic()
         self.alone = threading.Lock()
+        if sys.stdout.isatty():
+            threading.Thread(target=self.show, daemon=True).start()
+
+    def show(self):
+        """On a terminal, the last line says what runs, and for how long."""
+        while True:
+            time.sleep(1)
+            with self.alone:
+                if self.running:
+                    line = f"{time.monotonic() - self.began:.0f} s: {', '.join(self.running)}"
+                    print(f"\r\33[K{line[:79]}", end="", flush=True)
+
+    @contextlib.contextmanager
+    def step(self, what):
+        """While a step runs, it is among those that `show` names."""
+        with self.alone:
+            self.running.append(what)
+        try:
+            yield
+        finally:
+            with self.alone:
+                self.running.remove(what)
 
     def leave(self, what):
         with self.alone:
@@ -54,7 +78,8 @@ class Count:
         with self.alone:
             self.passed += passed
             self.failed += failed
-            print(f"{what} ({time.monotonic() - began:.0f} s)", flush=True)
+            start = "\r\33[K" if sys.stdout.isatty() else ""
+            print(f"{start}{what} ({time.monotonic() - began:.0f} s)", flush=True)
             if failed:
                 print(said.rstrip("\n"), flush=True)
 
@@ -72,7 +97,8 @@ def has_mutants(crate):
 def tool(count, what, *words):
     """Runs a tool whose last line counts what passed and what failed."""
     began = time.monotonic()
-    status, said = run(".", *words)
+    with count.step(what):
+        status, said = run(".", *words)
     numbers = COUNTED.findall(said)
     passed, failed = map(int, numbers[-1]) if numbers else (0, 1)
     skipped = re.findall("(?m)^skipped: .*\n", said)
@@ -90,7 +116,8 @@ def layout(name, count):
 def proof(name, count):
     """Proves the crate and returns whether it is proved."""
     began = time.monotonic()
-    status, said = run(f"crates/{name}", "rt", "check")
+    with count.step(f"{name}: its proof"):
+        status, said = run(f"crates/{name}", "rt", "check")
     what = f"{name}: {'NOT PROVED' if status else 'proved'}"
     count.add(what, not status, bool(status), began, said)
     return not status
@@ -100,7 +127,8 @@ def stored_runs(count):
     """Runs the stored runs with the program that `./waywire` runs. Returns its path, or `None`, and how it was
     made."""
     began = time.monotonic()
-    status, said = run(".", "./waywire", "--version")
+    with count.step("compiling the program"):
+        status, said = run(".", "./waywire", "--version")
     if status:
         count.add("stored runs: FAILED: no program", 0, 1, began, said)
         return None, ""

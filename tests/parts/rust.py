@@ -4,8 +4,9 @@
 
 cargo builds the library without any registry. These are run:
 
-- its lints, its tests, also under valgrind, and its documentation, also if the library for C is not installed;
-- its examples, also outside the repository: the window at the example compositor and at one of the distribution;
+- its lints, its tests, also under valgrind, its documentation, also if the library for C is not installed, what
+  `cargo package` packs, and how it is linked, statically and not;
+- its examples, also outside the repository: the window at both example compositors and at one of the distribution;
   clients of the distribution at the example compositor, where they also copy and paste; clients that ask it for more
   than it has; the client that pastes, there, at sway and during a drag; the window, a client of the distribution and a
   clipboard through the proxy, which leaves no descriptor open;
@@ -14,7 +15,9 @@ cargo builds the library without any registry. These are run:
 It prints what failed and what was skipped. The last line counts. The exit status is 0 if nothing failed."""
 
 import contextlib
+import glob
 import os
+import re
 import select
 import shutil
 import signal
@@ -28,11 +31,34 @@ from scripts import protocol_files, usage
 from tests import checks, clipboards, compositors
 from tests.checks import LONG, TOP, Failed, Skipped, can, comes_to_listen, end, has_come, need
 
-PACKAGE = os.path.join(TOP, "rust", "waywire")
+PACKAGES = os.path.join(TOP, "rust")
 OUT = os.path.join(TOP, "out", "rust")
 INSTALLED = os.path.join(OUT, "installed")
 EXAMPLES = os.path.join(OUT, "debug", "examples")
 TABLES = os.path.join(TOP, "protocols")
+# No library is found by pkg-config.
+WITHOUT_LIBRARY = {"PKG_CONFIG_PATH": "/nowhere", "PKG_CONFIG_LIBDIR": "/nowhere"}
+# A program over the packed packages.
+OVER_PACKED = """[package]
+name = "over-packed"
+version = "0.0.0"
+edition = "2021"
+publish = false
+
+[dependencies]
+waywire.path = "{package}"
+
+[patch.crates-io]
+waywire-sys.path = "{declarations}"
+
+[workspace]
+"""
+PRINTS_A_NAME = """fn main() {
+    let tables = waywire::Tables::core().expect("there is memory");
+    let surface = tables.interface("wl_surface").expect("the core has it");
+    println!("{}", tables.name(surface).expect("it has a name"));
+}
+"""
 # The first id of the objects that a server makes.
 FIRST_SERVER_ID = 0xff000000
 
@@ -42,8 +68,8 @@ def environment(**more):
 
 
 def run(words, timeout=LONG, **more):
-    """Runs a command in the package's folder, and returns its output."""
-    return checks.run(words, with_error=True, cwd=PACKAGE, env=environment(**more), timeout=timeout)
+    """Runs a command in the folder of the packages, and returns its output."""
+    return checks.run(words, with_error=True, cwd=PACKAGES, env=environment(**more), timeout=timeout)
 
 
 class Running:
@@ -76,14 +102,20 @@ class Running:
         end(self.process)
 
 
+def cargo_version():
+    """The first two numbers of cargo's version."""
+    found = re.match(r"cargo (\d+)\.(\d+)", checks.run(["cargo", "--version"]))
+    return tuple(map(int, found.groups())) if found else (0, 0)
+
+
 def can_make_examples():
-    """Whether the examples can be built: this makes modules from the files of xdg-shell and of the core."""
-    return {"xdg-shell", "data-device"} <= set(protocol_files.found())
+    """Whether the examples can be built: `make` makes a module for them from the file of xdg-shell."""
+    return "xdg-shell" in protocol_files.found()
 
 
 def example(name):
     if not can_make_examples():
-        raise Skipped("wayland-protocols or libwayland-dev is not installed")
+        raise Skipped("wayland-protocols is not installed")
     return os.path.join(EXAMPLES, name)
 
 
@@ -96,15 +128,15 @@ def example_with_data_control():
 
 def lints():
     if can("the layout of Rust", "rustfmt"):
-        run(["cargo", "fmt", "--check"])
+        run(["cargo", "fmt", "--all", "--check"])
     if subprocess.run(["cargo", "clippy", "--version"], capture_output=True).returncode:
         raise Skipped("clippy is not installed")
     targets = ["--all-targets"] if can_make_examples() else ["--lib", "--tests"]
-    run(["cargo", "clippy", *targets, "--", "-D", "warnings"])
+    run(["cargo", "clippy", "--workspace", *targets, "--", "-D", "warnings"])
 
 
 def tests():
-    run(["cargo", "test", *([] if can_make_examples() else ["--lib", "--tests"])])
+    run(["cargo", "test", "--workspace", *([] if can_make_examples() else ["--lib", "--tests"])])
 
 
 def every_message_goes_by_its_typed_call():
@@ -118,29 +150,93 @@ def every_message_goes_by_its_typed_call():
 
 
 def documentation():
-    run(["cargo", "doc", "--no-deps"], RUSTDOCFLAGS="-D warnings")
+    run(["cargo", "doc", "--workspace", "--no-deps"], RUSTDOCFLAGS="-D warnings")
 
 
 def documentation_without_the_library():
     """It can be made if the library for C is not installed. Linking then says what is missing."""
-    env = environment(PKG_CONFIG_PATH="/nowhere", PKG_CONFIG_LIBDIR="/nowhere", RUSTDOCFLAGS="-D warnings",
+    # Nor does the archive count that `make` has put into the package.
+    env = environment(**WITHOUT_LIBRARY, WAYWIRE_STATIC="0", RUSTDOCFLAGS="-D warnings",
                       CARGO_TARGET_DIR=os.path.join(OUT, "without"))
     del env["WAYWIRE_DIR"]
     told = "libwaywire is not found"
     for words, is_linked in ((["doc", "--no-deps"], False), (["test", "--test", "threads"], True)):
-        it = subprocess.run(["cargo", *words], cwd=PACKAGE, env=env, check=False, capture_output=True, text=True)
+        it = subprocess.run(["cargo", *words], cwd=PACKAGES, env=env, check=False, capture_output=True, text=True)
         if told not in it.stderr or (it.returncode == 0) == is_linked:
             raise Failed(f"cargo {words[0]}: status {it.returncode}\n{it.stderr[-800:]}")
 
 
+def packages():
+    """Both can be packed without a registry, with all that `make` makes, and what is packed builds. A program over
+    them links the archive that is packed, and needs nothing else of the library."""
+    if cargo_version() < (1, 90):
+        raise Skipped("cargo is older than 1.90, and packs no packages that need each other")
+    packed = os.path.join(OUT, "packed")
+    shutil.rmtree(os.path.join(packed, "package"), ignore_errors=True)
+    env = environment(CARGO_TARGET_DIR=packed)
+    words = ["cargo", "package", "--workspace", "--offline", "--allow-dirty"]
+    checks.run(words, with_error=True, cwd=PACKAGES, env=env, timeout=LONG)
+    [package], [declarations] = (glob.glob(f"{packed}/package/{it}-[0-9]*[0-9]") for it in ("waywire", "waywire-sys"))
+    wanted = [f"{package}/{it}" for it in ("src/wayland.rs", "src/data_device.rs", "examples/window.rs")]
+    missing = [it for it in (*wanted, f"{declarations}/lib/libwaywire.a") if not os.path.exists(it)]
+    if missing:
+        raise Failed(f"not packed: {missing}")
+    runs_over(package, declarations)
+
+
+def runs_over(package, declarations):
+    """A program over packages in these folders runs, and no library is found outside them."""
+    env = environment(**WITHOUT_LIBRARY, CARGO_TARGET_DIR=os.path.join(OUT, "over-packed"))
+    del env["WAYWIRE_DIR"]
+    with tempfile.TemporaryDirectory() as room:
+        os.mkdir(f"{room}/src")
+        for name, text in {"Cargo.toml": OVER_PACKED.format(package=package, declarations=declarations),
+                           "src/main.rs": PRINTS_A_NAME}.items():
+            with open(f"{room}/{name}", "w", encoding="utf-8") as file:
+                file.write(text)
+        said = checks.run(["cargo", "run", "--quiet"], with_error=True, cwd=room, env=env, timeout=LONG)
+    if said != "wl_surface\n":
+        raise Failed(f"it says {said!r}")
+
+
 def examples_outside_the_repository():
-    """A copy of the installed package builds with the installed library, and needs nothing else."""
+    """A copy of the installed packages builds with the installed library, and needs nothing else."""
     example("window")
     with tempfile.TemporaryDirectory() as folder:
         copy = os.path.join(folder, "copy")
         shutil.copytree(os.path.join(INSTALLED, "share", "waywire", "rust"), copy)
         env = environment(CARGO_TARGET_DIR=os.path.join(OUT, "outside"))
-        checks.run(["cargo", "build", "--examples"], with_error=True, cwd=copy, env=env, timeout=LONG)
+        checks.run(["cargo", "build", "--examples"], with_error=True, cwd=f"{copy}/waywire", env=env, timeout=LONG)
+
+
+def linked_as_wanted():
+    """From the installed packages, an example is linked with the archive by the feature `static`, and then shows its
+    window with no libwaywire.so in reach; pkg-config finds the archive. With WAYWIRE_STATIC=0 it is linked with the
+    shared library, in the folder of WAYWIRE_LIB_DIR. If the wanted library is not there, the build says so."""
+    example("window")
+    need("ldd", "pkg-config")
+    with tempfile.TemporaryDirectory() as folder:
+        copy = os.path.join(folder, "copy")
+        shutil.copytree(os.path.join(INSTALLED, "share", "waywire", "rust"), copy)
+        os.makedirs(f"{folder}/shared/lib")
+        shutil.copy(os.path.join(INSTALLED, "lib", "libwaywire.so"), f"{folder}/shared/lib")
+        env = environment(CARGO_TARGET_DIR=os.path.join(OUT, "linked"))
+        for it in ("WAYWIRE_DIR", "LD_LIBRARY_PATH"):
+            env.pop(it, None)
+        program = os.path.join(OUT, "linked", "debug", "examples", "window")
+        for words, variables, is_shared in (
+                ([], {"WAYWIRE_STATIC": "0", "WAYWIRE_LIB_DIR": f"{INSTALLED}/lib"}, True),
+                (["--features", "static"], {"PKG_CONFIG_PATH": f"{INSTALLED}/lib/pkgconfig"}, False)):
+            build = ["cargo", "build", "--example", "window", *words]
+            checks.run(build, with_error=True, cwd=f"{copy}/waywire", env={**env, **variables}, timeout=LONG)
+            needed = checks.run(["ldd", program], env=env)
+            if ("libwaywire" in needed) != is_shared:
+                raise Failed(f"{words} {variables}: it needs {needed}")
+        shows_a_window(program)
+        said = checks.run(["cargo", "check", "--features", "static"], with_error=True, cwd=f"{copy}/waywire",
+                          env={**env, "WAYWIRE_DIR": f"{folder}/shared"}, timeout=LONG)
+        if f"no libwaywire.a in {folder}/shared/lib" not in said:
+            raise Failed(f"it does not say that there is no archive: {said}")
 
 
 def no_error_under_valgrind():
@@ -149,19 +245,56 @@ def no_error_under_valgrind():
     leaks = [f"--{it}=definite" for it in ("show-leak-kinds", "errors-for-leak-kinds")]
     for test in ("core", "descriptors", "following", "more_tables", "socket", "threads", "typed"):
         said = run(["cargo", "test", "--no-run", "--test", test])
-        program = os.path.join(PACKAGE, said.rpartition("(")[2].partition(")")[0])
+        program = os.path.join(PACKAGES, said.rpartition("(")[2].partition(")")[0])
         run(["valgrind", "-q", "--leak-check=full", *leaks, "--error-exitcode=9", program, "--test-threads=1"])
 
 
-def window_at_our_compositor():
+def shows_a_window(window):
+    """The window's picture comes to the example compositor."""
     with tempfile.TemporaryDirectory() as folder:
         path = os.path.join(folder, "wayland-test")
         ours = Running([example("compositor"), path], path)
         try:
-            run([example("window")], XDG_RUNTIME_DIR=folder, WAYLAND_DISPLAY="wayland-test")
+            run([window], XDG_RUNTIME_DIR=folder, WAYLAND_DISPLAY="wayland-test")
             if ours.ended() != "a picture of 64 by 64, its first pixel ff336699\n":
                 raise Failed(f"the compositor says {ours.output()!r}")
         finally:
+            ours.stop()
+
+
+def window_at_our_compositor():
+    shows_a_window(example("window"))
+
+
+def two_clients_at_the_small_compositor():
+    """A client of the distribution draws one picture after another, and our window shows its own meanwhile."""
+    need("weston-simple-shm")
+    with tempfile.TemporaryDirectory() as folder:
+        path = os.path.join(folder, "wayland-test")
+        where = {"XDG_RUNTIME_DIR": folder, "WAYLAND_DISPLAY": "wayland-test"}
+        ours = Running([example("small_compositor"), path], path)
+        client = subprocess.Popen(["weston-simple-shm"], env=environment(**where), stderr=subprocess.DEVNULL)
+
+        def pictures(number):
+            return ours.output().count(f"client {number} shows a picture\n")
+
+        def draws(count):
+            if not has_come(lambda: pictures(0) >= count or client.poll() is not None) or client.poll() is not None:
+                raise Failed(f"weston-simple-shm does not draw: the compositor says {ours.output()!r}")
+
+        try:
+            compositors.connects(client, path)
+            draws(3)
+            run([example("window")], **where)
+            draws(pictures(0) + 3)
+            client.send_signal(signal.SIGINT)
+            if client.wait(LONG):
+                raise Failed(f"weston-simple-shm: status {client.returncode}")
+            ours.ended()
+            if pictures(1) != 1:
+                raise Failed(f"the compositor says {ours.output()!r}")
+        finally:
+            client.kill()
             ours.stop()
 
 
@@ -434,8 +567,10 @@ def proxy_where_an_output_is_replaced():
 
 
 TESTS_IN_ORDER = (lints, tests, every_message_goes_by_its_typed_call, documentation,
-                  documentation_without_the_library, examples_outside_the_repository, no_error_under_valgrind,
-                  window_at_our_compositor, client_of_weston_at_our_compositor, client_of_gtk_at_our_compositor,
+                  documentation_without_the_library, packages, examples_outside_the_repository, linked_as_wanted,
+                  no_error_under_valgrind,
+                  window_at_our_compositor, two_clients_at_the_small_compositor,
+                  client_of_weston_at_our_compositor, client_of_gtk_at_our_compositor,
                   texts_at_our_compositor, clients_go_at_our_compositor, much_at_our_clipboard,
                   greedy_clients_at_our_compositor, idle_clients_at_our_compositor, compositor_that_stays,
                   gtk_copies_and_pastes_at_our_compositor, foot_copies_at_our_compositor,

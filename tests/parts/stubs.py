@@ -143,8 +143,8 @@ class Headers(unittest.TestCase):
                         self.assertEqual((ran.returncode, ran.stderr.decode()), (0, ""), words)
 
     def test_no_protocol(self):
-        for file in (f"{TOP}/crates.txt", f"{TOP}/no such file"):
-            self.assertEqual(stubs(file, status=1), "")
+        for file, status in ((f"{TOP}/crates.txt", 1), (f"{TOP}/no such file", 3)):
+            self.assertEqual(stubs(file, status=status), "")
 
 
 # Names that Rust or the modules have, and an argument of an interface that is nowhere.
@@ -176,7 +176,7 @@ class Rust(unittest.TestCase):
     @unittest.skipUnless(is_installed("cargo"), "cargo is not installed")
     def test_awkward_names(self):
         need("make")
-        self.assertTrue(make("rust/waywire/src/wayland.rs"))
+        self.assertTrue(make("rust/waywire/src/wayland.rs", "rust/waywire/src/data_device.rs"))
         with tempfile.TemporaryDirectory() as room:
             os.mkdir(f"{room}/src")
             for name, text in {

@@ -3,6 +3,7 @@
 
 #![allow(dead_code)]
 
+pub use std::ffi::CStr;
 use std::fs::File;
 use std::io::Write;
 use std::os::fd::{AsFd, OwnedFd};
@@ -10,15 +11,16 @@ use std::os::unix::fs::FileExt;
 use std::sync::OnceLock;
 use waywire::wayland::wl_registry::WlRegistry;
 use waywire::{
-    Client, Connection, Fixed, Handle, Incoming, Object, OwnedMessage, Server, Sizes, Tables,
+    Announced, Client, Connection, Fixed, Handle, Incoming, Object, OwnedMessage, Server, Sizes,
+    Tables,
 };
 
 static TABLES: OnceLock<Tables> = OnceLock::new();
 
 pub const INTS: [i32; 3] = [i32::MIN, i32::MAX, 0];
 pub const UINTS: [u32; 3] = [0, u32::MAX, 1];
-pub const TEXTS: [&[u8]; 3] = [b"", b"a text of more than one word", b"\x01\xff\""];
-pub const NULLABLE_TEXTS: [Option<&[u8]>; 3] = [Some(TEXTS[0]), Some(TEXTS[1]), None];
+pub const TEXTS: [&CStr; 3] = [c"", c"a text of more than one word", c"\x01\xff\""];
+pub const NULLABLE_TEXTS: [Option<&CStr>; 3] = [Some(TEXTS[0]), Some(TEXTS[1]), None];
 
 pub fn fixed(corner: usize) -> Fixed {
     Fixed::from_raw([i32::MIN, i32::MAX, -1][corner])
@@ -74,10 +76,10 @@ impl Pair {
         let tables = TABLES.get_or_init(|| {
             texts.iter().fold(Tables::core().unwrap(), |tables, it| tables.read(it).unwrap())
         });
-        let mut client = Client::new(tables, &Sizes::default()).unwrap();
+        let client = Client::new(tables, &Sizes::default()).unwrap();
         let server = Server::new(tables, &Sizes::default()).unwrap();
         let display = waywire::wayland::wl_display::WlDisplay(client.display());
-        let registry = display.get_registry(&mut client).unwrap();
+        let registry = display.get_registry(&client).unwrap();
         let mut pair = Pair { client, server, registry };
         assert_eq!(pair.request().target, display.0);
         pair
@@ -98,7 +100,7 @@ impl Pair {
         let place = tables.interface(interface).unwrap();
         let version = tables.version(place).unwrap();
         let name = self.server.add_global(place, version).unwrap();
-        assert_eq!(self.server.announce(), Ok(1));
+        assert_eq!(self.server.announce(), Ok(Announced { count: 1, all: true }));
         carry(&mut self.server, &mut self.client);
         while self.client.next().unwrap().is_some() {}
         let bound = self.client.bind(self.registry.0, name, interface, version).unwrap();

@@ -196,8 +196,8 @@ pub fn reach_waywire_c_put() {
         other = "rattle-kit-0 logic 1"
         for rt, said in (
             (None, "make: the toolchain's command rt is not on this machine\n"),
-            (f"echo {other}", f"make: UNPROVED=1 takes the toolchain {unproved.KNOWN}, and here is {other}: "
-                              "without it, make proves the library\n"),
+            (f"echo {other}", f"make: UNPROVED=1 takes the toolchain {' or '.join(unproved.KNOWN)}, and here is "
+                              f"{other}: without it, make proves the library\n"),
         ):
             if rt:
                 write(f"{self.room}/bin/rt", f"#!/bin/sh\n{rt}\n", 0o755)

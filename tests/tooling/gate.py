@@ -104,7 +104,7 @@ class TimedGate(unittest.TestCase):
         run.spent, run.table = [(60.0, 20.0), (30.0, 10.0), (10.0, 5.0)], {"wl_wire": {"proof": 1.0, "mutants": 0.5}}
         said = self.tool.figures(run, {"RT_JOBS": "4"}, "2026-01-02", "abc")
         self.assertIn("On 2026-01-02 at commit abc, on ", said)
-        self.assertIn("- in all 100.0 processor minutes in 35.0 minutes.", said)
+        self.assertIn(", in all 100.0 processor minutes in 35.0 minutes.", said)
         self.assertIn("| `wl_wire` | 1.0 | 0.5 | 1.5 |\n", said)
 
     def test_other_processes_are_not_counted(self):
@@ -150,6 +150,9 @@ class TimedGate(unittest.TestCase):
         found = self.tool.rows(table, ["a", "b"])[2:]
         self.assertEqual(found[0], "| `a` | 0.2 | - | 0.2 |")
         self.assertEqual(found[2], "| All | 1.2 | 1.0 | 2.2 |")
+        self.assertEqual(self.tool.rows(table, ["a", "b"], 2)[2:], found)
+        self.assertEqual(self.tool.rows({**table, "c": table["a"]}, ["a", "b"], 1)[2:], [
+            "| `b` | 1.0 | 1.0 | 2.0 |", "| the other 2 | 0.5 | - | 0.5 |", "| All | 1.5 | 1.0 | 2.5 |"])
 
 
 class Quick(unittest.TestCase):

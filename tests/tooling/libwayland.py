@@ -16,11 +16,12 @@ from scripts import interfaces_from_xml
 from tests import checks
 from tests.checks import LONG, TOP, Failed, Skipped, need, read, run
 from tests.libwayland import pasting, programs
-from tools.waywire import protocol
+from tools.waywire import protocol, table_text
 
 OURS = f"{TOP}/c/libwayland"
 TESTS = f"{TOP}/tests/libwayland"
 SONAME = "libwayland-client.so.0"
+INCLUDES = [f"-I{OURS}/common", f"-I{OURS}/client"]
 WARNINGS = ["-std=c99", "-Wall", "-Wextra", "-Wpedantic", "-Werror"]
 
 
@@ -46,8 +47,8 @@ def part_of_library(room):
     data = os.path.join(room, "interfaces.c")
     with open(data, "w", encoding="utf-8") as file:
         file.write(interfaces_from_xml.text_of([f"{TOP}/protocols/core/{it}.xml" for it in XML]))
-    run(["cc", *WARNINGS, "-shared", "-fPIC", "-fvisibility=hidden", f"-I{OURS}", data, f"{OURS}/util.c",
-         f"{OURS}/log.c", f"-Wl,-soname,{SONAME}", "-o", os.path.join(folder, SONAME)])
+    run(["cc", *WARNINGS, "-shared", "-fPIC", "-fvisibility=hidden", *INCLUDES, data, f"{OURS}/common/util.c",
+         f"-Wl,-soname,{SONAME}", "-o", os.path.join(folder, SONAME)])
     return folder
 
 
@@ -55,27 +56,56 @@ XML = ("core", "data-device")
 
 
 class Types(unittest.TestCase):
-    """wayland-abi.h beside the headers of libwayland."""
+    """wayland-abi.h and wayland-client-abi.h beside the headers of libwayland."""
 
     def test_layout(self):
         need_headers()
         said = []
         with tempfile.TemporaryDirectory() as room:
-            for name, header in (("layout-ours", '"wayland-abi.h"'), ("layout-theirs", "<wayland-client-core.h>")):
-                said.append(run([compiled(room, name, f"-DHEADER={header}", f"-I{OURS}")]))
+            for name, header in (("layout-ours", '"wayland-client-abi.h"'), ("layout-theirs", "<wayland-client-core.h>")):
+                said.append(run([compiled(room, name, f"-DHEADER={header}", *INCLUDES)]))
         self.assertEqual(*said)
         self.assertGreater(said[0].count("\n"), 30)
 
-    def test_functions(self):
-        """A compiler accepts both declarations in one file."""
-        need_headers()
-        ours = re.sub(r"(?s)/\*.*?\*/", "", read("c/libwayland/wayland-abi.h"))
-        functions = re.findall(r"(?m)^(?!typedef)[a-z][\w* ]*?\bwl_\w+\([^{};]*\);", ours)
+    def declared_in_both(self, header, *paths):
+        """A compiler accepts our declarations and those of libwayland in one file, and refuses others."""
+        ours = re.sub(r"(?s)/\*.*?\*/", "", "".join(map(read, paths)))
+        functions = re.findall(r"(?m)^(?!typedef)[a-z][\w* ]*?\bwl_\w+\([^{};]*\)(?=;|\n\t__attribute__)", ours)
         self.assertGreater(len(functions), 60)
-        text = "#include <wayland-client-core.h>\nstruct timespec;\n" + "\n".join(functions)
+        types = "struct timespec;\ntypedef void (*wl_user_data_destroy_func_t)(void *);\n"
+        text = f"#define WL_HIDE_DEPRECATED\n#include <{header}>\n" + types + "".join(f"{it};\n" for it in functions)
         words = ["cc", *WARNINGS, "-fsyntax-only", "-x", "c", "-"]
         run(words, input=text.encode())
         self.assertRaises(Failed, run, words, input=text.replace("uint32_t opcode", "uint64_t opcode").encode())
+
+    def test_functions(self):
+        """A compiler accepts both declarations in one file."""
+        ours = "common/wayland-abi.h", "client/wayland-client-abi.h"
+        self.accepts("wayland-client-core.h", "struct timespec;", ours, "uint32_t opcode", 60)
+
+    def test_functions_of_server(self):
+        """As above; also the structs that compositors keep themselves, and the values of the enums."""
+        later = "typedef void (*wl_user_data_destroy_func_t)(void *data);"
+        self.accepts("wayland-server-core.h", later, ("server/wayland-server-abi.h",), "uint32_t opcode", 90)
+        need_headers()
+        with tempfile.TemporaryDirectory() as room:
+            said = [run([compiled(room, name, f"-DSERVER_HEADER={header}", *INCLUDES, f"-I{OURS}/server")])
+                    for name, header in (("server_layout-ours", '"wayland-server-abi.h"'),
+                                         ("server_layout-theirs", "<wayland-server-core.h>"))]
+        self.assertEqual(*said)
+        self.assertGreater(said[0].count("\n"), 11)
+
+    def accepts(self, header, before, ours, part, least):
+        """A compiler accepts the functions of our headers behind the system's, unless a part of one is changed."""
+        need_headers()
+        both = re.sub(r"(?s)/\*.*?\*/", "", "".join(read(f"c/libwayland/{it}") for it in ours))
+        functions = re.findall(r"(?m)^(?!typedef)[a-z][\w* ]*?\bwl_\w+\([^{};]*\);", both)
+        self.assertGreater(len(functions), least)
+        text = f"#include <{header}>\n{before}\n" + "\n".join(functions)
+        words = ["cc", *WARNINGS, "-fsyntax-only", "-x", "c", "-"]
+        run(words, input=text.encode())
+        self.assertIn(part, text)
+        self.assertRaises(Failed, run, words, input=text.replace(part, part.replace("32", "64")).encode())
 
 
 class Interfaces(unittest.TestCase):
@@ -91,11 +121,14 @@ class Interfaces(unittest.TestCase):
             run([sys.executable, "-m", "tests.libwayland.interfaces", ours, system])
 
     def test_data_device(self):
-        """Its messages are those of the table text, and of libwayland's own file."""
+        """Its messages are those of the table text, which has newer ones behind them, and of libwayland's own file."""
         path = f"{TOP}/protocols/core/data-device.xml"
-        made = run([f"{TOP}/tools/tables-from-xml", path])
-        stored = read("protocols/data-device.tables")
-        self.assertEqual(*([line for line in it.splitlines() if line[0] != "#"] for it in (made, stored)))
+        made = table_text.parse_tables(run([f"{TOP}/tools/tables-from-xml", path]).encode())
+        stored = {it.name: it for it in table_text.parse_tables(read("protocols/data-device.tables").encode())}
+        self.assertEqual(sorted(it.name for it in made), sorted(stored))
+        for its in made:
+            for older, newer in ((its.request, stored[its.name].request), (its.event, stored[its.name].event)):
+                self.assertEqual([str(it) for it in older], [str(it) for it in newer[:len(older)]], its.name)
         system = "/usr/share/wayland/wayland.xml"
         if not os.path.exists(system):
             raise Skipped("libwayland-dev is not installed")
@@ -212,15 +245,15 @@ class Run(unittest.TestCase):
         room = tempfile.TemporaryDirectory()
         self.addCleanup(room.cleanup)
         self.top = os.path.join(os.path.realpath(room.name), "a tree")
-        self.library = f"{self.top}/out/c/wayland"
-        for folder in (self.library, f"{self.top}/c/libwayland"):
+        self.client, self.server = folders = [f"{self.top}/out/c/wayland/{it}" for it in ("client", "server")]
+        self.both = ":".join(folders)
+        for folder in (*folders, f"{self.top}/c/libwayland"):
             os.makedirs(folder)
-        self.tool = shutil.copy(f"{OURS}/waywire-run", f"{self.top}/c/libwayland")
-        open(f"{self.library}/{SONAME}", "w", encoding="utf-8").close()
+        self.tool = checks.copy_program(f"{OURS}/waywire-run", f"{self.top}/c/libwayland")
+        for folder in folders:
+            open(f"{folder}/libwayland-{os.path.basename(folder)}.so.0", "w", encoding="utf-8").close()
         self.inspector = f"{self.top}/out/c/waywire-inspect"
-        with open(self.inspector, "w", encoding="utf-8") as file:
-            file.write(f"#!/bin/sh\necho inspected\n{self.TOLD}\nexit 3\n")
-        os.chmod(self.inspector, 0o755)
+        checks.write_program(self.inspector, f"#!/bin/sh\necho inspected\n{self.TOLD}\nexit 3\n")
 
     def ran(self, *words, path=None):
         """What a run prints, its status, and the number of lines on standard error."""
@@ -231,32 +264,54 @@ class Run(unittest.TestCase):
         return done.stdout.splitlines(), done.returncode, len(done.stderr.splitlines())
 
     def test_command(self):
-        """It gets its words as they are, and the folder in front of others; its status is that of the run."""
+        """It gets its words as they are, and the folders in front of others; its status is that of the run."""
         command = ["sh", "-c", self.TOLD + "; exit 7", "sh", "a  word", "", "--inspect", "*"]
         for before, after in ((None, ""), ("", ""), ("/one:/two", ":/one:/two")):
-            wanted = [self.library + after, *command[4:]], 7, 0
+            wanted = [self.both + after, *command[4:]], 7, 0
             self.assertEqual(self.ran(*command, path=before), wanted)
             self.assertEqual(self.ran("--", *command, path=before), wanted)
 
+    def test_one_side(self):
+        for side, folder, other in (("--client", self.client, self.server), ("--server", self.server, self.client)):
+            os.rename(other, f"{other}.away")
+            for words in ((side,), (side, "--")):
+                self.assertEqual(self.ran(*words, "sh", "-c", self.TOLD), ([folder], 0, 0))
+            self.assertEqual(self.ran(side, "--inspect", "a"), (["inspected", folder, "a"], 3, 0))
+            self.assertEqual(self.ran("true"), ([], 125, 1))
+            os.rename(f"{other}.away", other)
+
+    def test_a_file_with_privileges(self):
+        """The dynamic linker ignores the folders, which the tool says; the file is run all the same."""
+        program = f"{self.top}/program"
+        for name, mode, said in (("sh", 0o4755, 1), ("sh", 0o2755, 1), ("sh", 0o755, 0)):
+            checks.copy_program(shutil.which(name), program)
+            os.chmod(program, mode)
+            self.assertEqual(self.ran(program, "-c", "exit 7")[1:], (7, said), oct(mode))
+        folder = os.path.join(os.path.dirname(self.top), "commands")
+        os.mkdir(folder)
+        checks.write_program(f"{folder}/getcap", '#!/bin/sh\necho "$2 cap_sys_nice=ep"\n')
+        with unittest.mock.patch.dict(os.environ, {"PATH": f"{folder}:{os.environ['PATH']}"}):
+            self.assertEqual(self.ran(program, "-c", "exit 7")[1:], (7, 1))
+
     def test_inspect(self):
         words = ["--time", "--only", "wl_surface", "a command", "--help"]
-        self.assertEqual(self.ran("--inspect", *words), (["inspected", self.library, *words], 3, 0))
+        self.assertEqual(self.ran("--inspect", *words), (["inspected", self.both, *words], 3, 0))
 
     def test_by_a_link(self):
         link = f"{self.top}/link"
         os.symlink(self.tool, link)
         self.tool = link
-        self.assertEqual(self.ran("sh", "-c", self.TOLD), ([self.library], 0, 0))
+        self.assertEqual(self.ran("sh", "-c", self.TOLD), ([self.both], 0, 0))
 
     def test_refused(self):
-        """Without a command, with an unknown option; without the inspector, and without the library."""
-        for words in ([], ["--"], ["--inspect"], ["--inspec", "true"], ["-x"]):
+        """Without a command, with an unknown option; without the inspector, and without a library."""
+        for words in ([], ["--"], ["--server"], ["--inspect"], ["--inspec", "true"], ["--client", "-x"]):
             self.assertEqual(self.ran(*words), ([], 125, 1), words)
         self.assertEqual(self.ran("no-such-command")[:2], ([], 127))
-        self.assertEqual(self.ran(f"{self.library}/{SONAME}")[:2], ([], 126))
+        self.assertEqual(self.ran(f"{self.client}/{SONAME}")[:2], ([], 126))
         os.remove(self.inspector)
         self.assertEqual(self.ran("--inspect", "true"), ([], 125, 1))
-        os.remove(f"{self.library}/{SONAME}")
+        os.remove(f"{self.client}/{SONAME}")
         self.assertEqual(self.ran("true"), ([], 125, 1))
 
     def test_a_folder_that_no_list_can_have(self):

@@ -10,7 +10,7 @@ import unittest
 import unittest.mock
 
 from scripts import mutant_edits, mutant_prover, mutant_rounds
-from tests.checks import LONG, TOP
+from tests.checks import LONG, TOP, write_program
 
 RT = """#!/usr/bin/env bash
 case $1 in
@@ -121,8 +121,8 @@ class Rounds(unittest.TestCase):
         for name in glob.glob("scripts/*.py", root_dir=TOP):
             shutil.copy(f"{TOP}/{name}", f"{self.room}/{name}")
         for name, text in (("bin/rt", RT), ("kit/bin/rattle", RATTLE)):
-            self.write(name, text)
-            os.chmod(f"{self.room}/{name}", 0o755)
+            os.makedirs(os.path.dirname(f"{self.room}/{name}"), exist_ok=True)
+            write_program(f"{self.room}/{name}", text)
         self.write("HANDLES", "Handles allowed: none.\n")
         self.write("crates.txt", "low:\nhigh: low\n")
         self.write("crates/low/src/lib.rt", "fn zero() -> u8 {\n    0\n}\n")

@@ -8,7 +8,7 @@ import sys
 import tempfile
 import unittest
 
-from scripts import contracts, crates, man_page
+from scripts import contracts, crates, installed_pages, man_page
 from tests.checks import TOP, need, read, run
 from tests.parts import pages
 
@@ -18,7 +18,7 @@ class Pages(unittest.TestCase):
 
     FOLDERS = ("", "crates", "docs", "tests/rattle", "tools")
     # Files that a command makes, and words in the place of a name.
-    MADE = re.compile(r"(^|/)out/|^(include/)?waywire-(core|version)\.h$|(^|/)src/wayland\.rs$")
+    MADE = re.compile(r"(^|/)out/|^(include/)?waywire-(core|version)\.h$|(^|/)src/(wayland|data_device)\.rs$")
     STANDS_FOR = re.compile(r"[A-Z]{3,}")
     PATH = re.compile(r"(\./)?\.?[a-z][\w.*+-]*(/[\w.*+-]+)+/?", re.ASCII)
     FILE = re.compile(r"[\w-]+\.(antt|c|edit|h|md|py|rattle|rec|rt|run|scenes|svg|tables|txt)", re.ASCII)
@@ -35,6 +35,29 @@ class Pages(unittest.TestCase):
                 path = to.partition("#")[0]
                 if path and not re.match(r"\w+:", to):
                     self.assertTrue(os.path.exists(f"{TOP}/{os.path.dirname(page)}/{path}"), f"{page}: {to}")
+
+    def test_anchors(self):
+        """A link into a page leads to a heading of it."""
+        for page in self.pages():
+            for to in re.findall(r"\]\(([^)\s]+)\)", read(page)):
+                path, _, anchor = to.partition("#")
+                if anchor and not re.match(r"\w+:", to):
+                    target = os.path.relpath(f"{TOP}/{os.path.dirname(page)}/{path}", TOP) if path else page
+                    self.assertIn(anchor, self.anchors(read(target)), f"{page}: {to}")
+
+    @staticmethod
+    def anchors(text):
+        """The anchors of a page's headings, as the hosts of repositories make them."""
+        headings = re.findall(r"(?m)^#+ (.*)", re.sub(r"(?ms)^```.*?^```$", "", text))
+        return [re.sub(r"[^\w -]", "", it.lower()).replace(" ", "-") for it in headings]
+
+    def test_installed_pages(self):
+        """An installed page has the links to what is installed, and of the others only the text."""
+        places = installed_pages.Places("/doc", "/include", "/data")
+        said = installed_pages.installed("[a](../include/waywire.h) [b `c`](PERF.md#d) [e](#f) [g](FORMATS.md#words)\n"
+                                         "```c\nf[1](x)\n```\n[`h`](../rust/waywire/README.md)", "docs/GUIDE.md", places)
+        self.assertEqual(said, "[a](../include/waywire.h) b `c` [e](#f) [g](FORMATS.md#words)\n"
+                               "```c\nf[1](x)\n```\n[`h`](../data/rust/waywire/README.md)")
 
     def test_file_names(self):
         names = set()
@@ -153,14 +176,17 @@ class FrontPage(unittest.TestCase):
     def test_readme_shows_what_is_stored(self):
         with open(f"{TOP}/README.md", encoding="utf-8") as file:
             readme = file.read()
-        self.assertLessEqual(len(readme.encode()), 10_000)
+        # Without its samples it is a page that is read at once.
+        self.assertLessEqual(len(re.sub("(?ms)^```.*?^```\n", "", readme).encode()), 7_000)
         for case in ("trace_surface", "check_bad_new_id"):
             with open(f"{TOP}/tests/runs/{case}.run", encoding="utf-8") as file:
                 run = file.read()
             words = re.search("(?m)^words: (.*)$", run)[1]
             output = re.sub("(?m)^  ", "", run.split("output:\n")[1])
             shown = readme.split(f"$ ./waywire {words}\n")[1].split("\n", 1)[1]
-            self.assertTrue(shown.startswith(output), case)
+            if shown.split("\n")[2] == "..":
+                shown, output = (it.split("\n")[:2] for it in (shown, output))
+            self.assertEqual(shown[: len(output)], output, case)
 
 
 class PutAside(unittest.TestCase):

@@ -8,7 +8,7 @@ import tempfile
 import unittest
 
 from scripts import crates
-from tests.checks import LONG, TOP, need
+from tests.checks import LONG, TOP, need, write_program
 from tests.tooling.building import copy_sources
 
 ARCHIVE = "crates/waywire_c/out/libwaywire_c.a"
@@ -41,9 +41,7 @@ class Rooms(unittest.TestCase):
             files = ("bin/rt", self.RT), ("kit/bin/rattle", RATTLE), ("kit/c/liblibc_c.a", "memory")
             for name, text in files:
                 os.makedirs(os.path.dirname(f"{room}/{name}"))
-                with open(f"{room}/{name}", "w", encoding="utf-8") as file:
-                    file.write(text)
-                os.chmod(f"{room}/{name}", 0o755)
+                write_program(f"{room}/{name}", text)
             for name in ("kept", ".git"):
                 os.mkdir(f"{room}/{name}")
             yield room
@@ -152,7 +150,7 @@ esac
             self.builds_a_program(room)
             # A second build says how long the first one took.
             proved, said = self.proves(room, "./waywire", "--build")
-            self.assertIn("from nothing it took", said)
+            self.assertIn("; last time, from nothing: ", said)
             self.assertEqual(proved, [])
             # The library stands on what was proved for the program.
             self.assertEqual(self.made(room)[0], ["waywire_c"])
@@ -280,7 +278,7 @@ sys.exit(status)
         the library alone; after a change to waywire_c, that alone."""
         with self.room() as room:
             self.builds_a_program(room)
-            self.assertIn("from nothing it took", self.proves(room, "./waywire", "--build")[1])
+            self.assertIn("; last time, from nothing: ", self.proves(room, "./waywire", "--build")[1])
             proved, said = self.made(room)
             self.assertEqual(proved, ["waywire_c"])
             self.assertIn("(out/libraries.tar)\n", said)

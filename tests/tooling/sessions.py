@@ -9,7 +9,7 @@ import unittest
 from unittest import mock
 
 from tests import reference
-from tests.checks import TOP, joined_tables, read
+from tests.checks import TOP, joined_tables, read, write_program
 from tests.parts import compare
 from tools.waywire import table_text
 
@@ -128,9 +128,7 @@ sys.exit(is_broken)
         """What is said of a program, whose status is compared too."""
         with tempfile.TemporaryDirectory() as folder:
             program = f"{folder}/program"
-            with open(program, "w", encoding="utf-8") as file:
-                file.write(self.PROGRAM.format(python=sys.executable, change=change))
-            os.chmod(program, 0o700)
+            write_program(program, self.PROGRAM.format(python=sys.executable, change=change))
             ran = subprocess.run(
                 [f"{TOP}/test", "compare", program, "12"],
                 capture_output=True,

@@ -71,7 +71,7 @@ class Made(unittest.TestCase):
     CORE = core_files.FILES
     OTHERS = {"docs/crates.svg": "draw_crates.py", "tests/c/session.out": "session.c"}
     # What `make` makes of the core, and git ignores.
-    TYPED = ("include/waywire-core.h", "rust/waywire/src/wayland.rs")
+    TYPED = ("include/waywire-core.h", "rust/waywire/src/wayland.rs", "rust/waywire/src/data_device.rs")
 
     def test_of_the_core(self):
         ran = subprocess.run([*self.TOOL, "--check"], cwd=TOP, capture_output=True, text=True)

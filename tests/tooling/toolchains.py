@@ -35,8 +35,11 @@ echo made
 
 def write(path, text="", mode=0o644):
     os.makedirs(os.path.dirname(path), exist_ok=True)
-    with open(path, "w", encoding="utf-8") as file:
-        file.write(text)
+    if mode & 0o111:
+        checks.write_program(path, text)
+    else:
+        with open(path, "w", encoding="utf-8") as file:
+            file.write(text)
     os.chmod(path, mode)
 
 
@@ -219,18 +222,33 @@ class Words(MadeUp):
         self.assertEqual(ran.returncode, 99 if status == 132 else status)
         return ran.stdout, ran.stderr
 
-    SAID = "waywire: this run is not proved (./waywire --build proves and builds the program)\n"
-
     def test_help(self):
         """It has a line more than the program's own."""
-        for self.name, said in ((PROVED, ""), (UNPROVED, self.SAID)):
+        for self.name in (PROVED, UNPROVED):
             for words in (["--help"], ["-h"], ["help"]):
                 output, error = self.ran(*words)
                 more = f"{words[0]}\n\nThis script:\n  ./waywire --build  Prove"
                 self.assertTrue(output.startswith(more), output)
-                self.assertEqual(error, said)
-            self.assertEqual(self.ran("help", "check"), ("help check\n", said))
-            self.assertEqual(self.ran("help", status=70), ("help\n", said))
+                self.assertEqual(error, "")
+            self.assertEqual(self.ran("help", "check"), ("help check\n", ""))
+            self.assertEqual(self.ran("help", status=70), ("help\n", ""))
+            os.unlink(f"{self.top}/{self.name}")
+
+    def test_a_terminal(self):
+        """There, and only there, it says that a run is not proved."""
+        for self.name, wanted in ((PROVED, b""), (UNPROVED, b"waywire: this run is not proved (./waywire --build ")):
+            self.ran("check")
+            terminal, other = os.openpty()
+            try:
+                words = [f"{self.top}/waywire", "check"]
+                env = {"PATH": "/usr/bin:/bin", "STATUS": "0"}
+                subprocess.run(words, stdout=subprocess.DEVNULL, stderr=other, env=env, timeout=LONG, check=True)
+                os.write(other, b"end\n")
+                said = os.read(terminal, 1000)
+            finally:
+                os.close(terminal)
+                os.close(other)
+            self.assertTrue(said.startswith(wanted or b"end"), said)
             os.unlink(f"{self.top}/{self.name}")
 
     def test_status(self):
@@ -239,9 +257,9 @@ class Words(MadeUp):
         failed = "waywire: a check of the unproved program failed, or a signal ended it: status 99\n"
         for self.name, status, said in (
             (PROVED, 99, ""),
-            (UNPROVED, 1, self.SAID),
-            (UNPROVED, 99, self.SAID + failed),
-            (UNPROVED, 132, self.SAID + failed),
+            (UNPROVED, 1, ""),
+            (UNPROVED, 99, failed),
+            (UNPROVED, 132, failed),
         ):
             self.assertEqual(self.ran("check", status=status), ("check\n", said))
             os.unlink(f"{self.top}/{self.name}")
