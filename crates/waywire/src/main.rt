@@ -2,9 +2,10 @@
 #![tactic(auto)]
 
 use program_jobs::{BoundSocket, ExitStatus, Writers, run, texts_among};
+use std::env;
 use std::fs::{self, File};
+use std::io::{self, ErrorKind, Read, Stdin};
 use std::os::unix::net::{SocketAddr, UnixListener, UnixStream};
-use std::{env, io};
 
 /// A Unix socket that is bound at the path of its address.
 struct Socket<'a> {
@@ -49,7 +50,8 @@ fn bind<'a>(rt: &'a HostRuntime, path: &str) -> io::Result<Socket<'a>> {
     })
 }
 
-/// The files that have the table texts of a name: those of a folder, or the file of this name.
+/// The files that have the table texts of a name: those of a folder, which has at least one, or the
+/// file of this name.
 fn texts_of(rt: &HostRuntime, name: &str) -> io::Result<Vec<String>> {
     let mut paths = Vec::new(rt.alloc());
     if !is_folder(rt, name) {
@@ -59,7 +61,11 @@ fn texts_of(rt: &HostRuntime, name: &str) -> io::Result<Vec<String>> {
     for entry in fs::read_dir(rt, name)? {
         paths.push(String::from_str(rt.alloc(), entry?.path().as_str())?)?;
     }
-    Ok(texts_among(paths)?)
+    let texts = texts_among(paths)?;
+    if texts.is_empty() {
+        return Err(io::Error::from(ErrorKind::NotFound));
+    }
+    Ok(texts)
 }
 
 fn is_folder(rt: &HostRuntime, name: &str) -> bool {
@@ -67,6 +73,35 @@ fn is_folder(rt: &HostRuntime, name: &str) -> bool {
         Ok(metadata) => metadata.is_dir(),
         Err(_) => false,
     }
+}
+
+/// What a name is read from.
+#[derive(Drop)]
+enum Input {
+    File(File),
+    Standard(Stdin),
+}
+
+impl Read for Input {
+    fn read(&mut self, buf: &mut [u8]) -> io::Result<usize> {
+        match self {
+            Input::File(file) => file.read(buf),
+            Input::Standard(input) => input.read(buf),
+        }
+    }
+}
+
+/// Opens the file of a name.
+fn open(rt: &HostRuntime, name: &str) -> io::Result<Input> {
+    Ok(Input::File(File::open(rt, name)?))
+}
+
+/// Opens the recording of a stream: `-` is standard input.
+fn open_stream(rt: &HostRuntime, name: &str) -> io::Result<Input> {
+    if name == "-" {
+        return Ok(Input::Standard(rt.stdin()));
+    }
+    open(rt, name)
 }
 
 /// The words of the command line, the program's name first.
@@ -83,7 +118,10 @@ fn main(rt: HostRuntime) -> ExitStatus {
         rt.alloc(),
         words(&rt),
         |name: &str| texts_of(&rt, name),
-        |name: &str| File::open(&rt, name),
+        (
+            |name: &str| open(&rt, name),
+            |name: &str| open_stream(&rt, name),
+        ),
         |path: &str| bind(&rt, path),
         &mut writers,
     )

@@ -48,7 +48,7 @@ any_object = kinds.Obj false None
 abbrev pub new : Option Iface → Kind
 new iface = kinds.New iface
 
--- Made by core-files from core.xml, down to the next mark.
+-- Made by scripts/core_files.py from core.xml, down to the next mark.
 
 -- the indices of wl_display, wl_registry and wl_callback
 abbrev pub display : Iface

@@ -7,7 +7,7 @@ use Rattle.program_socket.proofs.session.Session.announce.Goals as goal
 
 pub returns : goal.returns
 returns g c = record {
-  reply = Announce (Ok c.in_ok-announce.field-0);
+  reply = Announce (Ok c.in_ok-announce.field-0.count);
   accepted = tt;
   does = announces (record {
     client = c.args.self.now.client;
