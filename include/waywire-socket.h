@@ -281,7 +281,7 @@ bool waywire_connection_wants_read(const waywire_connection *connection);
 int waywire_connection_flush(waywire_connection *connection);
 
 /* Receives once. Returns 1, or 0 if nothing is there yet, or if messages are still to be
- * dispatched. Returns -1 with errno, and the connection has ended: EPIPE at the end of the stream;
+ * dispatched. Returns -1 with errno, and the connection has ended: EPIPE if the other end has closed it;
  * EPROTO if descriptors came that belong to no message; else as waywire_socket_receive. After ENOMEM
  * the connection goes on. */
 int waywire_connection_fill(waywire_connection *connection);

@@ -186,7 +186,7 @@ void live_step(struct replay *replay, int milliseconds)
 	ssize_t came = waywire_socket_fill(live->socket, live->client.end);
 	if (came > 0)
 		read_reports(replay);
-	else if (!came)
+	else if (!came || errno == ECONNRESET) /* reset: it had not read all */
 		end_by(live, "the compositor has closed the connection");
 	else if (errno == ENOMEM)
 		poll(NULL, 0, AGAIN);

@@ -16,6 +16,8 @@
 /* While messages are read, the objects are counted once in so many. */
 #define COUNTED 32
 
+#define CLOSED "the other end has closed the connection"
+
 /* ---- writing */
 
 static int ended_before(const waywire_connection *connection)
@@ -24,6 +26,8 @@ static int ended_before(const waywire_connection *connection)
 	return -1;
 }
 
+/* Whether an error says that the other end has closed the connection. The error is ECONNRESET if that end had not
+ * read all. */
 static bool is_gone(int error)
 {
 	return error == EPIPE || error == ECONNRESET;
@@ -69,8 +73,10 @@ int waywire_connection_flush(waywire_connection *connection)
 		return is_stuck(connection, went);
 	if (errno == ENOBUFS || errno == ENOMEM || errno == ETOOMANYREFS)
 		return -1; /* the kernel has no room now */
-	if (!is_gone(errno) || connection->server.end)
+	if (!is_gone(errno))
 		return connection_fail(connection, errno, "the socket does not take what is written");
+	if (connection->server.end)
+		return connection_fail(connection, EPIPE, CLOSED);
 	return is_closed(connection, errno);
 }
 
@@ -113,8 +119,8 @@ int waywire_connection_fill(waywire_connection *connection)
 		connection->is_unread = true;
 		return 1;
 	}
-	if (!came)
-		return connection_fail(connection, EPIPE, "the other end has closed the connection");
+	if (!came || is_gone(errno))
+		return connection_fail(connection, EPIPE, CLOSED);
 	if (errno == EAGAIN)
 		return 0;
 	if (errno == ENOMEM)

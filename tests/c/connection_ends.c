@@ -245,7 +245,7 @@ static void other_goes(void)
 	MUST(waywire_connection_dispatch(server, WAIT) == 1); /* what it wrote is read */
 	/* The answer does not go. */
 	MUST(waywire_connection_dispatch(server, WAIT) == -1 && errno == EPIPE);
-	has_ended(server, EPIPE);
+	MUST(!strcmp(has_ended(server, EPIPE)->text, "the other end has closed the connection"));
 	end();
 	/* Nor do the first of many, which are sent while requests wait. */
 	begin(NULL);

@@ -41,10 +41,12 @@ def bound(*args):
 
 
 class Compositor:
-    """A compositor with one client: it answers each request by what a function of the request says."""
+    """A compositor with one client: it answers each request by what a function of the request says, and reads pieces
+    of so many bytes."""
 
-    def __init__(self, listener, announces, answers):
+    def __init__(self, listener, announces, answers, piece):
         self.announces = announces
+        self.piece = piece
         self.answers = answers
         self.requests, self.files = [], []
         self.listener = listener
@@ -78,7 +80,7 @@ class Compositor:
 
     def read(self, peer):
         try:
-            part, files, _, _ = socket.recv_fds(peer, 65536, 28)
+            part, files, _, _ = socket.recv_fds(peer, self.piece, 28)
         except ConnectionResetError:
             return b""
         self.files += files
@@ -110,8 +112,8 @@ class Replayed(unittest.TestCase):
             for arrow, data, *count in pieces:
                 file.write(f"{arrow} {data.hex()}{f' +{count[0]}' if count else ''}\n")
 
-    def compositor(self, *answers, announces=()):
-        made = Compositor(self.listener, announces, list(answers))
+    def compositor(self, *answers, announces=(), piece=65536):
+        made = Compositor(self.listener, announces, list(answers), piece)
         self.addCleanup(made.end)
         return made
 
@@ -319,10 +321,12 @@ class Parting(Replayed):
         self.assertEqual(said[1], f"this error did not come within {SOON} s")
 
     def test_a_compositor_that_goes(self):
-        self.record(*WITH_SURFACE)
-        self.compositor((3, 0, None), announces=COMPOSITOR)
-        said = self.replayed(status=1)
-        self.assertEqual(said[1], "the compositor has closed the connection")
+        """It has read all that was sent, or not: then the socket is reset."""
+        for piece in (4, 65536):
+            self.record(*WITH_SURFACE)
+            self.compositor((3, 0, None), announces=COMPOSITOR, piece=piece)
+            said = self.replayed(status=1)
+            self.assertEqual(said[1], "the compositor has closed the connection")
 
     def test_a_compositor_that_breaks_a_rule(self):
         self.record(*WITH_SURFACE)
