@@ -1,5 +1,5 @@
-"""Writes a recording to standard output, of at most so many bytes or just under 16 MiB: one long lawful
-session, of one of these kinds.
+"""Writes one long lawful session as a recording to standard output. It has at most BYTES bytes, or just under
+16 MiB. These are the kinds of session:
 
     python3 -m bench.recording KIND [BYTES]
 

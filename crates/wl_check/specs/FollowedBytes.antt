@@ -1,8 +1,9 @@
 -- The bytes of a direction whose messages are followed.
 use Rattle.std.specs.Prelude.{ℕ, Bool, false, List, []}
 
--- the bytes after the messages that were passed over, how many bytes are in memory, the number of
--- the next message, where the last one ends, and whether it had a bad size
+-- waiting: the bytes behind the messages that were passed over; kept: how many bytes are in memory;
+-- index: the number of the next message; end: where the last message ends; is_lost: whether it had
+-- a bad size
 pub record FollowedBytes : Type 0 where
   pub waiting : List ℕ
   pub kept : ℕ
