@@ -117,13 +117,20 @@ void print_whole_to(const char *path)
 {
 	static const int ending[] = { SIGINT, SIGTERM, SIGHUP };
 	struct sigaction action = { .sa_handler = on_end, .sa_flags = (int)SA_RESETHAND };
+	sigset_t blocked, before;
+	sigemptyset(&blocked);
+	for (size_t i = 0; i < sizeof ending / sizeof *ending; i++)
+		sigaddset(&blocked, ending[i]);
 	output_name = path;
+	/* A signal that comes while the file is made removes it afterwards. */
+	sigprocmask(SIG_BLOCK, &blocked, &before);
 	if (!replacement_open(&replacement, path))
 		fail("cannot write %s: %s", path, strerror(errno));
 	output = replacement.file;
 	atexit(drop_replacement);
 	for (size_t i = 0; i < sizeof ending / sizeof *ending; i++)
 		sigaction(ending[i], &action, NULL);
+	sigprocmask(SIG_SETMASK, &before, NULL);
 }
 
 void print_end(void)
