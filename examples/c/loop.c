@@ -89,10 +89,10 @@ static void round_trip(int socket)
 		if (poll(&polled, 1, -1) < 0 && errno != EINTR)
 			err(1, "poll");
 		ssize_t count = waywire_socket_fill(socket, client.end);
+		if (count == 0 || (count < 0 && errno == ECONNRESET)) /* reset: it had not read all */
+			errx(1, "the compositor has gone");
 		if (count < 0 && errno != EAGAIN)
 			err(1, "the socket");
-		if (count == 0)
-			errx(1, "the compositor has gone");
 		has_ended = read_messages(callback.object);
 	}
 }

@@ -437,6 +437,7 @@ impl<R> Link<R> {
             Ok(0) => Ok(Came::End),
             Ok(_) => Ok(Came::Something),
             Err(error) if error.kind() == ErrorKind::WouldBlock => Ok(Came::Nothing),
+            Err(error) if has_gone(&error) => Ok(Came::End), // reset: it had not read all
             Err(error) => {
                 if sys::has_lost(&error) {
                     drop(self.end.take_waiting_tokens());
@@ -468,16 +469,15 @@ impl<R> Link<R> {
     ///
     /// # Errors
     ///
-    /// Those of [`flush`](Link::flush) and [`fill`](Link::fill), except that [`Came::End`] says that the
-    /// other end has gone. An error that [passes](is_temporary) comes at once, before the limit: nothing is
-    /// lost, so wait again some milliseconds later.
+    /// Those of [`flush`](Link::flush) and [`fill`](Link::fill), but not that the other end has gone, which is
+    /// [`Came::End`]. An error that [passes](is_temporary) comes at once, before the limit: nothing is lost, so
+    /// wait again some milliseconds later.
     pub fn wait(&mut self, limit: Option<Duration>) -> io::Result<Came> {
         let until = Deadline::of(limit);
         loop {
             let is_stuck = self.is_stuck()?;
             wait([(self.as_fd(), is_stuck)], until.left())?;
             match self.fill() {
-                Err(error) if has_gone(&error) => return Ok(Came::End),
                 Ok(Came::Nothing) if !until.has_passed() => {}
                 came => return came,
             }

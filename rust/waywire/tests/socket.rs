@@ -277,6 +277,19 @@ fn waiting_ends_in_time() {
     assert!(has_gone(&ended), "{ended}");
 }
 
+/// An end that closed before it had read all has closed, though the socket is reset.
+#[test]
+fn an_end_that_has_not_read_all_has_closed() {
+    let (mut client, server) = pair();
+    WlDisplay(client.display()).sync(&client).unwrap();
+    assert!(client.flush().unwrap());
+    drop(server);
+    assert_eq!(client.fill().unwrap(), Came::End);
+    assert_eq!(client.wait(LONG).unwrap(), Came::End);
+    let ended = client.dispatch(&mut (), LONG).unwrap_err();
+    assert_eq!(ended.kind(), ErrorKind::UnexpectedEof);
+}
+
 #[test]
 fn what_ends_a_connection_is_said() {
     let (mut client, mut server) = pair();
