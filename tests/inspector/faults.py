@@ -10,6 +10,7 @@ import pty
 import re
 import signal
 import socket
+import struct
 import subprocess
 import sys
 import termios
@@ -27,12 +28,12 @@ FEW_LINES = ("--only", "wl_callback")
 BACKGROUND = """
 import os, signal, sys
 terminal = os.open("/dev/tty", os.O_RDWR)
+signal.signal(signal.SIGUSR1, lambda *_: os.tcsetpgrp(terminal, tool))
+signal.signal(signal.SIGTERM, lambda *_: os.kill(tool, signal.SIGTERM))
 tool = os.fork()
 if not tool:
     os.setpgid(0, 0)
     os.execvp(sys.argv[1], sys.argv[1:])
-signal.signal(signal.SIGUSR1, lambda *_: os.tcsetpgrp(terminal, tool))
-signal.signal(signal.SIGTERM, lambda *_: os.kill(tool, signal.SIGTERM))
 sys.exit(os.waitstatus_to_exitcode(os.waitpid(tool, 0)[1]))
 """
 # A line and the words that refuse it.
@@ -254,7 +255,7 @@ class Stopping(Stopped):
         self.near.sendall(message(SURFACE, 3, NEW) + COMMIT + other + COMMIT)
         self.comes(self.far, message(SURFACE, 3, NEW))
         self.assertIn(f"; kill -USR1 {self.tool.pid} goes on\n", self.stopped())
-        self.assertRegex(self.tool.stdout.readline(), rf"#1 wl_surface@{SURFACE}\.frame: 1 not answered, waiting 0\.\d+ s")
+        self.assertRegex(self.tool.stdout.readline(), rf"#1 wl_surface@{SURFACE}\.frame: 1 not answered, waiting \d+\.\d+ s")
         self.far.sendall(message(BASE, 0, 7))
         self.nothing_comes(self.near, self.far)
         self.goes_on()
@@ -315,11 +316,20 @@ class Keys(Stopped):
         self.nothing_comes(self.far)
         return int(re.search(r"-USR1 (\d+) goes on", line)[1])
 
+    def types(self, typed):
+        """Types at the terminal, and waits until all of it can be read there: the kernel passes it on a little later."""
+        os.write(self.keys, typed)
+
+        def has_passed():
+            length = struct.unpack("i", fcntl.ioctl(self.terminal, termios.FIONREAD, bytes(4)))[0]
+            return length >= len(typed)
+        self.assertTrue(has_come(has_passed, LONG))
+
     def test_enter(self):
         """What was typed before it stopped does not count."""
         self.begin()
         for typed in (b"before\n", b""):
-            os.write(self.keys, typed)
+            self.types(typed)
             self.holds()
             os.write(self.keys, b"\n")
             self.comes(self.far, COMMIT)

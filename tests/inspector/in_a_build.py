@@ -51,6 +51,14 @@ class Builds(Inspected):
         for it in left:
             self.assertRegex(self.page, it.replace(".", r"\."))
 
+    def ended(self, has_come, *command, **env):
+        """Runs the script, which ends the program; if it was not yet so far, once more, with more time."""
+        for seconds in ("8", "60"):
+            ran = self.judged(*command, SECONDS_TO_RUN=seconds, **env)
+            if re.search(has_come, ran[1]):
+                break
+        return ran
+
     def plays(self, requests, seconds):
         """The words of a client that sends these once it has bound wl_compositor as 3."""
         bound = bind(0, "wl_compositor", 1, 3)
@@ -58,14 +66,14 @@ class Builds(Inspected):
         return [sys.executable, "-c", BINDS, REGISTRY.hex(), data, str(seconds)]
 
     def test_a_program_that_is_lawful(self):
-        status, said, left = self.judged(*self.plays(message(3, 0, 4), 0.5))
+        status, said, left = self.judged(*self.plays(message(3, 0, 4), 0.5), LATE="60")
         self.assertEqual(status, 0, said)
         self.assertIn("lawful: ", said)
         self.kept(left)
 
     def test_a_program_that_has_to_be_ended(self):
         """It draws until then."""
-        status, said, left = self.judged("weston-simple-shm", SECONDS_TO_RUN="8", LATE="60")
+        status, said, left = self.ended("lawful: ", "weston-simple-shm", LATE="60")
         self.assertEqual(status, 124, said)
         self.kept(left)
 
@@ -78,9 +86,10 @@ class Builds(Inspected):
     def test_a_program_that_hangs(self):
         """It waits for a frame that no commit asks for, longer than the build waits."""
         frame = message(3, 0, 4) + message(4, 3, 5)
-        status, said, left = self.judged(*self.plays(frame, 3600), SECONDS_TO_RUN="8", LATE="1")
+        late = r"not strict: the client's wl_surface@4\.frame \(message \d+\) had no answer for \d+\.\d s"
+        status, said, left = self.ended(late, *self.plays(frame, 3600), LATE="1")
         self.assertEqual(status, 123, said)
-        self.assertRegex(said, r"not strict: the client's wl_surface@4\.frame \(message \d+\) had no answer for \d+\.\d s")
+        self.assertRegex(said, late)
         self.kept(left)
 
     def test_a_program_that_makes_no_connection(self):

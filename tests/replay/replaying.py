@@ -3,6 +3,8 @@
     python3 -m tests.replay.replaying [CLASS[.TEST]]..
 
 REPLAY in the environment is the tool [default: out/c/waywire-replay]. `./test c` runs them."""
+import contextlib
+import functools
 import os
 import re
 import socket
@@ -16,8 +18,9 @@ from tests.checks import TOP
 from tests.inspector.inspecting import LONG, closed, done, main, message, sync
 
 REPLAY = os.environ.get("REPLAY", f"{TOP}/out/c/waywire-replay").split()
-# How long the tool waits where the answer never comes, in seconds.
-SOON = "0.3"
+# How long the tool waits where an answer never comes, in seconds: longer each time, because what does come may come
+# later on a busy machine.
+WAITS = ("0.3", "3", "30")
 REGISTRY = message(1, 1, 2)
 SERVER_ID = 0xff000000
 
@@ -38,6 +41,18 @@ def announced(*announced_globals):
 
 def bound(*args):
     return wire(2, 0, *args)
+
+
+def waiting(test):
+    """A test of a session in which an answer never comes. It is given how long the tool waits, and is run again with a
+    longer time if it has failed."""
+    @functools.wraps(test)
+    def runs(self):
+        for soon in WAITS[:-1]:
+            with contextlib.suppress(AssertionError):
+                return test(self, soon)
+        return test(self, WAITS[-1])
+    return runs
 
 
 class Compositor:
@@ -232,14 +247,15 @@ class Playing(Replayed):
         pixels = b"".join(bytes([it, it, it, 255]) for it in range(256))
         self.assertTrue(content == (pixels * 196)[:200_000])
 
-    def test_a_buffer_is_shown_again_once_it_was_released(self):
+    @waiting
+    def test_a_buffer_is_shown_again_once_it_was_released(self, soon):
         picture = bound(1, "wl_shm", 1, 5) + wire(5, 0, 6, 64) + wire(6, 0, 7, 0, 4, 4, 16, 0)
         self.record((">", REGISTRY), ("<", announced((5, "wl_compositor", 4), (1, "wl_shm", 1))),
                     (">", bound(5, "wl_compositor", 4, 3) + wire(3, 0, 4) + picture, 1),
                     (">", wire(4, 1, 7, 0, 0) + wire(4, 6)), ("<", wire(7, 0)), (">", wire(4, 1, 7, 0, 0)))
         self.compositor(announces=COMPOSITOR)
-        said = self.replayed("--wait", SOON, status=1)
-        self.assertEqual(said[1], f"wl_buffer@7.release did not come within {SOON} s: event 1 of its kind at that "
+        said = self.replayed("--wait", soon, status=1)
+        self.assertEqual(said[1], f"wl_buffer@7.release did not come within {soon} s: event 1 of its kind at that "
                                   "object, and 0 came")
 
     def test_up_to_a_message(self):
@@ -252,13 +268,14 @@ class Playing(Replayed):
 class Parting(Replayed):
     """Where the sessions part, and how."""
 
-    def test_a_global_that_is_not_there(self):
+    @waiting
+    def test_a_global_that_is_not_there(self, soon):
         self.record(*WITH_SURFACE)
         self.compositor(announces=[(1, "wl_shm", 1)])
-        said = self.replayed("--wait", SOON, status=1)
+        said = self.replayed("--wait", soon, status=1)
         self.assertEqual(said, [
             'parted at request 2 (message 3): -> wl_registry@2.bind(5, "wl_compositor", 4, new id wl_compositor@3)',
-            f"no wl_compositor in its place was announced within {SOON} s",
+            f"no wl_compositor in its place was announced within {soon} s",
             "1 of 2 requests sent, 1 events came, 1 in the recording until there"])
 
     def test_an_older_global(self):
@@ -266,24 +283,26 @@ class Parting(Replayed):
         self.compositor(announces=[(1, "wl_compositor", 3)])
         self.assertEqual(self.replayed(status=1)[1], "wl_compositor is offered up to version 3")
 
-    def test_an_answer_that_never_comes(self):
+    @waiting
+    def test_an_answer_that_never_comes(self, soon):
         self.record((">", sync(2)), ("<", done(2)), (">", REGISTRY[:8] + struct.pack("<I", 2)))
         self.compositor((1, 0, b""))
-        self.assertEqual(self.replayed("--wait", SOON, status=1), [
+        self.assertEqual(self.replayed("--wait", soon, status=1), [
             "parted at event 1 (message 2): <- wl_callback@2.done(7)",
-            f"this answer did not come within {SOON} s: event 1 of its kind at that object, and 0 came",
+            f"this answer did not come within {soon} s: event 1 of its kind at that object, and 0 came",
             "1 of 1 requests sent, 0 events came, 1 in the recording until there",
             "other events:", "wl_callback.done: 0 here, 1 in the recording"])
 
-    def test_an_object_that_never_comes(self):
+    @waiting
+    def test_an_object_that_never_comes(self, soon):
         named = announced((1, "wl_seat", 7), (2, "wl_data_device_manager", 3))
         device = bound(1, "wl_seat", 7, 3) + bound(2, "wl_data_device_manager", 3, 4) + wire(4, 1, 5, 3)
         self.record((">", REGISTRY), ("<", named), (">", device), ("<", wire(5, 0, SERVER_ID)),
                     (">", wire(SERVER_ID, 2)))
         self.compositor(announces=[(1, "wl_seat", 7), (2, "wl_data_device_manager", 3)])
-        said = self.replayed("--wait", SOON, status=1)
+        said = self.replayed("--wait", soon, status=1)
         self.assertEqual(said[:2], ["parted at request 5 (message 8): -> wl_data_offer@4278190080.destroy()",
-                                    f"its target was not made within {SOON} s"])
+                                    f"its target was not made within {soon} s"])
 
     def test_an_error(self):
         self.record(*WITH_SURFACE, (">", sync(5)), ("<", done(5)))
@@ -314,11 +333,12 @@ class Parting(Replayed):
         self.assertTrue(said[0].startswith("parted at event 2 (message 6): <- wl_display@1.error("), said)
         self.assertTrue(said[1].endswith('error 2: "no"'), said)
 
-    def test_an_error_that_never_comes(self):
+    @waiting
+    def test_an_error_that_never_comes(self, soon):
         self.record(*WITH_SURFACE, ("<", wire(1, 0, 4, 3, "no")))
         self.compositor(announces=COMPOSITOR)
-        said = self.replayed("--wait", SOON, status=1)
-        self.assertEqual(said[1], f"this error did not come within {SOON} s")
+        said = self.replayed("--wait", soon, status=1)
+        self.assertEqual(said[1], f"this error did not come within {soon} s")
 
     def test_a_compositor_that_goes(self):
         """It has read all that was sent, or not: then the socket is reset."""
@@ -334,21 +354,23 @@ class Parting(Replayed):
         said = self.replayed(status=1)
         self.assertTrue(said[1].startswith("an event of the compositor cannot be read: "), said)
 
-    def test_a_compositor_that_stops(self):
+    @waiting
+    def test_a_compositor_that_stops(self, soon):
         """Nothing is missing but an answer to the sync behind the last request."""
         self.record(*WITH_SURFACE)
         self.compositor((1, 0, b""), announces=COMPOSITOR)
-        said = self.replayed("--wait", SOON, status=1)
-        self.assertEqual(said[1], f"after it, the compositor does not answer within {SOON} s")
+        said = self.replayed("--wait", soon, status=1)
+        self.assertEqual(said[1], f"after it, the compositor does not answer within {soon} s")
 
-    def test_going_on(self):
+    @waiting
+    def test_going_on(self, soon):
         """What depends on a missing global is left out, and an older global is bound at its own version."""
         self.record((">", REGISTRY), ("<", announced((5, "wl_compositor", 4), (6, "xdg_wm_base", 2), (7, "wl_shm", 1))),
                     (">", bound(6, "xdg_wm_base", 2, 3) + bound(5, "wl_compositor", 4, 4) + wire(4, 0, 5)),
                     (">", wire(3, 2, 6, 5) + wire(6, 1, 7) + bound(7, "wl_shm", 1, 8) + wire(5, 6)))
         there = self.compositor(announces=[(1, "wl_shm", 1), (2, "wl_compositor", 3)])
-        said = self.replayed("--go-on", "--wait", SOON, status=1)
-        self.assertEqual(said[1], f"no xdg_wm_base in its place was announced within {SOON} s")
+        said = self.replayed("--go-on", "--wait", soon, status=1)
+        self.assertEqual(said[1], f"no xdg_wm_base in its place was announced within {soon} s")
         self.assertEqual(said[3], "wl_compositor is offered up to version 3")
         self.assertEqual(said[4:6], ["5 of 8 requests sent, 2 events came, 3 in the recording",
                                      "requests left out, because they need what was not made: 2"])

@@ -170,8 +170,9 @@ def judged(pair, line):
     words = [INSPECT, "--output", path, *programs.words_of(line, desktop.room)]
     running = WithEvents(desktop, words, SYSTEM)
     try:
+        has_come(lambda: running.has_ended() or programs.DRAWN.search(running.said()))
         running.settles(programs.QUIET[0])
-        running.closes(programs.QUIET[1])
+        running.closes(programs.QUIET[2])
     finally:
         desktops.end_group(running.process)
     is_lawful(path)
