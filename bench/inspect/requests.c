@@ -2,6 +2,10 @@
  * prints the seconds until the compositor has read them all:
  *
  *     requests COUNT
+ *
+ * Or it makes round trips, one after another, and prints how many microseconds half of them took at most:
+ *
+ *     requests COUNT round-trips
  */
 #include <errno.h>
 #include <poll.h>
@@ -41,6 +45,30 @@ static double now(void)
 	return (double)time.tv_sec + (double)time.tv_nsec / 1e9;
 }
 
+static int compare(const void *one, const void *other)
+{
+	double a = *(const double *)one, b = *(const double *)other;
+	return (a > b) - (a < b);
+}
+
+/* Makes so many round trips. */
+static int round_trips(struct wl_display *display, long count)
+{
+	double *took = calloc((size_t)count, sizeof *took);
+	if (!took)
+		return 6;
+	for (long i = 0; i < count; i++) {
+		double begin = now();
+		if (wl_display_roundtrip(display) < 0)
+			return 5;
+		took[i] = (now() - begin) * 1e6;
+	}
+	qsort(took, (size_t)count, sizeof *took, compare);
+	fprintf(stderr, "%.3f\n", took[count / 2]);
+	free(took);
+	return 0;
+}
+
 int main(int words, char **word)
 {
 	static const struct wl_registry_listener listener = { found, gone };
@@ -55,6 +83,11 @@ int main(int words, char **word)
 	struct wl_surface *surface = wl_compositor_create_surface(compositor);
 	if (wl_display_roundtrip(display) < 0)
 		return 4;
+	if (words > 2 && !strcmp(word[2], "round-trips")) {
+		int status = round_trips(display, count);
+		wl_display_disconnect(display);
+		return status;
+	}
 	double begin = now();
 	for (long i = 1; i <= count; i++) {
 		wl_surface_damage(surface, 0, 0, 1, 1);
