@@ -96,7 +96,7 @@ typedef enum waywire_status {
 
 	/* Why a global is not added or not withdrawn. */
 	WAYWIRE_BAD_GLOBAL = 22,     /* no interface and version that can be advertised */
-	WAYWIRE_TOO_MANY_GLOBALS = 23, /* 1,024 globals were added in the server's lifetime */
+	WAYWIRE_TOO_MANY_GLOBALS = 23, /* as many globals were added in the server's lifetime as it may add */
 	WAYWIRE_NO_SUCH_GLOBAL = 25, /* no global was added under this name, or it is withdrawn */
 
 	/* What is wrong with a message that came. The end has failed for good. */
@@ -318,6 +318,9 @@ typedef struct waywire_sizes {
 
 /* The most bytes of a text that waywire_server_post_error writes, without the ending NUL. */
 #define WAYWIRE_MAX_ERROR_TEXT 127
+
+/* The most globals that any server adds in its lifetime: see waywire_server_allow_globals. */
+#define WAYWIRE_MOST_GLOBALS 4096
 
 /* The kinds of reports, and the fields that each uses; the others are 0. */
 typedef enum waywire_report_kind {
@@ -761,6 +764,11 @@ waywire_status waywire_server_new(const waywire_tables *tables, const waywire_si
  * WAYWIRE_TOO_MANY_GLOBALS, WAYWIRE_NO_MEMORY. */
 waywire_status waywire_server_add_global(waywire_server server, uint16_t interface,
 	uint32_t version, uint32_t *name);
+
+/* Sets how many globals the server may add in its lifetime, including those that it has added: 1,024 unless this is
+ * called. Of a number above WAYWIRE_MOST_GLOBALS, that many. A client that is made with this library remembers 1,024
+ * at a time. */
+waywire_status waywire_server_allow_globals(waywire_server server, size_t number);
 
 /* Withdraws a global. It can still be bound; waywire_server_announce sends global_remove to the registries to
  * which it was announced. WAYWIRE_FAILED, WAYWIRE_NO_SUCH_GLOBAL. */

@@ -51,6 +51,7 @@ uint32_t waywire_c_server_post_error(struct handle *, waywire_object, uint32_t c
 	const void *text, size_t length);
 uint32_t waywire_c_server_add_global(struct handle *, uint16_t interface, uint32_t version,
 	uint32_t *name);
+uint32_t waywire_c_server_allow_globals(struct handle *, size_t number);
 uint32_t waywire_c_server_withdraw(struct handle *, uint32_t name);
 uint32_t waywire_c_server_announce(struct handle *, size_t *count, bool *all);
 uint32_t waywire_c_server_next_unanswered(struct handle *, waywire_report *, waywire_arg *args,
@@ -626,6 +627,14 @@ waywire_status waywire_server_add_global(waywire_server server, uint16_t interfa
 	server.end->writes++;
 	return waywire_c_server_add_global(&server.end->handle, interface, version,
 		name ? name : &no_name);
+}
+
+waywire_status waywire_server_allow_globals(waywire_server server, size_t number)
+{
+	if (!server.end)
+		return WAYWIRE_NULL;
+	server.end->writes++;
+	return waywire_c_server_allow_globals(&server.end->handle, number);
 }
 
 waywire_status waywire_server_withdraw(waywire_server server, uint32_t name)

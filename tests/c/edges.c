@@ -465,6 +465,7 @@ static void refused_by_server(const struct pair *pair)
 	MUST(waywire_server_add_global(wrong, seat, 1, &name) == WAYWIRE_OTHER_END && name == 7);
 	MUST(waywire_server_add_global(wrong, seat, 1, NULL) == WAYWIRE_OTHER_END);
 	MUST(waywire_server_withdraw(wrong, 1) == WAYWIRE_OTHER_END);
+	MUST(waywire_server_allow_globals(wrong, 2000) == WAYWIRE_OTHER_END);
 	MUST(waywire_server_announce(wrong, &count, &all) == WAYWIRE_OTHER_END && count == 7 && all);
 	MUST(waywire_server_announce(wrong, NULL, NULL) == WAYWIRE_OTHER_END);
 	MUST(waywire_server_drop_object(wrong, pair->registry.object) == WAYWIRE_OTHER_END);

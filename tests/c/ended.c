@@ -239,6 +239,25 @@ static void announces(const waywire_tables *tables)
 	waywire_end_free(server.end);
 }
 
+/* How many globals a server may add: 1,024, or as many as it is allowed, up to a number. */
+static void many_globals(const waywire_tables *tables)
+{
+	waywire_server server = new_server(tables);
+	uint32_t name;
+	uint16_t seat;
+	MUST(!waywire_tables_interface(tables, "wl_seat", &seat));
+	for (uint32_t i = 1; i <= 1024; i++)
+		MUST(!waywire_server_add_global(server, seat, 9, &name) && name == i);
+	MUST(waywire_server_add_global(server, seat, 9, &name) == WAYWIRE_TOO_MANY_GLOBALS && name == 1024);
+	MUST(!waywire_server_allow_globals(server, SIZE_MAX));
+	for (uint32_t i = 1025; i <= WAYWIRE_MOST_GLOBALS; i++)
+		MUST(!waywire_server_add_global(server, seat, 9, &name) && name == i);
+	MUST(waywire_server_add_global(server, seat, 9, NULL) == WAYWIRE_TOO_MANY_GLOBALS);
+	MUST(!waywire_server_withdraw(server, WAYWIRE_MOST_GLOBALS));
+	MUST(waywire_server_add_global(server, seat, 9, NULL) == WAYWIRE_TOO_MANY_GLOBALS);
+	waywire_end_free(server.end);
+}
+
 /* An error takes 127 bytes of text. Of a longer one the rest is cut, but no character of UTF-8. */
 static void long_errors(const waywire_tables *tables)
 {
@@ -280,6 +299,7 @@ int main(void)
 	reads_bad_size(core);
 	waits_for_descriptor(core);
 	announces(core);
+	many_globals(core);
 	long_errors(core);
 	waywire_tables_free(unended);
 	waywire_tables_free(core);

@@ -206,7 +206,7 @@ static void take_little_memory(void)
 		get_registry();
 	long took = kilobytes() - before;
 	fprintf(stderr, "registries: %ld KB\n", took);
-	MUST(took < 40000);
+	MUST(took < 120000);
 	waywire_end_free(server.end);
 }
 

@@ -60,6 +60,7 @@ static void null_of_one_end(void)
 	MUST(waywire_server_new(tables, &sizes, NULL) == WAYWIRE_NULL);
 	MUST(waywire_server_add_global(no_server, 0, 1, NULL) == WAYWIRE_NULL);
 	MUST(waywire_server_withdraw(no_server, 1) == WAYWIRE_NULL);
+	MUST(waywire_server_allow_globals(no_server, 2000) == WAYWIRE_NULL);
 	MUST(waywire_server_announce(no_server, NULL, NULL) == WAYWIRE_NULL);
 	MUST(waywire_server_drop_object(no_server, display) == WAYWIRE_NULL);
 	MUST(waywire_server_end_object(no_server, display) == WAYWIRE_NULL);

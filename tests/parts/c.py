@@ -139,6 +139,7 @@ OF_ONE_END = {
                'waywire_client_bind_unannounced({}, object, 1, "wl_seat", 1, &object)',
                'waywire_client_more_tables({}, "", 0, NULL, NULL)', "waywire_wl_display_sync({}, display, NULL)"],
     "server": ["waywire_server_add_global({}, 0, 1, NULL)", "waywire_server_withdraw({}, 1)",
+               "waywire_server_allow_globals({}, 2000)",
                "waywire_server_announce({}, NULL, NULL)", "waywire_server_drop_object({}, object)",
                "waywire_server_end_object({}, object)", "waywire_server_next_unanswered({}, &report)",
                'waywire_server_post_error({}, object, 1, "x")', "waywire_wl_callback_send_done({}, callback, 1)"],

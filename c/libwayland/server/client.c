@@ -23,6 +23,7 @@ waywire_end *client_end(struct wl_client *client)
 	if (!tables_learn_globals(client->display)
 		|| waywire_server_new(client->display->tables, &client_sizes, &client->server))
 		return NULL;
+	waywire_server_allow_globals(client->server, WAYWIRE_MOST_GLOBALS);
 	waywire_end_on_full(client->server.end, client_make_room, client);
 	if (client->display_resource)
 		client->display_resource->handle = waywire_end_display(client->server.end);

@@ -24,7 +24,7 @@ use Rattle.wl_objects.specs.Writing.{message_bytes, message_len}
 use Rattle.wl_connection.specs.Core.{Core}
 use Rattle.wl_connection.specs.Sending.{with_sent}
 use Rattle.wl_server.specs.State as server
-use Rattle.wl_server.specs.State.{Global, Registry, global_of}
+use Rattle.wl_server.specs.State.{Global, Registry, global_of, most_globals}
 use Rattle.wl_server.specs.Calls.{can_be_global, version_in}
 use Rattle.wl_server.specs.Announcing.{after_announce, Owing, Removal, Telling, owes_removal}
 use Rattle.wl_server.specs.Announcing.{owes_telling, owings, owed_to, Due, due_to, owed_in, owed}
@@ -41,7 +41,6 @@ use Rattle.theory_connection.specs.Answers.{birth_at, mark_one, Owed, owed_by, m
 use Rattle.theory_connection.specs.Answers.{told_args, WritesThat, AnnouncesThose, none, more}
 use Rattle.theory_connection.specs.Flight.{IsBelow, Rows, server_rows, tells, all_tells}
 use Rattle.theory_connection.specs.Stands.{StandsBy, TellsFitly, IsGlobal}
-use Rattle.wl_connection.specs.Core.{max_globals}
 use Rattle.theory_connection.proofs.WholeInFlight.{ThereRow, each_more}
 use Rattle.theory_connection.proofs.RowsAfterMessage.{there_row, made_map, Aged}
 use Rattle.theory_connection.proofs.TwoRanges.{row_word}
@@ -66,8 +65,8 @@ use Rattle.theory_connection.proofs.Errors.{before, server_lives}
 -- ---- which events can be owed
 
 abbrev pub IsOwing : List Interface → List Global → Owing → Type 0
-IsOwing tables given (Removal name) = name ≤ max_globals
-IsOwing tables given (Telling name g) = (name ≤ max_globals) × (global_of given name ≡ Some g) × IsGlobal tables g
+IsOwing tables given (Removal name) = name ≤ most_globals
+IsOwing tables given (Telling name g) = (name ≤ most_globals) × (global_of given name ≡ Some g) × IsGlobal tables g
 
 each_if : (P : Owing → Type 0) (b : Bool) (o : Owing) (rest : List Owing) → P o → Each P rest
     → Each P (cond b (o ∷ rest) rest)
@@ -90,7 +89,7 @@ each_get P [] k x h e = absurd (cc e)
 each_get P (y ∷ xs) zero x h e = subst P (cc e) h.0
 each_get P (y ∷ xs) (suc k) x h e = each_get P xs k x h.1 e
 
-owing_all : (tables : List Interface) (given : List Global) (r : Registry) → length given ≤ max_globals
+owing_all : (tables : List Interface) (given : List Global) (r : Registry) → length given ≤ most_globals
     → Each (IsGlobal tables) given → Each (IsOwing tables given) (owed_to given r)
 owing_all tables given r l g =
     each_more (IsOwing tables given) (owings (owes_removal r) (λ name _. Removal name) 1 given)
@@ -123,7 +122,7 @@ dues_of tables given v o (x ∷ os) a i h = (
   dues_of tables given v o os a i h.1,
 )
 
-pub all_due : (tables : List Interface) (given : List Global) (v : Objects) (rs : List Registry) → length given ≤ max_globals
+pub all_due : (tables : List Interface) (given : List Global) (v : Objects) (rs : List Registry) → length given ≤ most_globals
     → Each (IsGlobal tables) given → Aged v → ((o : Object) → IsAmong o rs → IsRegistry v o)
     → Each (IsDue tables given (server_rows v)) (owed_in given rs)
 all_due tables given v [] l g a i = tt

@@ -10,9 +10,9 @@ use Rattle.std.proofs.lemmas.Bool.{ltb-true}
 use Rattle.wl_wire.specs.declared.kind.Iface.{Iface}
 use Rattle.wl_sigs.specs.Tables.{Interface}
 use Rattle.wl_server.specs.State as server
-use Rattle.wl_server.specs.State.{Global, global_of}
+use Rattle.wl_server.specs.State.{Global, global_of, most_globals}
 use Rattle.wl_server.specs.Requests.{was_advertised as bind_fits}
-use Rattle.wl_server.specs.Calls.{can_be_global, add_refusal, withdraw_refusal, with_global}
+use Rattle.wl_server.specs.Calls.{can_be_global, add_refusal, globals_allowed, withdraw_refusal, with_global}
 use Rattle.wl_server.specs.Calls.{next_name, withdrawn, without_at, after_withdraw}
 use Rattle.wl_client.specs.declared.globals.Global.{Global as Remembered}
 use Rattle.theory_connection.specs.Meant.{Known, Message, Coming, Event, Delete}
@@ -22,7 +22,6 @@ use Rattle.theory_connection.specs.Pair.{refused, no_memory, Calls, done}
 use Rattle.wl_server.specs.declared.globals.GlobalError.{GlobalError}
 use Rattle.wl_server.specs.declared.globals.GlobalError.TheVariants.{Failed, BadGlobal, TooMany}
 use Rattle.theory_connection.specs.Stands.{StandsBy, WasGiven, AsksFitly, ComesFitly, IsGlobal}
-use Rattle.wl_connection.specs.Core.{max_globals}
 use Rattle.theory_connection.proofs.WholeInFlight.{each_by, each_more}
 use Rattle.theory_connection.proofs.Stands.{travel_by}
 use Rattle.theory_connection.proofs.Moves.{Moves, goes_on, stays, giving}
@@ -97,7 +96,7 @@ module _ (given more : List Global) (grows : Grows given more) where
 
 pub given_stands : (p : PairState) (w : World) (asked : List (Message Known)) (told : List (Coming Known))
     (s : StandsBy p w asked told) (more : List Global) → Grows p.server.globals more
-    → Each (IsGlobal p.server.core.tables) more → length more ≤ max_globals
+    → Each (IsGlobal p.server.core.tables) more → length more ≤ most_globals
     → StandsBy (with_server p (record p.server { globals = more })) (record w { given = more }) asked told
 given_stands p w asked told s more g e l = record {
   terms = s.terms;
@@ -141,10 +140,10 @@ grows_more xs ys (suc k) g h = record {
 
 pub record CanAdd (s : server.State) (iface : Iface) (version : ℕ) : Type 0 where
   pub can : can_be_global s.core.tables iface version ≡ true
-  pub few : length s.globals < max_globals
+  pub few : length s.globals < globals_allowed s
 
 pub can_add : (s : server.State) (iface : Iface) (version : ℕ) (a b c : Bool) → a ≡ false
-    → can_be_global s.core.tables iface version ≡ b → nat_lt (length s.globals) max_globals ≡ c
+    → can_be_global s.core.tables iface version ≡ b → nat_lt (length s.globals) (globals_allowed s) ≡ c
     → cond a (Some Failed) (cond (not b) (Some BadGlobal) (cond c None (Some TooMany))) ≡ None → CanAdd s iface version
 can_add s iface version true b c l e f h = absurd (cc l)
 can_add s iface version false false c l e f h = absurd (cc h)

@@ -31,7 +31,7 @@ use Rattle.wl_objects.specs.Messages.{made_by, is_error, is_delete_id, is_bind, 
 use Rattle.wl_connection.specs.Core.{Core}
 use Rattle.wl_client.specs.declared.globals.Global.{Global as Remembered}
 use Rattle.wl_server.specs.State as server
-use Rattle.wl_server.specs.State.{global_of}
+use Rattle.wl_server.specs.State.{global_of, most_globals}
 use Rattle.wl_server.specs.Registries.{HasRegistries}
 use Rattle.wl_server.specs.Requests.{was_advertised}
 use Rattle.wl_sigs.specs.Rules.{is_ended_by_event, has_server_objects}
@@ -49,7 +49,6 @@ use Rattle.theory_connection.specs.Answers.{marks_of}
 use Rattle.theory_connection.specs.Flight.{Rows, client_rows, server_rows, births_in, all_asks}
 use Rattle.theory_connection.specs.Flight.{IsAskedBelow, all_tells}
 use Rattle.theory_connection.specs.Flight.{MeetInMiddle}
-use Rattle.wl_connection.specs.Core.{max_globals}
 
 -- ---- objects by id and by birth
 
@@ -308,7 +307,7 @@ pub record GlobalsStand (tables : List Interface) (client_knows : List Remembere
   pub given : world_given ≡ server_gave
   pub remembers : Each (λ g. WasGiven server_gave g.name g.iface g.version) client_knows
   pub globals : Each (IsGlobal tables) server_gave
-  pub few_globals : length server_gave ≤ max_globals
+  pub few_globals : length server_gave ≤ most_globals
 
 pub record RegistriesStand (view : Objects) (registries : List server.Registry) (marks : List Marks)
     : Type 0 where

@@ -7,7 +7,7 @@ use Rattle.wl_sigs.specs.Fixed.{display, registry}
 use Rattle.wl_objects.specs.Messages.{same_iface}
 use Rattle.wl_client.specs.declared.globals.Global.{Global as Remembered}
 use Rattle.wl_client.specs.Reports.{globals_told}
-use Rattle.wl_server.specs.State.{Global}
+use Rattle.wl_server.specs.State.{Global, most_globals}
 use Rattle.wl_server.specs.Registries.{with_registry, without_registry}
 use Rattle.wl_sigs.specs.Rules.{is_ended_by_event}
 use Rattle.wl_object_map.specs.declared.object.Maker.{Maker}
@@ -15,7 +15,6 @@ use Rattle.wl_object_map.specs.declared.object.Maker.TheVariants.{Client, Server
 use Rattle.theory_connection.specs.Meant.{Birth, client_birth, server_birth, same_birth, Born}
 use Rattle.theory_connection.specs.Meant.{Message, Coming}
 use Rattle.theory_connection.specs.Meant.{Event, Delete, objects, made_in, Arg}
-use Rattle.wl_connection.specs.Core.{max_globals}
 
 -- an object at the client: open, or ending
 pub data Row : Type 0 where
@@ -150,8 +149,8 @@ is_registry x = same_iface x.iface registry
 abbrev pub nothing_told : Born → Marks
 nothing_told x = record {
   birth = x.birth;
-  told = replicate max_globals false;
-  removed = replicate max_globals false;
+  told = replicate most_globals false;
+  removed = replicate most_globals false;
 }
 
 abbrev pub marks_birth : Marks → Birth

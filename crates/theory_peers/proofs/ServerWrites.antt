@@ -18,12 +18,12 @@ use Rattle.wl_object_map.specs.Objects.{Objects, ObjectsAreSound, can_open}
 use Rattle.wl_objects.specs.declared.error.SendError.TheVariants as refusals
 use Rattle.wl_objects.specs.Messages.{NewObject, live_row, same_iface}
 use Rattle.wl_objects.specs.Writing.{Given}
-use Rattle.wl_connection.specs.Core.{Core, max_globals}
+use Rattle.wl_connection.specs.Core.{Core}
 use Rattle.wl_connection.specs.Sending.{made_at, send_answer, with_sent}
 use Rattle.wl_server.specs.Announcing.{Due, Owing, Removal, Telling, owed, owed_opcode, values_of, with_dues}
 use Rattle.wl_server.specs.Calls.{drop_at, drop_refusal}
 use Rattle.wl_server.specs.Registries.{HasRegistries}
-use Rattle.wl_server.specs.State.{Global, State}
+use Rattle.wl_server.specs.State.{Global, State, most_globals}
 use Rattle.theory_connection.specs.Meant.{Born, Event, Known, Message, born_of_entry, made_in, objects, spelled_coming}
 use Rattle.theory_connection.specs.Meant.{spelled_meant}
 use Rattle.theory_connection.specs.World.{Each, IfThere, delete}
@@ -168,7 +168,7 @@ announcing core given view (d ∷ dues) v sound i =
     }
 
 pub announces_steps : (state : State) (count : ℕ) → Valid state.core.tables → ObjectsAreSound state.core.view
-    → HasVersions (server_rows state.core.view) → length state.globals ≤ max_globals
+    → HasVersions (server_rows state.core.view) → length state.globals ≤ most_globals
     → Each (IsGlobal state.core.tables) state.globals
     → HasRegistries state.core.view state.registries → AnnouncesAsSteps state count
 announces_steps state count v sound versions few globals registries =

@@ -12,7 +12,6 @@ use Rattle.wl_message.specs.declared.amounts.Sizes.{Sizes}
 use Rattle.wl_object_map.specs.declared.object.Object.{Object}
 use Rattle.wl_object_map.specs.Objects.{ObjectsAreSound}
 use Rattle.wl_objects.specs.Writing.{Given}
-use Rattle.wl_connection.specs.Core.{max_globals}
 use Rattle.wl_connection.specs.Receiving.{Found, header_of}
 use Rattle.wl_connection.specs.Sending.{after_send, send_answer}
 use Rattle.wl_server.specs.Announcing.{after_announce}
@@ -20,7 +19,7 @@ use Rattle.wl_server.specs.Calls.{add_refusal, after_drop, after_withdraw, drop_
 use Rattle.wl_server.specs.Calls.{with_global, withdraw_refusal}
 use Rattle.wl_server.specs.Registries.{HasRegistries}
 use Rattle.wl_server.specs.Requests.{request, state_past}
-use Rattle.wl_server.specs.State.{State, new_state, with_core}
+use Rattle.wl_server.specs.State.{State, most_globals, new_state, with_core}
 use Rattle.wl_recording.specs.declared.piece.Direction.TheVariants.{ToClient}
 use Rattle.wl_check.specs.Changes.{Call}
 use Rattle.wl_check.specs.Merged.{framed, span}
@@ -41,7 +40,7 @@ use Rattle.theory_peers.specs.ServerRun.{ServerRun}
 pub record IsSoundServer (state : State) : Type 0 where
   pub objects : ObjectsAreSound state.core.view
   pub registries : HasRegistries state.core.view state.registries
-  pub few : length state.globals ≤ max_globals
+  pub few : length state.globals ≤ most_globals
 
 -- the outbox has these messages in addition, at its end
 abbrev pub Appends : State → List QueuedMessage → State → Type 0

@@ -15,13 +15,13 @@ ghost use Rattle.wl_object_map.specs.Objects.{Objects, ObjectsAreSound};
 ghost use Rattle.wl_objects.specs.declared.error.Fault.{Fault as Faults};
 ghost use Rattle.wl_objects.specs.Messages.{is_bind};
 ghost use Rattle.wl_objects.specs.Writing.{Given};
-ghost use Rattle.wl_connection.specs.Core.{Core, max_globals};
+ghost use Rattle.wl_connection.specs.Core.{Core};
 ghost use Rattle.wl_connection.specs.Sending.{send_answer};
 ghost use Rattle.wl_connection.specs.Receiving.{header_of};
 ghost use Rattle.wl_server.specs.Calls.{drop_refusal};
 ghost use Rattle.wl_server.specs.Registries.{HasRegistries};
 ghost use Rattle.wl_server.specs.Requests.{is_good_bind, is_good_bind_of};
-ghost use Rattle.wl_server.specs.State.{Global, State, new_state};
+ghost use Rattle.wl_server.specs.State.{Global, State, most_globals, new_state};
 ghost use Rattle.wl_recording.specs.declared.piece.Direction.{Direction as Way};
 ghost use Rattle.wl_recording.specs.declared.piece.Direction.TheVariants.{ToClient, ToServer};
 ghost use Rattle.wl_check.specs.Changes.{Call as Calls};
@@ -165,7 +165,7 @@ pub fn an_announcement_is_steps()
     ensures { (state : State) (count : ℕ)
         → Valid state.core.tables → ObjectsAreSound state.core.view
         → HasVersions (server_rows state.core.view)
-        → length state.globals ≤ max_globals → Each (IsGlobal state.core.tables) state.globals
+        → length state.globals ≤ most_globals → Each (IsGlobal state.core.tables) state.globals
         → HasRegistries state.core.view state.registries
         → AnnouncesAsSteps state count }
 {}

@@ -3,7 +3,7 @@ ghost use Rattle.std.specs.Prelude.{◌≡◌, ◌≢◌, ◌↔◌, length, tru
 ghost use Rattle.wl_server.specs.State.{with_core};
 ghost use Rattle.wl_server.specs.Announcing.{after_announce, owed, Fitting};
 ghost use Rattle.wl_server.specs.Calls.{add_answer, after_drop, after_end, after_error};
-ghost use Rattle.wl_server.specs.Calls.{after_withdraw, end_refusal};
+ghost use Rattle.wl_server.specs.Calls.{after_withdraw, end_refusal, with_allowed};
 ghost use Rattle.wl_server.specs.Requests.{after_next, next_answer, request, request_opens};
 ghost use Rattle.wl_server.specs.Requests.{unless_fault};
 ghost use Rattle.wl_server.specs.Calls.{drop_refusal, error_refusal, with_global, withdraw_refusal};
@@ -141,6 +141,22 @@ pub extern "C" fn waywire_c_server_add_global(
         }
         Err(why) => global_status(why),
     }
+}
+
+/// Sets how many globals the server may add in its lifetime.
+#[unsafe(no_mangle)]
+pub extern "C" fn waywire_c_server_allow_globals(end: &mut EndHandle, number: usize) -> u32
+    ensures answer { IfServer end.old.held (λ server. result ≡ 0) }
+    ensures other { IfClient end.old.held (λ client. result ≡ 66) }
+    ensures state { result ≡ 0 → IfServer end.old.held (λ server. end.new.held
+        ≡ Server (with_allowed server number)) }
+    ensures unchanged { result ≢ 0 → end.new.held ≡ end.old.held }
+{
+    let HeldEnd::Server(server) = end.get_mut() else {
+        return OTHER_END;
+    };
+    server.allow_globals(number);
+    OK
 }
 
 /// Withdraws a global.

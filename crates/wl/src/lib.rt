@@ -190,8 +190,9 @@
 //!   global), `bind_unannounced` (any global), `remembers` (whether `bind` can bind a global),
 //!   `more_tables`, `next`, `next_with_entry`, `next_owned`, `next_owned_with_entry`, `read_all`,
 //!   `made` and `replaced` (by the last message).
-//! - [`Server`]: `new`, `send`, `send_words`, `add_global`, `withdraw`, `announce` (to each
-//!   registry what it lacks), `more_tables`, `drop_object` (without an event), `end_object` (of any
+//! - [`Server`]: `new`, `send`, `send_words`, `add_global`, `withdraw`, `allow_globals` (how many it
+//!   may add, up to [`MOST_GLOBALS`]), `announce` (to each registry what it lacks), `more_tables`,
+//!   `drop_object` (without an event), `end_object` (of any
 //!   interface), `post_error`, `next`, `next_with_entry`, `next_unanswered` (leaves a fault to the
 //!   caller), `next_answering` (does as the caller says), `front` (the bytes of the first message),
 //!   `next_owned`, `next_owned_with_entry`, `read_all`.
@@ -277,7 +278,8 @@ pub use wl_objects::{
     NextError, Object, Objects, OwnedArgs, SendError, SlotTable, State, Table, TableError,
 };
 pub use wl_server::{
-    Announced, GlobalError, OwnedRequest, OwnedRequestWithEntry, Request, RequestWithEntry, Server,
+    Announced, GlobalError, MOST_GLOBALS, OwnedRequest, OwnedRequestWithEntry, Request,
+    RequestWithEntry, Server,
 };
 pub use wl_session::{
     Carried, Direction, Move, Pair, Passed, Recording, RecordingError, Reply, SendArg, Tee,

@@ -226,8 +226,9 @@ front-told core inner args held p body tokens same kept can b all first =
 
 -- ---- a message that was taken
 
-pub applied-left : (core now : Core) (globals : List Global) (rs ms : List Registry) (step : Step)
-    → Ok (Some step) ≡ checked_front (whole_state core globals rs) → now ≡ core_by core step
-    → ms ≡ registries_by core rs step → whole_state now globals ms ≡ after_next (whole_state core globals rs)
-applied-left core now globals rs ms step e n m = (λ i. whole_state (n i) globals (m i))
-    ∙ after-is (whole_state core globals rs) (Ok (Some step)) e
+pub applied-left : (allowed : ℕ) (core now : Core) (globals : List Global) (rs ms : List Registry) (step : Step)
+    → Ok (Some step) ≡ checked_front (whole_state allowed core globals rs) → now ≡ core_by core step
+    → ms ≡ registries_by core rs step → whole_state allowed now globals ms
+    ≡ after_next (whole_state allowed core globals rs)
+applied-left allowed core now globals rs ms step e n m = (λ i. whole_state allowed (n i) globals (m i))
+    ∙ after-is (whole_state allowed core globals rs) (Ok (Some step)) e

@@ -108,7 +108,7 @@ most core now done (d ∷ ds) n w o fit b f =
 -- the server after announcing
 pub finished : (state : State) (told : Announced) (now : Core) (ms : List Registry) → IsOrdinary state.core.outbox
     → IsAnnounced state.core state.registries (owed state) told now ms
-    → Fitting state told.count × (record { core = now; globals = state.globals; registries = ms }
+    → Fitting state told.count × (record state { core = now; registries = ms }
     ≡ after_announce state told.count)
 finished state told now ms o t =
     let p = t.progress in

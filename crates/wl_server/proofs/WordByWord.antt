@@ -12,15 +12,15 @@ use Rattle.wl_server.specs.Announcing.{owes_removal, owes_telling}
 use Rattle.wl_server.specs.Words.{AreWithdrawn, OwesNoRemoval, OwesNoTelling}
 use Rattle.wl_server.proofs.Words.{bits_get}
 
-pub word-name : (ws : List ℕ) (word k : ℕ) → word < 16 → k < 64
-    → (bit_at (get_or ws word 0) k == 1) ≡ has_name (bits 1024 0 ws) (64 * word + k + 1)
+pub word-name : (ws : List ℕ) (word k : ℕ) → word < 64 → k < 64
+    → (bit_at (get_or ws word 0) k == 1) ≡ has_name (bits 4096 0 ws) (64 * word + k + 1)
 word-name ws word k h l =
     let place = 64 * word + k in
     let at : 64 * word + k + 1 - 1 ≡ place = omega arith in
     let there : (0 + place) / 64 ≡ word = omega (arith, l) in
     let bit : (0 + place) % 64 ≡ k = omega (arith, l) in
-    sym (ap (λ (n : ℕ). unwrap_or (slice_get (bits 1024 0 ws) n) false) at
-    ∙ ap (λ (o : Option Bool). unwrap_or o false) (bits_get 1024 0 place ws (omega (arith, h, l)))
+    sym (ap (λ (n : ℕ). unwrap_or (slice_get (bits 4096 0 ws) n) false) at
+    ∙ ap (λ (o : Option Bool). unwrap_or o false) (bits_get 4096 0 place ws (omega (arith, h, l)))
     ∙ (λ i. bit_at (get_or ws (there i) 0) (bit i) == 1))
 
 -- a test of three bits, from arithmetic to Booleans

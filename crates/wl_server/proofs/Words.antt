@@ -68,24 +68,24 @@ set_other ws place q false e h ne =
     ap (λ (w : ℕ). bit_at w (q % 64) == 1) (get_or-set_other ws (place / 64) (q / 64) (set_word ws place) 0
     (eqb-false (q / 64) (place / 64) e))
 
-pub read_bit : (ws : List ℕ) (p : ℕ) → p < 1024 → ((bit_and (get_or ws (p / 64) 0 / 2 ^ (p % 64)) 1) == 1)
-    ≡ unwrap_or (slice_get (bits 1024 0 ws) p) false
+pub read_bit : (ws : List ℕ) (p : ℕ) → p < 4096 → ((bit_and (get_or ws (p / 64) 0 / 2 ^ (p % 64)) 1) == 1)
+    ≡ unwrap_or (slice_get (bits 4096 0 ws) p) false
 read_bit ws p h =
     let e : 0 + p ≡ p = omega arith in
     ap (λ (b : ℕ). b == 1) (shr_and_one (get_or ws (p / 64) 0) (p % 64))
-    ∙ sym (ap (λ (o : Option Bool). unwrap_or o false) (bits_get 1024 0 p ws h) ∙ ap (has_bit ws) e)
+    ∙ sym (ap (λ (o : Option Bool). unwrap_or o false) (bits_get 4096 0 p ws h) ∙ ap (has_bit ws) e)
 
-pub reads_set : (ws : List ℕ) (p : ℕ) → p < 1024 → length ws ≡ 16
-    → unwrap_or (slice_get (bits 1024 0 (set_in ws p)) p) false ≡ true
+pub reads_set : (ws : List ℕ) (p : ℕ) → p < 4096 → length ws ≡ 64
+    → unwrap_or (slice_get (bits 4096 0 (set_in ws p)) p) false ≡ true
 reads_set ws p h l =
     let e : 0 + p ≡ p = omega arith in
-    ap (λ (o : Option Bool). unwrap_or o false) (bits_get 1024 0 p (set_in ws p) h)
+    ap (λ (o : Option Bool). unwrap_or o false) (bits_get 4096 0 p (set_in ws p) h)
     ∙ ap (has_bit (set_in ws p)) e ∙ set_here ws p (omega (arith, h, l))
 
-pub bit_is_set : (ws : List ℕ) (p : ℕ) → p < 1024 → length ws ≡ 16
-    → bits 1024 0 (set_in ws p) ≡ slice_set (bits 1024 0 ws) p true
+pub bit_is_set : (ws : List ℕ) (p : ℕ) → p < 4096 → length ws ≡ 64
+    → bits 4096 0 (set_in ws p) ≡ slice_set (bits 4096 0 ws) p true
 bit_is_set ws p h l =
     let e : 0 + p ≡ p = omega arith in
     let there : p / 64 < length ws = omega (arith, h, l) in
-    bits_set 1024 0 p ws (set_in ws p) h (ap (has_bit (set_in ws p)) e ∙ set_here ws p there)
+    bits_set 4096 0 p ws (set_in ws p) h (ap (has_bit (set_in ws p)) e ∙ set_here ws p there)
     (λ q ne. set_other ws p q (eqb (q / 64) (p / 64)) refl there (λ same. ne (same ∙ sym e)))

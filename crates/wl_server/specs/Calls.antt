@@ -1,7 +1,7 @@
 -- What a server's other calls return and write.
 use Rattle.std.specs.Prelude.{◌≡◌, ℕ, ◌+◌, ◌-◌, Bool, true, false, ◌&&◌, ◌||◌, not, nat_eq, nat_lt}
 use Rattle.std.specs.Prelude.{nat_le, if◌then◌else◌, List, [], ◌∷◌, ◌++◌, length, slice_set, Option}
-use Rattle.std.specs.Prelude.{Some, None, is_some}
+use Rattle.std.specs.Prelude.{Some, None, is_some, min}
 use Rattle.std.specs.List.{list_any}
 use Rattle.std.specs.declared.result.Result.{Result}
 use Rattle.std.specs.declared.result.Result.TheVariants.{Ok, Err}
@@ -21,8 +21,7 @@ use Rattle.wl_connection.specs.Sending.{fits, with_delete_id, delete_id_len, wit
 use Rattle.wl_connection.specs.Sending.{with_following, max_error_text}
 use Rattle.wl_server.specs.declared.globals.GlobalError.{GlobalError}
 use Rattle.wl_server.specs.declared.globals.GlobalError.TheVariants as global_errors
-use Rattle.wl_server.specs.State.{State, Global, global_of}
-use Rattle.wl_connection.specs.Core.{max_globals}
+use Rattle.wl_server.specs.State.{State, Global, global_of, most_globals}
 
 -- ---- ending an object without an event
 
@@ -137,12 +136,20 @@ after_withdraw state name = record state {
   globals = without_at state.globals name (global_of state.globals name);
 }
 
+-- how many globals a server may add in its life
+abbrev pub globals_allowed : State → ℕ
+globals_allowed state = min state.allowed most_globals
+
+-- the server that may add this many instead
+abbrev pub with_allowed : State → ℕ → State
+with_allowed state number = record state { allowed = number }
+
 -- Why `add_global` is refused, if no memory is needed: G1, G2, G3.
 abbrev pub add_refusal : State → Iface → ℕ → Option GlobalError
 add_refusal state iface version =
     if state.core.failed then Some global_errors.Failed
     else if not (can_be_global state.core.tables iface version) then Some global_errors.BadGlobal
-    else if nat_lt (length state.globals) max_globals then None
+    else if nat_lt (length state.globals) (globals_allowed state) then None
     else Some global_errors.TooMany
 
 -- Why `withdraw` is refused: G1, G5.

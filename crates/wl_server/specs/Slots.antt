@@ -1,10 +1,10 @@
 -- How a server stores its open registries.
 use Rattle.std.specs.Prelude.{◌≡◌, ℕ, suc, ◌≤◌, max, List, [], ◌∷◌, length, map, take}
 use Rattle.std.specs.List.{filter}
-use Rattle.wl_connection.specs.Core.{Core, max_globals}
+use Rattle.wl_connection.specs.Core.{Core}
 use Rattle.wl_connection.specs.ServerRange.{EventsMakeMade, NoEventEndsMade}
 use Rattle.wl_server.specs.declared.registry.RegistrySlot.{RegistrySlot}
-use Rattle.wl_server.specs.State.{Global, Registry}
+use Rattle.wl_server.specs.State.{Global, Registry, most_globals}
 use Rattle.wl_server.specs.Announcing.{owed_in}
 use Rattle.wl_server.specs.Registries.{HasRegistries}
 
@@ -45,7 +45,7 @@ KeepsSettled before after = (globals : List Global) → owed_in globals (settled
 -- What holds for a server between calls. (Because of the last, `lasting` still holds with tables
 -- that extend the server's.)
 pub record IsSound (core : Core) (globals : List Global) (kept : KeptRegistries) : Type 0 where
-  pub few : length globals ≤ max_globals
+  pub few : length globals ≤ most_globals
   pub registries : HasRegistries core.view kept.list
   pub past : kept.past ≤ core.view.client.births
   pub settled : owed_in globals (settled_in kept) ≡ []

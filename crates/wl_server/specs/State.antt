@@ -9,6 +9,10 @@ use Rattle.wl_object_map.specs.declared.object.Object.{Object}
 use Rattle.wl_connection.specs.Core.{Core, new_core}
 use Rattle.wl_connection.specs.Core.{max_globals}
 
+-- the most globals that any server adds in its life, whatever it is allowed
+abbrev pub most_globals : ℕ
+most_globals = 4096
+
 -- a global: what is advertised, and whether it is present or withdrawn
 pub record Global : Type 0 where
   pub iface : Iface
@@ -27,9 +31,16 @@ pub record State : Type 0 where
   pub core : Core
   pub globals : List Global
   pub registries : List Registry
+  -- how many globals it may add in its life, if that is at most `most_globals`
+  pub allowed : ℕ
 
 abbrev pub new_state : List Interface → Sizes → State
-new_state tables sizes = record { core = new_core tables sizes; globals = []; registries = [] }
+new_state tables sizes = record {
+  core = new_core tables sizes;
+  globals = [];
+  registries = [];
+  allowed = max_globals;
+}
 
 abbrev pub with_core : State → Core → State
 with_core state core = record state { core = core }
@@ -51,8 +62,8 @@ with_name names name = slice_set names (name - 1) true
 abbrev pub untold : Object → Registry
 untold object = record {
   object = object;
-  told = replicate max_globals false;
-  removed = replicate max_globals false;
+  told = replicate most_globals false;
+  removed = replicate most_globals false;
 }
 
 -- the births of these registries rise, starting at the first number or above, and are below the

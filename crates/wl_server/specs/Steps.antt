@@ -145,14 +145,14 @@ applied_report core args p = outlined core.inbox.last args core.inbox.last_token
 
 -- ---- what is at the front
 
+-- a server
+abbrev pub whole_state : ℕ → Core → List Global → List Registry → State
+whole_state allowed core globals registries =
+    record { core = core; globals = globals; registries = registries; allowed = allowed }
+
 -- a server's state, as far as it determines what is at the front
 abbrev pub server_state : Core → List Global → State
-server_state core globals = record { core = core; globals = globals; registries = [] }
-
--- a server
-abbrev pub whole_state : Core → List Global → List Registry → State
-whole_state core globals registries =
-    record { core = core; globals = globals; registries = registries }
+server_state core globals = whole_state 0 core globals []
 
 abbrev pub step_found : Core → Result (Option Found) Fault → Result (Option Step) NextError
 step_found core (Err fault) = Err (errors.Fault fault core.read)

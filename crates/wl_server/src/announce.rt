@@ -3,7 +3,8 @@ ghost use Rattle.std.specs.Prelude.{◌≡◌, ◌≤◌, ◌↔◌, ◌∷◌, 
 ghost use Rattle.wl_wire.specs.Spelling.{IsText};
 ghost use Rattle.wl_sigs.specs.Tables.{max_name_len};
 ghost use Rattle.wl_objects.specs.declared.error.SendError.TheVariants as refusals;
-ghost use Rattle.wl_connection.specs.Core.{IsOrdinary, max_globals};
+ghost use Rattle.wl_connection.specs.Core.{IsOrdinary};
+ghost use Rattle.wl_server.specs.State.{most_globals};
 ghost use Rattle.wl_server.specs.Registries.{HasRegistries};
 ghost use Rattle.wl_server.specs.Announcing.{Fitting, Removal, Telling, after_announce, due_to};
 ghost use Rattle.wl_server.specs.Announcing.{name_at, owed};
@@ -83,7 +84,7 @@ pub(crate) fn announce_to<T: Table>(
     withdrawn: &NameSet,
     registry: &mut OpenRegistry,
 ) -> Announced
-    requires few { length globals.now ≤ max_globals }
+    requires few { length globals.now ≤ most_globals }
     requires withdrawn { AreWithdrawn globals.now withdrawn.now }
     requires ordinary { IsOrdinary core.old.outbox }
     ensures told { IsAnnounced core.old (registry.old ∷ []) (due_to globals.now registry.old) result

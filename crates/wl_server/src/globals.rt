@@ -1,18 +1,16 @@
 //! The globals that a server advertises.
 ghost use Rattle.std.specs.Prelude.{◌≡◌, ◌≤◌, OnOk, OnErr, true, length};
-ghost use Rattle.wl_connection.specs.Core.{max_globals};
 ghost use Rattle.wl_connection.specs.Outcomes.{AnswersOrMemory, refusal_in};
-ghost use Rattle.wl_server.specs.State.{global_of};
+ghost use Rattle.wl_server.specs.State.{global_of, most_globals};
 ghost use Rattle.wl_server.specs.Calls.{add_answer, after_withdraw, can_be_global};
-ghost use Rattle.wl_server.specs.Calls.{with_global, withdraw_refusal};
+ghost use Rattle.wl_server.specs.Calls.{with_allowed, with_global, withdraw_refusal};
 ghost use Rattle.wl_server.specs.Words.{AreWithdrawn};
 
-use crate::name_set::NameSet;
+use crate::name_set::{MOST_GLOBALS, NameSet};
 use crate::server::Server;
 use std::error::Error;
 use std::fmt::{self, Display, Formatter};
 use std::marker::Model;
-use wl_connection::MAX_GLOBALS;
 use wl_objects::{DISPLAY, REGISTRY, Table};
 use wl_sigs::Tables;
 use wl_wire::Iface;
@@ -44,7 +42,8 @@ pub enum GlobalError {
     /// G2: the interface is wl_display, wl_registry or not in the tables, or the version is 0 or
     /// above the one in the tables.
     BadGlobal,
-    /// G3: 1,024 globals were added in the server's lifetime.
+    /// G3: as many globals were added in the server's lifetime as it may add: 1,024, or the number
+    /// of [`Server::allow_globals`].
     TooMany,
     /// G4: there is no memory for the global.
     Memory,
@@ -87,7 +86,8 @@ impl<'t, T: Table> Server<'t, T> {
             return Err(GlobalError::BadGlobal);
         }
         let count = self.role.globals.len();
-        if count >= MAX_GLOBALS {
+        let most = self.role.allowed.min(MOST_GLOBALS);
+        if count >= most {
             return Err(GlobalError::TooMany);
         }
         let global = Advertised {
@@ -102,6 +102,15 @@ impl<'t, T: Table> Server<'t, T> {
             }
             Err(_) => Err(GlobalError::Memory),
         }
+    }
+
+    /// Sets how many globals the server may add in its lifetime: 1,024 unless this is called.
+    /// However large the number is, the server adds no more than [`MOST_GLOBALS`]. A client
+    /// remembers 1,024 at a time.
+    pub fn allow_globals(&mut self, number: usize)
+        ensures { self.new ≡ with_allowed self.old number }
+    {
+        self.role.allowed = number;
     }
 
     /// Withdraws a global. G1 is tested before G5. The global can still be bound, and `announce`
@@ -151,7 +160,7 @@ pub(crate) fn global_of(globals: &[Advertised], name: u32) -> Option<Advertised>
 
 /// The names of the withdrawn globals among these.
 pub(crate) fn withdrawn_names(globals: &[Advertised]) -> NameSet
-    requires { length globals.now ≤ max_globals }
+    requires { length globals.now ≤ most_globals }
     ensures { AreWithdrawn globals.now result }
 {
     let mut withdrawn = NameSet::new();

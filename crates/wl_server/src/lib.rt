@@ -24,6 +24,7 @@ mod shown;
 pub use announce::Announced;
 pub use globals::GlobalError;
 pub use laws::{any_cut_reads, one_reading, own_messages_are_spelled, whole_messages_are_read};
+pub use name_set::MOST_GLOBALS;
 pub use report::{OwnedRequest, OwnedRequestWithEntry, Request, RequestWithEntry};
 pub use server::Server;
 pub use wl_connection::ReadAll;

@@ -2,8 +2,8 @@
 ghost use Rattle.std.specs.Prelude.{◌≡◌, ◌≤◌, ◌<◌, ◌+◌, ◌∷◌, ◌++◌, [], true, OnOk, OnErr, length};
 ghost use Rattle.std.specs.Prelude.{take};
 ghost use Rattle.std.specs.List.{count_by};
-ghost use Rattle.wl_connection.specs.Core.{IsOrdinary, max_globals};
-ghost use Rattle.wl_server.specs.State.{untold};
+ghost use Rattle.wl_connection.specs.Core.{IsOrdinary};
+ghost use Rattle.wl_server.specs.State.{most_globals, untold};
 ghost use Rattle.wl_server.specs.Announcing.{owed_in};
 ghost use Rattle.wl_server.specs.Registries.{without_object};
 ghost use Rattle.wl_server.specs.Slots.{KeepsSettled, SlotsRise, open_in, past_of, settled_in};
@@ -69,7 +69,7 @@ fn announce_from<T: Table>(
     slots: &mut [RegistrySlot],
     settled: &mut usize,
 ) -> Announced
-    requires few { length globals.now ≤ max_globals }
+    requires few { length globals.now ≤ most_globals }
     requires withdrawn { AreWithdrawn globals.now withdrawn.now }
     requires ordinary { IsOrdinary core.old.outbox }
     requires rising { SlotsRise 0 slots.old }
@@ -197,7 +197,7 @@ impl<A: Allocator + Drop> OpenRegistries<A> {
         core: &mut Core<'_, T>,
         globals: &[Advertised],
     ) -> Announced
-        requires few { length globals.now ≤ max_globals }
+        requires few { length globals.now ≤ most_globals }
         requires ordinary { IsOrdinary core.old.outbox }
         requires settled { owed_in globals.now (settled_in self.old) ≡ [] }
         ensures told { IsAnnounced core.old self.old.list (owed_in globals.now self.old.list) result

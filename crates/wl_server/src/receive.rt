@@ -170,15 +170,19 @@ fn read_request<T: Table>(
 ) -> Result<Option<PendingRequest>, NextError>
     requires { IsSoundServer end.old.core role.old.globals.items role.old.registries }
     ensures answer { IsLentNext server_role
-        (whole_state end.old.core role.old.globals.items role.old.registries.list)
+        (whole_state role.old.allowed end.old.core role.old.globals.items
+        role.old.registries.list)
         (read_as (applied_report end.new.core end.new.args) result) }
-    ensures state { whole_state end.new.core role.new.globals.items role.new.registries.list
+    ensures state { whole_state role.new.allowed end.new.core role.new.globals.items
+        role.new.registries.list
         ≡ after_answering answers
-        (whole_state end.old.core role.old.globals.items role.old.registries.list)
+        (whole_state role.old.allowed end.old.core role.old.globals.items
+        role.old.registries.list)
         (read_as (applied_report end.new.core end.new.args) result) }
     ensures sound { IsSoundServer end.new.core role.new.globals.items role.new.registries }
     ensures ahead { IfOk result (λ read. IfSome read (λ pending. IsNextRequest
-        (whole_state end.old.core role.old.globals.items role.old.registries.list)
+        (whole_state role.old.allowed end.old.core role.old.globals.items
+        role.old.registries.list)
         end.new.args pending)) }
 {
     if end.core.failed {

@@ -1,7 +1,6 @@
 //! The open registries of a server's client, and which globals were announced to each.
 ghost use Rattle.std.specs.Prelude.{◌≡◌, ◌≤◌, ◌<◌, true};
-ghost use Rattle.wl_connection.specs.Core.{max_globals};
-ghost use Rattle.wl_server.specs.State.{has_name, untold, with_name};
+ghost use Rattle.wl_server.specs.State.{has_name, most_globals, untold, with_name};
 ghost use Rattle.wl_server.specs.Announcing.{owes_removal, owes_telling};
 ghost use Rattle.wl_server.specs.Words.{OwesNoRemoval, OwesNoTelling};
 
@@ -40,7 +39,7 @@ impl OpenRegistry {
 
     /// Whether the registry still needs global_remove of a name.
     pub(crate) fn owes_removal(&self, name: u32, global: Advertised) -> bool
-        requires { (0 < name) × (name ≤ max_globals) }
+        requires { (0 < name) × (name ≤ most_globals) }
         ensures { result ≡ owes_removal self.now name global }
     {
         self.told.has(name) && !global.present && !self.removed.has(name)
@@ -48,7 +47,7 @@ impl OpenRegistry {
 
     /// Whether the registry still needs global of a name.
     pub(crate) fn owes_telling(&self, name: u32, global: Advertised) -> bool
-        requires { (0 < name) × (name ≤ max_globals) }
+        requires { (0 < name) × (name ≤ most_globals) }
         ensures { result ≡ owes_telling self.now name global }
     {
         global.present && !self.told.has(name)
@@ -57,7 +56,7 @@ impl OpenRegistry {
     /// The next place after this one whose name may need global_remove; the names between need
     /// none. `withdrawn` has the names of withdrawn globals.
     pub(crate) fn next_removal(&self, withdrawn: &NameSet, place: usize) -> usize
-        requires { place < max_globals }
+        requires { place < most_globals }
         ensures behind { place < result }
         ensures none { OwesNoRemoval self.now withdrawn.now place result }
     {
@@ -68,7 +67,7 @@ impl OpenRegistry {
 
     /// The next place after this one whose name may need global; the names between need none.
     pub(crate) fn next_telling(&self, withdrawn: &NameSet, place: usize) -> usize
-        requires { place < max_globals }
+        requires { place < most_globals }
         ensures behind { place < result }
         ensures none { OwesNoTelling self.now withdrawn.now place result }
     {
@@ -79,7 +78,7 @@ impl OpenRegistry {
 
     /// Adds a name to those whose removal was sent.
     pub(crate) fn mark_removed(&mut self, name: u32)
-        requires { (0 < name) × (name ≤ max_globals) }
+        requires { (0 < name) × (name ≤ most_globals) }
         ensures set { self.new ≡ record self.old { removed = with_name self.old.removed name } }
         ensures marked { has_name self.new.removed name ≡ true }
     {
@@ -88,7 +87,7 @@ impl OpenRegistry {
 
     /// Adds a name to those that were announced.
     pub(crate) fn mark_told(&mut self, name: u32)
-        requires { (0 < name) × (name ≤ max_globals) }
+        requires { (0 < name) × (name ≤ most_globals) }
         ensures set { self.new ≡ record self.old { told = with_name self.old.told name } }
         ensures marked { has_name self.new.told name ≡ true }
     {

@@ -26,6 +26,8 @@ pub(crate) struct ServerRole<A: Allocator> {
     /// The globals that it added, in the order of their names.
     pub(crate) globals: Vec<Advertised, A>,
     pub(crate) registries: OpenRegistries<A>,
+    /// How many globals it may add in its lifetime.
+    pub(crate) allowed: usize,
 }
 
 impl<T: Table> Meaning<T> for ServerRole<T::Alloc> {
@@ -78,7 +80,8 @@ impl<T: Table> Role<T> for ServerRole<T::Alloc> {
 
     ghost State = { ServerState };
 
-    ghost state = { λ core kept. whole_state core kept.globals.items kept.registries.list };
+    ghost state = { λ core kept.
+        whole_state kept.allowed core kept.globals.items kept.registries.list };
 
     ghost role = { server_role };
 
@@ -91,7 +94,7 @@ impl<T: Table> Role<T> for ServerRole<T::Alloc> {
     ghost IsSound = { λ core kept. IsSoundServer core kept.globals.items kept.registries };
 
     ghost IsAhead = { λ core kept args request. IsNextRequest
-        (whole_state core kept.globals.items kept.registries.list) args request };
+        (whole_state kept.allowed core kept.globals.items kept.registries.list) args request };
 
     fn find(&self, end: &mut Endpoint<'_, T>) -> Result<Option<PendingRequest>, NextError> {
         if end.core.failed {

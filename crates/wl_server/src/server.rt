@@ -9,7 +9,7 @@ use crate::open_registries::OpenRegistries;
 use crate::role::ServerRole;
 use std::alloc::AllocError;
 use std::marker::Model;
-use wl_connection::{Core, Endpoint, FirstServerObject};
+use wl_connection::{Core, Endpoint, FirstServerObject, MAX_GLOBALS};
 use wl_message::Sizes;
 use wl_objects::Table;
 use wl_sigs::Tables;
@@ -38,6 +38,7 @@ impl<'t, T: Table> Model for Server<'t, T> {
       core = s.end.core;
       globals = s.role.globals.items;
       registries = s.role.registries.list;
+      allowed = s.role.allowed;
     } };
 
     ghost invariant = { λ s. IsSound s.end.core s.role.globals.items s.role.registries };
@@ -58,6 +59,7 @@ impl<'t, T: Table> Server<'t, T> {
             role: ServerRole {
                 globals,
                 registries,
+                allowed: MAX_GLOBALS,
             },
         })
     }

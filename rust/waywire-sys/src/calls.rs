@@ -195,6 +195,7 @@ extern "C" {
         version: u32,
         name: *mut u32,
     ) -> u32;
+    pub fn waywire_server_allow_globals(server: waywire_server, number: usize) -> u32;
     pub fn waywire_server_withdraw(server: waywire_server, name: u32) -> u32;
     pub fn waywire_server_announce(
         server: waywire_server,

@@ -91,7 +91,8 @@ pub enum GlobalError {
     Failed,
     /// This interface and version cannot be advertised.
     BadGlobal,
-    /// The server has added 1,024 globals in its life, the most that it can.
+    /// The server has added as many globals in its life as it may: 1,024, or the number of
+    /// [`allow_globals`](crate::Writer::allow_globals).
     TooMany,
     /// The name was never given to a global, or its global is withdrawn.
     NoSuchGlobal,

@@ -230,7 +230,7 @@ pub use inspector::{
 pub use map::{Key, ObjectMap};
 pub use owned::{OwnedMessage, OwnedValue};
 pub use report::{Event, Incoming, Message, Named, ProtocolError, Request};
-pub use server::Server;
+pub use server::{Server, MOST_GLOBALS};
 pub use tables::{ArgKind, Destroys, Interface, Object, Signature, Tables};
 pub use typed::{EventHandler, Handle, Readable, RequestHandler};
 pub use writer::{ClientWriter, ServerWriter, Writer};

@@ -8,6 +8,10 @@ use crate::sys;
 use crate::tables::Tables;
 use waywire_sys as ffi;
 
+/// The most globals that any server adds in its life: see
+/// [`allow_globals`](crate::Writer::allow_globals).
+pub const MOST_GLOBALS: usize = ffi::WAYWIRE_MOST_GLOBALS as usize;
+
 /// The server's end of one connection: its objects, its inbox and outbox, and the globals that it
 /// advertises. [`Connection`] has the calls that a client has too.
 pub type Server = Connection<AsServer>;

@@ -199,6 +199,12 @@ impl ServerWriter {
         self.end.add_global(interface.0, version)
     }
 
+    /// Sets how many globals the server may add in its life, including those that it has added: 1,024
+    /// unless this is called. Of a number above [`MOST_GLOBALS`](crate::MOST_GLOBALS), that many.
+    pub fn allow_globals(&self, number: usize) {
+        self.end.allow_globals(number);
+    }
+
     /// Withdraws a global. It can still be bound, since a bind may be on its way.
     /// [`announce`](Writer::announce) writes global_remove to the registries that were told of it.
     ///

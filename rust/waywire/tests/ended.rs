@@ -3,8 +3,8 @@
 
 use waywire::wayland::{wl_compositor, wl_display, wl_registry, wl_surface};
 use waywire::{
-    Amounts, Announced, Arg, Client, Connection, FaultKind, Incoming, NextError, Object, SendError,
-    Server, Sizes, Tables, Unanswered, Value,
+    Amounts, Announced, Arg, Client, Connection, FaultKind, GlobalError, Incoming, NextError,
+    Object, SendError, Server, Sizes, Tables, Unanswered, Value, MOST_GLOBALS,
 };
 
 /// Carries what waits at one end to the other.
@@ -120,4 +120,37 @@ fn not_all_is_announced() {
     let mut bytes = [0; 80];
     assert_eq!(server.take(&mut bytes, &mut Vec::new(), 0).bytes, 56);
     assert_eq!(server.announce(), Ok(Announced { count: 1, all: true }));
+}
+
+#[test]
+fn a_server_adds_as_many_globals_as_it_is_allowed() {
+    let tables = Tables::core().unwrap();
+    let mut server = Server::new(&tables, &Sizes::default()).unwrap();
+    let seat = tables.interface("wl_seat").unwrap();
+    let add_all = |server: &Server| {
+        (0..=MOST_GLOBALS).take_while(|_| server.add_global(seat, 9).is_ok()).count()
+    };
+    assert_eq!(add_all(&server), 1024);
+    assert_eq!(server.add_global(seat, 9), Err(GlobalError::TooMany));
+    server.allow_globals(1025);
+    assert_eq!(server.add_global(seat, 9), Ok(1025));
+    assert_eq!(server.add_global(seat, 9), Err(GlobalError::TooMany));
+    server.allow_globals(usize::MAX);
+    assert_eq!(add_all(&server), MOST_GLOBALS - 1025);
+    assert_eq!(server.withdraw(4096), Ok(()));
+    assert_eq!(server.add_global(seat, 9), Err(GlobalError::TooMany));
+    let get_registry = [1, 0, 0, 0, 1, 0, 12, 0, 2, 0, 0, 0];
+    assert!(server.feed(&get_registry, &mut Vec::new()).is_ok());
+    assert!(server.next().unwrap().is_some());
+    let (mut bytes, mut told) = (vec![0; 65536], 0);
+    loop {
+        let announced = server.announce().unwrap();
+        told += announced.count;
+        if announced.all {
+            break;
+        }
+        while server.take(&mut bytes, &mut Vec::new(), 0).bytes > 0 {}
+    }
+    assert_eq!(told, MOST_GLOBALS - 1);
+    assert_eq!(server.announce(), Ok(Announced { count: 0, all: true }));
 }

@@ -13,8 +13,7 @@ from tests.libwayland.libraries import C, OUT, SOURCES, SYSTEM_SERVER, Library, 
 # What a library prints must be what the system's prints, line for line.
 COMPARED = ("edges", "resources", "loop", "shm", "sockets")
 # Scenes that may also go another way, which docs/LIBWAYLAND.md names, and what they print then.
-DIFFERENT = {"many_globals": ["told of 1023 globals, and that 1023 are gone\n", "told of 0 globals that stay\n"],
-             "a_file_that_is_no_socket": ["a file of that name, without a lock: -1 \n", "stale: a file\n"]}
+DIFFERENT = {"a_file_that_is_no_socket": ["a file of that name, without a lock: -1 \n", "stale: a file\n"]}
 LEAKS = ("--leak-check=full", "--errors-for-leak-kinds=definite")
 DEBUG = {"WAYLAND_DEBUG": "server"}
 # The line of a session that is not changed but cut, or whose client dies, is that of the system's library.

@@ -584,6 +584,12 @@ impl End {
         global_result(status).map(|()| name)
     }
 
+    pub fn allow_globals(&self, number: usize) {
+        // SAFETY: the end is the library's, and lives as long as `self`.
+        let status = unsafe { ffi::waywire_server_allow_globals(self.as_server(), number) };
+        debug_assert_eq!(status, ffi::WAYWIRE_OK);
+    }
+
     pub fn withdraw(&self, name: u32) -> Result<(), GlobalError> {
         // SAFETY: the end is the library's, and lives as long as `self`.
         global_result(unsafe { ffi::waywire_server_withdraw(self.as_server(), name) })

@@ -10,7 +10,7 @@ use Rattle.wl_server.proofs.globals.withdrawn_names.Goals as goal
 pub places-init : goal.places-init
 places-init c = record {
   marked = λ k x l there e. absurd (omega (arith, l));
-  rest = λ k l. ap (λ (names : List Bool). has_name names (k + 1)) c.new-withdrawn.ensures ∙ unmarked 1024 (k + 1 - 1);
+  rest = λ k l. ap (λ (names : List Bool). has_name names (k + 1)) c.new-withdrawn.ensures ∙ unmarked 4096 (k + 1 - 1);
 }
 
 pub places-preserved : goal.places-preserved
@@ -56,3 +56,6 @@ places-preserved c =
             ∙ c.places.invariant.rest k (omega (arith, l));
       }
     ]
+
+pub returns : goal.returns
+returns c k x l e = c.places.invariant.marked k x (omega (arith, c.places-test.false, l)) l e

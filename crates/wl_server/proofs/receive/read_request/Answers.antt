@@ -46,7 +46,7 @@ by_answers R false state why e = left R state why e
 pub returns-in_err-request-clause-answer : goal.returns-in_err-request-clause-answer
 returns-in_err-request-clause-answer g c =
     let kept = c.args.role.now in
-    let state : State = whole_state c.args.end.now.core kept.globals.items kept.registries.list in
+    let state : State = whole_state kept.allowed c.args.end.now.core kept.globals.items kept.registries.list in
     let lives : state.core.failed ≡ false = search rules in
     let why = c.in_err-request.field-0.0 in
     let result : c.from_residual.result ≡ err why = search rules in
@@ -56,11 +56,11 @@ returns-in_err-request-clause-answer g c =
 pub returns-in_err-request-clause-state : goal.returns-in_err-request-clause-state
 returns-in_err-request-clause-state g c =
     let kept = c.args.role.now in
-    let state : State = whole_state c.args.end.now.core kept.globals.items kept.registries.list in
+    let state : State = whole_state kept.allowed c.args.end.now.core kept.globals.items kept.registries.list in
     let lives : state.core.failed ≡ false = search rules in
     let why = c.in_err-request.field-0.0 in
     let result : c.from_residual.result ≡ err why = search rules in
-    rw result (ap (λ (k : Core). whole_state k kept.globals.items kept.registries.list) c.in_err-request.ensures.err
+    rw result (ap (λ (k : Core). whole_state kept.allowed k kept.globals.items kept.registries.list) c.in_err-request.ensures.err
     ∙ by_answers (Option Report) c.args.answers state why
     (seen-by state state.globals (err why) lives refl c.in_err-request.ensures.answer))
 
@@ -80,12 +80,12 @@ returns-in-None-clause-state g c =
     let kept = c.args.role.now in
     let core = c.args.end.now.core in
     let args = c.find_request.new.end.args in
-    let state : State = whole_state core kept.globals.items kept.registries.list in
+    let state : State = whole_state kept.allowed core kept.globals.items kept.registries.list in
     let lives : state.core.failed ≡ false = search rules in
     let there : ok none ≡ front_step (server_state core kept.globals.items) =
     subst (λ (o : Option PendingRequest). pendings_in core args (ok o)
     ≡ front_step (server_state core kept.globals.items)) c.in-None.is c.in_ok-request.ensures.answer in
-    ap (λ (k : Core). whole_state k kept.globals.items kept.registries.list) c.in_ok-request.ensures.ok
+    ap (λ (k : Core). whole_state kept.allowed k kept.globals.items kept.registries.list) c.in_ok-request.ensures.ok
     ∙ (after-is state (ok none) (seen-by state state.globals (ok none) lives refl there)
     ∙ sym (read_by (Option Report) c.args.answers state none))
 
@@ -95,7 +95,7 @@ returns-in-Ok-clause-answer g c =
     let core = c.args.end.now.core in
     let args = c.find_request.new.end.args in
     let request = c.in-Some.request in
-    let state : State = whole_state core kept.globals.items kept.registries.list in
+    let state : State = whole_state kept.allowed core kept.globals.items kept.registries.list in
     let lives : state.core.failed ≡ false = search rules in
     let step = pending_in core args request in
     let there : ok (Some step) ≡ front_step (server_state core kept.globals.items) =
@@ -111,7 +111,7 @@ returns-in-Err-clause-answer g c =
     let core = c.args.end.now.core in
     let args = c.find_request.new.end.args in
     let request = c.in-Some.request in
-    let state : State = whole_state core kept.globals.items kept.registries.list in
+    let state : State = whole_state kept.allowed core kept.globals.items kept.registries.list in
     let lives : state.core.failed ≡ false = search rules in
     let step = pending_in core args request in
     let there : ok (Some step) ≡ front_step (server_state core kept.globals.items) =
@@ -119,7 +119,7 @@ returns-in-Err-clause-answer g c =
     ≡ front_step (server_state core kept.globals.items)) c.in-Some.is c.in_ok-request.ensures.answer in
     inr (
       refl,
-      subst (λ (k : Core). server_role.opens (whole_state k kept.globals.items kept.registries.list) ≡ true)
+      subst (λ (k : Core). server_role.opens (whole_state kept.allowed k kept.globals.items kept.registries.list) ≡ true)
           c.in_ok-request.ensures.ok c.in-Err.ensures.opens,
       subst (λ (a : Result (Option Report) NextError). IsOk a)
           (answer-is state (ok (Some step)) (seen-by state state.globals (ok (Some step)) lives refl there)) refl,

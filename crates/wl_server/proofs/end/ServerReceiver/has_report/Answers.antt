@@ -15,6 +15,7 @@ returns-clause-yes g c t =
       core = c.self.inside.end.core;
       globals = c.self.inside.role.globals.items;
       registries = c.self.inside.role.registries.list;
+      allowed = c.self.inside.role.allowed;
     } in
     let lives : state.core.failed ≡ false = ap (λ (s : State). s.core.failed) c.self.view_is ∙ c.requires in
     elim c.match-first_request.branch [

@@ -61,7 +61,7 @@ returns-in-Some g c =
     c.close_object.ensures.registries ∙ (λ i. registries_without (sym c.in-Some.is i) (opened.registries i)) in
     record {
       args = search rules;
-      ok = applied-left core c.close_object.new.core kept.globals.items kept.registries.list
+      ok = applied-left kept.allowed core c.close_object.new.core kept.globals.items kept.registries.list
           c.close_object.new.registries.list step c.requires.ahead.step now left;
       told = applied-is core c.close_object.new.core c.args.end.now.args request now;
       err = tt;
@@ -99,7 +99,7 @@ returns-in_default g c =
     (λ i. registries_without (sym c.in_default.is i) (opened.registries i)) in
     record {
       args = search rules;
-      ok = applied-left core c.pass.new.self kept.globals.items kept.registries.list
+      ok = applied-left kept.allowed core c.pass.new.self kept.globals.items kept.registries.list
           c.open_new_object.new.registries.list step c.requires.ahead.step now left;
       told = applied-is core c.pass.new.self c.args.end.now.args request now;
       err = tt;

@@ -11,7 +11,7 @@ use Rattle.wl_server.proofs.role.ServerRoleAllocRole.find.Goals as goal
 pub returns-in-Err-clause-answer : goal.returns-in-Err-clause-answer
 returns-in-Err-clause-answer g c =
     let kept = c.args.self.now in
-    let state : State = whole_state c.args.end.now.core kept.globals.items kept.registries.list in
+    let state : State = whole_state kept.allowed c.args.end.now.core kept.globals.items kept.registries.list in
     let lives : state.core.failed ≡ false = search rules in
     answer-is state (err c.in-Err.why)
     (seen-by state state.globals (err c.in-Err.why) lives refl c.in-Err.ensures.answer)
@@ -19,11 +19,11 @@ returns-in-Err-clause-answer g c =
 pub returns-in-Err-clause-fails : goal.returns-in-Err-clause-fails
 returns-in-Err-clause-fails g c =
     let kept = c.args.self.now in
-    let state : State = whole_state c.args.end.now.core kept.globals.items kept.registries.list in
+    let state : State = whole_state kept.allowed c.args.end.now.core kept.globals.items kept.registries.list in
     let lives : state.core.failed ≡ false = search rules in
     let now : c.report_fault.new.core ≡ core_told state.core c.in-Err.why =
     c.report_fault.ensures ∙ ap (λ (k : Core). core_told k c.in-Err.why) c.in-Err.ensures.same in
-    ap (λ (k : Core). whole_state k kept.globals.items kept.registries.list) now
+    ap (λ (k : Core). whole_state kept.allowed k kept.globals.items kept.registries.list) now
     ∙ after-is state (err c.in-Err.why)
     (seen-by state state.globals (err c.in-Err.why) lives refl c.in-Err.ensures.answer)
 

@@ -1,5 +1,5 @@
 use Rattle.std.proofs.Common.{rules}
 use Rattle.wl_server.proofs.server.Server.add_global.Goals as goal
 
-pub returns-then-count-ge-MAX_GLOBALS-clause-answer : goal.returns-then-count-ge-MAX_GLOBALS-clause-answer
-returns-then-count-ge-MAX_GLOBALS-clause-answer c = search rules
+pub returns-then-count-most-clause-answer : goal.returns-then-count-most-clause-answer
+returns-then-count-most-clause-answer c = search rules

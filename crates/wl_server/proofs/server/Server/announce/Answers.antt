@@ -41,6 +41,7 @@ returns g c =
       core = c.self.inside.end.core;
       globals = c.self.inside.role.globals.items;
       registries = c.self.inside.role.registries.list;
+      allowed = c.self.inside.role.allowed;
     } in
     let ordinary : IsOrdinary state.core.outbox =
     subst (λ (core : Core). IsOrdinary core.outbox) (λ i. (c.self-inside.view_is i).end.core)
