@@ -135,16 +135,6 @@ static waywire_status copy_args(const waywire_arg *args, size_t count, waywire_a
 	return WAYWIRE_OK;
 }
 
-/* Lists the tokens of a report's arguments. */
-static void list_tokens(waywire_report *report, uint32_t tokens[WAYWIRE_MAX_ARGS])
-{
-	for (const waywire_arg *arg = report->args; arg < report->args + report->arg_count; arg++)
-		if (arg->kind == WAYWIRE_FD) {
-			tokens[report->token_count++] = arg->u;
-			report->tokens = tokens;
-		}
-}
-
 #define BEFORE_SERVER_IDS (WAYWIRE_FIRST_SERVER_ID - 1)
 
 /* The id after this one, given how many ids of each range were used; 0 after the last. */
@@ -431,40 +421,64 @@ waywire_status waywire_end_take_waiting_tokens(waywire_end *end, uint32_t *token
 	return status;
 }
 
-waywire_status waywire_end_send(waywire_end *end, waywire_object target, uint16_t opcode,
+/* Writes a message once. An index is written only if an argument is refused. */
+static inline waywire_status send_once(waywire_end *end, waywire_object target, uint16_t opcode,
+	const waywire_arg *args, size_t arg_count, waywire_object *made, size_t *index)
+{
+	waywire_object object;
+	waywire_status status = waywire_c_end_send(&end->handle, target, opcode, args, arg_count, &object,
+		index ? index : &end->no_index);
+	if (!status && made)
+		*made = object;
+	return status;
+}
+
+/* As send_once, if there is a call that can make room. It is kept apart, because it has to keep its arguments over
+ * a call. */
+static APART waywire_status send_in_room(waywire_end *end, waywire_object target, uint16_t opcode,
+	const waywire_arg *args, size_t arg_count, waywire_object *made, size_t *index)
+{
+	waywire_status status;
+	do
+		status = send_once(end, target, opcode, args, arg_count, made, index);
+	while (has_more_room(end, status));
+	return status;
+}
+
+/* As waywire_end_send, for arguments whose slices no export can take. It is kept apart for the room that the copies
+ * need. */
+static APART waywire_status send_copies(waywire_end *end, waywire_object target, uint16_t opcode,
 	const waywire_arg *args, size_t arg_count, waywire_object *made, size_t *index)
 {
 	waywire_arg copies[MAX_GIVEN];
-	waywire_object object;
-	size_t refused;
+	waywire_status status = copy_args(args, arg_count, copies);
+	if (status)
+		return status;
+	return waywire_end_send(end, target, opcode, copies, arg_count, made, index);
+}
+
+waywire_status waywire_end_send(waywire_end *end, waywire_object target, uint16_t opcode,
+	const waywire_arg *args, size_t arg_count, waywire_object *made, size_t *index)
+{
 	if (!end)
 		return WAYWIRE_NULL;
 	if (arg_count > MAX_GIVEN)
 		arg_count = MAX_GIVEN;
-	if (!have_slices(args, arg_count)) {
-		waywire_status status = copy_args(args, arg_count, copies);
-		if (status)
-			return status;
-		args = copies;
-	}
+	if (!have_slices(args, arg_count))
+		return send_copies(end, target, opcode, args, arg_count, made, index);
 	end->writes++;
-	waywire_status status;
-	do
-		status = waywire_c_end_send(&end->handle, target, opcode, args, arg_count, &object,
-			&refused);
-	while (has_more_room(end, status));
-	if (!status && made)
-		*made = object;
-	if (index && (status == WAYWIRE_WRONG_ARGS || status == WAYWIRE_BAD_OBJECT))
-		*index = refused;
-	return status;
+	if (end->make_room)
+		return send_in_room(end, target, opcode, args, arg_count, made, index);
+	return send_once(end, target, opcode, args, arg_count, made, index);
 }
 
-/* As waywire_end_send_words, if there is a call that can make room. It is kept apart, because it has to keep its
- * arguments over a call. */
+/* As waywire_end_send_words, also with too many words, and if there is a call that can make room. It is kept apart,
+ * because it has to keep its arguments over a call. */
 static APART waywire_status send_words_in_room(waywire_end *end, waywire_object target, uint16_t opcode,
 	const uint32_t *words, size_t word_count, size_t *index)
 {
+	if (word_count > MAX_GIVEN)
+		word_count = MAX_GIVEN;
 	waywire_status status;
 	do
 		status = waywire_c_end_send_words(&end->handle, target, opcode, words, word_count, index);
@@ -475,18 +489,30 @@ static APART waywire_status send_words_in_room(waywire_end *end, waywire_object 
 waywire_status waywire_end_send_words(waywire_end *end, waywire_object target, uint16_t opcode,
 	const uint32_t *words, size_t word_count, size_t *index)
 {
-	if (!end || (!words && word_count))
+	if (!end)
 		return WAYWIRE_NULL;
-	if (!words)
+	if (!words) {
+		if (word_count)
+			return WAYWIRE_NULL;
 		words = call_nowhere;
-	if (word_count > MAX_GIVEN)
-		word_count = MAX_GIVEN;
+	}
 	if (!index)
 		index = &end->no_index;
 	end->writes++;
-	if (end->make_room)
+	if (word_count > MAX_GIVEN || end->make_room)
 		return send_words_in_room(end, target, opcode, words, word_count, index);
 	return waywire_c_end_send_words(&end->handle, target, opcode, words, word_count, index);
+}
+
+/* Lists the tokens of a report's arguments. It is kept apart from most reports, which have none. */
+static APART void list_tokens(waywire_end *end, waywire_report *report)
+{
+	for (const waywire_arg *arg = report->args; arg < report->args + report->arg_count; arg++)
+		if (arg->kind == WAYWIRE_FD) {
+			end->tokens[report->token_count++] = arg->u;
+			report->tokens = end->tokens;
+		}
+	end->unreported -= report->token_count;
 }
 
 /* The export that reads a message. */
@@ -497,12 +523,12 @@ static inline waywire_status next_by(reader *read, waywire_end *end, waywire_rep
 	if (!end || !report)
 		return WAYWIRE_NULL;
 	waywire_status status = read(&end->handle, report, report->args, WAYWIRE_MAX_ARGS);
-	if (end->unreported) {
-		list_tokens(report, end->tokens);
-		end->unreported -= report->token_count;
-	}
+	if (end->unreported)
+		list_tokens(end, report);
 	report->user = users_get(&end->users, report->target);
-	report->replaced_user = report->replaced.id ? users_get(&end->users, report->replaced) : NULL;
+	report->replaced_user = NULL;
+	if (report->replaced.id)
+		report->replaced_user = users_get(&end->users, report->replaced);
 	return status;
 }
 
