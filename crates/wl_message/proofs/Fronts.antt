@@ -3,7 +3,8 @@ use Rattle.std.proofs.Common.{◌≡◌, ℕ, ◌+◌, ◌-◌, ◌<◌, ◌≤�
 use Rattle.std.proofs.Common.{length, take, drop, refl, sym, ap, subst, ◌∙◌, arith}
 use Rattle.std.proofs.Common.{ltb, min}
 use Rattle.std.proofs.lemmas.Bool.Decides.{nat_tests}
-use Rattle.std.proofs.lemmas.List.{append-nil, take-append-le, length-append, length-take, length-take-le, drop_all, take_all}
+use Rattle.std.proofs.lemmas.List.{append-nil, take-append-le, take-append-drop, length-append, length-take, length-take-le}
+use Rattle.std.proofs.lemmas.List.{drop_all, take_all}
 use Rattle.std.proofs.Math.Seq.{take-add, take-append-add}
 use Rattle.circular_buffer.specs.Buffer.{keep_last}
 use Rattle.wl_wire.specs.Word.{header_bytes}
@@ -113,3 +114,12 @@ keep_rest xs n k e h = let same : length xs - k ≡ n = omega (arith, e, h) in a
 -- what there is room for is taken whole
 pub all_fits : {X : Type 0} (xs : List X) (n room : ℕ) → n ≡ min (length xs) room → length xs ≤ room → take n xs ≡ xs
 all_fits xs n room e h = take_all n xs (omega (arith, e, h))
+
+-- two ends of a list that meet are the list, whatever was behind the first
+pub ends_joined : {X : Type 0} (xs ys : List X) (k n : ℕ) → n + k ≡ length xs → n ≤ k
+    → take n (take k xs ++ ys) ++ drop n xs ≡ xs
+ends_joined xs ys k n e h =
+    let there : n ≤ length (take k xs) = omega (arith, e, h, length-take k xs) in
+    ap (λ (l : List _). l ++ drop n xs) (take-append-le n (take k xs) ys there
+    ∙ front_of_first (take k xs) (drop k xs) xs n (take-append-drop k xs) there)
+    ∙ take-append-drop n xs

@@ -13,7 +13,8 @@ use Rattle.wl_message.specs.Outgoing.{QueuedMessage, queued, Outgoing, all_bytes
 use Rattle.wl_message.specs.Outgoing.{newly_begun, going_bytes, goes, waiting_bytes, waiting_tokens}
 use Rattle.wl_message.specs.Outgoing.{with_message, with_error, after_taking}
 use Rattle.wl_message.specs.Boundaries.{reach, parted, lens, token_counts, StoredMessages, outgoing, AreStored, IsLeaving}
-use Rattle.wl_message.proofs.WhatGoes.{begun_front, boundaries_of, goes_goes, reaches, ReachesRoom}
+use Rattle.wl_message.proofs.WhatGoes.{begun_front, boundaries_of, goes_goes, goes_one, reaches}
+use Rattle.wl_message.proofs.WhatGoes.{ReachesRoom}
 
 -- ---- boundaries
 
@@ -331,6 +332,52 @@ goes_out h b t first r i f e =
             (sym n_is) g.left;
       };
     }
+
+-- if there is room for all that waits, all goes
+abbrev pub all_leaving : StoredMessages → Leaving
+all_leaving h = record {
+  taken = record { bytes = length h.bytes; tokens = length h.tokens };
+  begun = length h.boundaries;
+  left = 0;
+}
+
+all_begun : (n : ℕ) (ms : List QueuedMessage) → AllByRecursion (λ (m : QueuedMessage). 0 < length m.bytes) ms
+    → length (all_bytes ms) ≤ n → begun n ms ≡ ms
+all_begun n [] h e = refl
+all_begun zero (m ∷ ms) h e = absurd (omega (arith, h.0, length-append m.bytes (all_bytes ms), e))
+all_begun (suc n) (m ∷ ms) h e = ap (λ (r : List QueuedMessage). m ∷ r)
+    (all_begun (suc n - length m.bytes) ms h.1 (omega (arith, length-append m.bytes (all_bytes ms), e)))
+
+pub all_leaves : (h : StoredMessages) → AreStored h → IsLeaving (outgoing h) (all_leaving h)
+all_leaves h i =
+    let o = outgoing h in
+    let whole = ap (λ (l : List ℕ). length l) (bytes_wait h i) in
+    let e : newly_begun o (length h.bytes) ≡ o.messages =
+    all_begun _ o.messages (some_messages h i) (omega (arith, length-append o.left (all_bytes o.messages), whole)) in
+    record {
+      there = omega (arith, whole);
+      tokens = sym (ap (λ (l : List QueuedMessage). length (all_tokens l)) e
+          ∙ ap (λ (l : List ℕ). length l) (tokens_wait h i));
+      begun = sym (ap (λ (l : List QueuedMessage). length l) e
+          ∙ length-parted h.boundaries (drop h.left h.bytes) h.tokens);
+      left = omega (arith, ap (λ (l : List QueuedMessage). length (o.left ++ all_bytes l)) e, whole);
+    }
+
+pub all_goes : (h : StoredMessages) (b t : ℕ) → AreStored h → length (waiting_bytes (outgoing h)) ≤ b
+    → length (waiting_tokens (outgoing h)) ≤ t → (all_leaving h).taken ≡ goes (outgoing h) b t
+all_goes h b t i p q =
+    let l = all_leaves h i in
+    let whole = ap (λ (w : List ℕ). length w) (bytes_wait h i) in
+    let wait = ap (λ (w : List ℕ). length w) (tokens_wait h i) in
+    goes_one (outgoing h) b t (all_leaving h).taken (record {
+      may = record {
+        there = l.there;
+        within = omega (arith, whole, p);
+        tokens_within = omega (arith, l.tokens, wait, q);
+      };
+      longest = λ n may. let there = may.there in omega (arith, there, whole);
+      with_tokens = l.tokens;
+    })
 
 -- the outbox after n bytes and k tokens are gone
 abbrev pub kept_after : StoredMessages → ℕ → ℕ → ℕ → ℕ → StoredMessages

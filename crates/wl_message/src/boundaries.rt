@@ -71,6 +71,13 @@ impl<A: Allocator + Drop> Boundaries<A> {
 }
 
 impl<A: Allocator> Boundaries<A> {
+    /// How many boundaries there are.
+    pub fn len(&self) -> usize
+        ensures { result ≡ length self.now.items }
+    {
+        self.words.len()
+    }
+
     /// Appends the boundary of a message, for which there is room.
     pub fn push(&mut self, boundary: Boundary)
         requires room { length self.old.items < self.old.capacity }

@@ -23,6 +23,7 @@ pub(crate) fn header_in<A: Allocator>(bytes: &HeapCircularBuffer<u8, A>) -> Head
 /// Copies the first message, which is whole, to the front of the store, unless it is there already,
 /// and returns its length.
 #[tactic(auto, using(std::proofs::lemmas::List::take_at))]
+#[inline(always)]
 pub(crate) fn copy_message<A: Allocator>(
     bytes: &HeapCircularBuffer<u8, A>,
     store: &mut [u8],

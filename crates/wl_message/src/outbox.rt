@@ -1,6 +1,6 @@
 //! Messages that wait to go out.
-ghost use Rattle.std.specs.Prelude.{◌≡◌, ◌≤◌, ◌<◌, ◌+◌, ◌↔◌, ◌⊎◌, ◌++◌, false, [], length, take};
-ghost use Rattle.std.specs.Prelude.{drop, min, slice_get, IfOk, OnOk, OnErr, IsErr};
+ghost use Rattle.std.specs.Prelude.{◌≡◌, ◌≤◌, ◌<◌, ◌+◌, ◌↔◌, ◌⊎◌, ◌++◌, ℕ, false, [], length};
+ghost use Rattle.std.specs.Prelude.{take, drop, min, slice_get, IfOk, OnOk, OnErr, IsErr};
 ghost use Rattle.std.specs.Prelude.{IsTrue};
 ghost use Rattle.wl_message.specs.Bounds.{max_error_len, max_queue_bytes, max_queue_tokens};
 ghost use Rattle.wl_message.specs.Cut.{IsMessage};
@@ -230,6 +230,35 @@ impl<A: Allocator> Outbox<A> {
 
     /// What goes into a room for this many bytes and tokens.
     fn leaving(&self, bytes: usize, tokens: usize) -> Leaving
+        ensures longest { Goes self.now bytes tokens result.taken }
+        ensures computed { result.taken ≡ goes self.now bytes tokens }
+        ensures leaving { IsLeaving self.now result }
+    {
+        if self.bytes.len() <= bytes && self.tokens.len() <= tokens {
+            return self.all_leaving();
+        }
+        self.some_leaving(bytes, tokens)
+    }
+
+    /// All that waits, without a look at each message.
+    fn all_leaving(&self) -> Leaving
+        ensures computed { (bytes tokens : ℕ) → length (waiting_bytes self.now) ≤ bytes
+            → length (waiting_tokens self.now) ≤ tokens
+            → result.taken ≡ goes self.now bytes tokens }
+        ensures leaving { IsLeaving self.now result }
+    {
+        Leaving {
+            taken: Taken {
+                bytes: self.bytes.len(),
+                tokens: self.tokens.len(),
+            },
+            begun: self.boundaries.len(),
+            left: 0,
+        }
+    }
+
+    /// As `leaving`, by how far the messages reach.
+    fn some_leaving(&self, bytes: usize, tokens: usize) -> Leaving
         ensures longest { Goes self.now bytes tokens result.taken }
         ensures computed { result.taken ≡ goes self.now bytes tokens }
         ensures leaving { IsLeaving self.now result }

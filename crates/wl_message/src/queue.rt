@@ -61,20 +61,66 @@ fn copy_parts<T: Copy, A: Allocator>(ring: &HeapCircularBuffer<T, A>, to: &mut [
     to[front.len()..].copy_from_slice(back);
 }
 
-/// Copies the first n items to the front of a slice. They stay in the ring.
-#[tactic(auto, using(std::proofs::lemmas::List::take_at))]
-pub(crate) fn copy_into<T: Copy, A: Allocator>(
-    ring: &HeapCircularBuffer<T, A>,
-    to: &mut [T],
-    n: usize,
-)
+/// Copies the first n bytes to the front of a slice. They stay in the ring. Most messages are short
+/// and in one part: these are copied without a call.
+#[tactic(auto, using(std::proofs::lemmas::List::take_at, crate::proofs::Fronts::front_of_first))]
+#[inline(always)]
+pub(crate) fn copy_into<A: Allocator>(ring: &HeapCircularBuffer<u8, A>, to: &mut [u8], n: usize)
     requires ring { n ≤ length ring.now.items }
     requires to { n ≤ length to.old }
     ensures to { to.new ≡ take n ring.now.items ++ drop n to.old }
     ensures copy { take n to.new ≡ take n ring.now.items }
     ensures len { length to.new ≡ length to.old }
 {
-    copy_first(ring, &mut to[..n]);
+    let (front, _) = ring.as_slices();
+    if n > front.len() || n < 8 || n > 32 {
+        copy_apart(ring, &mut to[..n]);
+    } else if n < 16 {
+        copy_ends_of_8(&front[..n], &mut to[..n]);
+    } else {
+        copy_ends_of_16(&front[..n], &mut to[..n]);
+    }
+}
+
+/// Copies 8 to 16 bytes: the first and the last 8.
+#[tactic(auto, using(crate::proofs::Fronts::ends_joined))]
+#[inline(always)]
+fn copy_ends_of_8(from: &[u8], to: &mut [u8])
+    requires same { length to.old ≡ length from.now }
+    requires few { (8 ≤ length from.now) × (length from.now ≤ 16) }
+    ensures { to.new ≡ from.now }
+{
+    let tail = from.len() - 8;
+    let (mut first, mut last) = ([0; 8], [0; 8]);
+    first.copy_from_slice(&from[..8]);
+    last.copy_from_slice(&from[tail..]);
+    to[..8].copy_from_slice(&first);
+    to[tail..].copy_from_slice(&last);
+}
+
+/// Copies 16 to 32 bytes: the first and the last 16.
+#[tactic(auto, using(crate::proofs::Fronts::ends_joined))]
+#[inline(always)]
+fn copy_ends_of_16(from: &[u8], to: &mut [u8])
+    requires same { length to.old ≡ length from.now }
+    requires few { (16 ≤ length from.now) × (length from.now ≤ 32) }
+    ensures { to.new ≡ from.now }
+{
+    let tail = from.len() - 16;
+    let (mut first, mut last) = ([0; 16], [0; 16]);
+    first.copy_from_slice(&from[..16]);
+    last.copy_from_slice(&from[tail..]);
+    to[..16].copy_from_slice(&first);
+    to[tail..].copy_from_slice(&last);
+}
+
+/// As `copy_first`; a call, so that what is short needs none.
+#[inline(never)]
+fn copy_apart<A: Allocator>(ring: &HeapCircularBuffer<u8, A>, to: &mut [u8])
+    requires { length to.old ≤ length ring.now.items }
+    ensures { to.new ≡ take (length to.old) ring.now.items }
+{
+    copy_first(ring, to);
 }
 
 /// Moves the first n items to the front of a slice.
