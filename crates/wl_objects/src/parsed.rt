@@ -1,9 +1,10 @@
 //! The arguments of a message, parsed once.
-ghost use Rattle.std.specs.Prelude.{◌≡◌, ◌≤◌, ℕ, List, [], IfOk, IfSome, IsTrue, Ok, drop, length};
-ghost use Rattle.std.specs.Prelude.{option_map, slice_get};
+ghost use Rattle.std.specs.Prelude.{◌≡◌, ◌≤◌, ℕ, Bool, List, [], IfOk, IfSome, IsTrue, Ok, drop};
+ghost use Rattle.std.specs.Prelude.{length, option_map, slice_get};
 ghost use Rattle.wl_wire.specs.Argument.{Obj, lent};
 ghost use Rattle.wl_sigs.specs.Tables.{max_args};
-ghost use Rattle.wl_objects.specs.Reading.{arguments_at, forgiving, named, value_fault};
+ghost use Rattle.wl_objects.specs.Reading.{arguments_at, forgiving, forgiving_kind, named};
+ghost use Rattle.wl_objects.specs.Reading.{value_fault};
 ghost use Rattle.wl_wire.specs.Reading.{reading};
 ghost use Rattle.wl_objects.specs.Parsed.{AreParsed, TextLiesBehind, is_number};
 ghost use Rattle.wl_objects.specs.Parsed.{parsed_argument, view_outcome};
@@ -205,18 +206,18 @@ impl<'a, L: Lookup> Parser<'a, L> {
         let mut descriptors = 0;
         'kinds: for (place, kind) in kinds.iter().enumerate() {
             let rest = &self.body[end..];
+            // Most arguments are numbers. `resolve` would keep them in the same way, but slower.
+            if let Some((number, len)) = read_number(*kind, rest) {
+                args.items[place] = number;
+                end += len;
+                continue;
+            }
             // In wl_display.error an object may be null. What else the kind asks of it is judged by
             // `resolve`.
             let read_as = match *kind {
                 Kind::Obj { iface, .. } if self.forgives => Kind::Obj { null: true, iface },
                 kind => kind,
             };
-            // Most arguments are numbers. `resolve` would keep them in the same way, but slower.
-            if let Some((number, len)) = read_number(read_as, rest) {
-                args.items[place] = number;
-                end += len;
-                continue;
-            }
             let (value, len) = match read_ref(read_as, rest) {
                 Ok(found) => found,
                 Err(fault) => return Err(Fault::BadArgument(place, fault)),
@@ -322,6 +323,8 @@ fn read_number(kind: Kind, bytes: &[u8]) -> Option<(ParsedArg, usize)>
     ensures read { IfSome result
         (λ found. reading kind bytes.now ≡ Ok (parsed_argument [] found.0, found.1)) }
     ensures number { IfSome result (λ found. IsTrue (is_number found.0)) }
+    ensures kind { IfSome result
+        (λ _. (forgives : Bool) → forgiving_kind forgives kind ≡ kind) }
     ensures within { IfSome result (λ found. found.1 ≤ length bytes.now) }
 {
     match kind {

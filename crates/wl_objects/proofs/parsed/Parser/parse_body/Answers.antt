@@ -53,7 +53,8 @@ kinds-preserved-in-Some g c =
     let items = c.kinds.args-inside.items in
     let number = c.in-Some.number in
     let end = c.kinds.end + c.in-Some.len in
-    let same : c.match-kind.read_as ≡ forgiving_kind c.args.self.now.forgives kind = search rules in
+    let same : kind ≡ forgiving_kind c.args.self.now.forgives kind =
+    sym (c.in-Some.ensures.kind c.args.self.now.forgives) in
     let room : i < length items = omega (arith, c.kinds.invariant.room, c.kinds-test.true, c.requires.few) in
     record {
       made = ap (λ (d : ℕ). views_prepended (views_of_parsed body r.birth (take (i + 1) (set items i number)))
@@ -61,7 +62,7 @@ kinds-preserved-in-Some g c =
           (sym (number-place number c.kinds.descriptors c.in-Some.ensures.number))
           ∙ parsed-next r q i c.kinds.end c.in-Some.len c.kinds.descriptors r.birth list Int body items number
           (parsed_argument [] number) c.kinds-test.true room
-          (read-at (forgiving_kind c.args.self.now.forgives kind) c.match-kind.read_as c.kinds.end body _ same
+          (read-at (forgiving_kind c.args.self.now.forgives kind) kind c.kinds.end body _ same
           (sym c.in-Some.ensures.read))
           (number-kept r q c.kinds.descriptors i r.birth body kind number c.in-Some.ensures.number)
           ∙ c.kinds.invariant.made;
