@@ -54,6 +54,8 @@ uint32_t waywire_c_server_add_global(struct handle *, uint16_t interface, uint32
 uint32_t waywire_c_server_allow_globals(struct handle *, size_t number);
 uint32_t waywire_c_server_withdraw(struct handle *, uint32_t name);
 uint32_t waywire_c_server_announce(struct handle *, size_t *count, bool *all);
+uint32_t waywire_c_server_next(struct handle *, waywire_report *, waywire_arg *args,
+	size_t arg_count);
 uint32_t waywire_c_server_next_unanswered(struct handle *, waywire_report *, waywire_arg *args,
 	size_t arg_count);
 
@@ -149,9 +151,13 @@ static uint32_t id_after(uint32_t id, uint32_t of_client, uint32_t of_server)
 
 /* ---- what both ends have */
 
+/* The export that reads a message. */
+typedef uint32_t reader(struct handle *, waywire_report *, waywire_arg *args, size_t arg_count);
+
 /* An end, its tables, its objects' pointers, and the tokens of its last report. */
 struct waywire_end {
 	struct handle handle;
+	reader *next; /* a server has an export of its own, which takes fewer steps */
 	waywire_tables *tables;
 	struct users users;
 	uint64_t writes;   /* how many calls may have written or have changed the globals */
@@ -165,8 +171,8 @@ struct waywire_end {
 /* The export that makes an end. */
 typedef uint32_t maker(struct handle tables, const waywire_sizes *, void **made);
 
-static waywire_status new_end(maker *make, const waywire_tables *tables, const waywire_sizes *sizes,
-	waywire_end **made)
+static waywire_status new_end(maker *make, reader *next, const waywire_tables *tables,
+	const waywire_sizes *sizes, waywire_end **made)
 {
 	if (!tables || !sizes)
 		return WAYWIRE_NULL;
@@ -178,6 +184,7 @@ static waywire_status new_end(maker *make, const waywire_tables *tables, const w
 		free(end);
 		return status;
 	}
+	end->next = next;
 	end->tables = tables_ref(tables);
 	memset(&end->users, 0, sizeof end->users);
 	end->writes = 0;
@@ -515,13 +522,9 @@ static APART void list_tokens(waywire_end *end, waywire_report *report)
 	end->unreported -= report->token_count;
 }
 
-/* The export that reads a message. */
-typedef uint32_t reader(struct handle *, waywire_report *, waywire_arg *args, size_t arg_count);
-
+/* Adds the objects' pointers and the list of tokens to a report. */
 static inline waywire_status next_by(reader *read, waywire_end *end, waywire_report *report)
 {
-	if (!end || !report)
-		return WAYWIRE_NULL;
 	waywire_status status = read(&end->handle, report, report->args, WAYWIRE_MAX_ARGS);
 	if (end->unreported)
 		list_tokens(end, report);
@@ -534,7 +537,7 @@ static inline waywire_status next_by(reader *read, waywire_end *end, waywire_rep
 
 waywire_status waywire_end_next(waywire_end *end, waywire_report *report)
 {
-	return next_by(waywire_c_end_next, end, report);
+	return end && report ? next_by(end->next, end, report) : WAYWIRE_NULL;
 }
 
 /* ---- what a client has alone */
@@ -542,7 +545,8 @@ waywire_status waywire_end_next(waywire_end *end, waywire_report *report)
 waywire_status waywire_client_new(const waywire_tables *tables, const waywire_sizes *sizes,
 	waywire_client *client)
 {
-	return client ? new_end(waywire_c_client_new, tables, sizes, &client->end) : WAYWIRE_NULL;
+	return client ? new_end(waywire_c_client_new, waywire_c_end_next, tables, sizes, &client->end)
+		: WAYWIRE_NULL;
 }
 
 waywire_status waywire_client_bind(waywire_client client, waywire_object registry, uint32_t name,
@@ -595,7 +599,8 @@ waywire_status waywire_client_made(waywire_client client, waywire_object *made)
 waywire_status waywire_server_new(const waywire_tables *tables, const waywire_sizes *sizes,
 	waywire_server *server)
 {
-	return server ? new_end(waywire_c_server_new, tables, sizes, &server->end) : WAYWIRE_NULL;
+	return server ? new_end(waywire_c_server_new, waywire_c_server_next, tables, sizes, &server->end)
+		: WAYWIRE_NULL;
 }
 
 waywire_status waywire_server_drop_object(waywire_server server, waywire_object object)
@@ -684,7 +689,8 @@ waywire_status waywire_server_announce(waywire_server server, size_t *count, boo
 
 waywire_status waywire_server_next_unanswered(waywire_server server, waywire_report *report)
 {
-	return next_by(waywire_c_server_next_unanswered, server.end, report);
+	waywire_end *end = server.end;
+	return end && report ? next_by(waywire_c_server_next_unanswered, end, report) : WAYWIRE_NULL;
 }
 
 /* ---- texts */

@@ -10,7 +10,8 @@ ghost use Rattle.wl_server.specs.Calls.{drop_refusal, error_refusal, with_global
 ghost use Rattle.waywire_c.specs.declared.held.HeldEnd.TheVariants.{Server};
 ghost use Rattle.waywire_c.specs.Ends.{IfClient, IfServer};
 ghost use Rattle.waywire_c.specs.Reports.{entry_told, entry_told_by, fields_of_kind, TellsArgs};
-ghost use Rattle.waywire_c.specs.Reports.{request_args, request_entry, told_by, told_unanswered};
+ghost use Rattle.waywire_c.specs.Reports.{request_args, request_entry, told_by, told_request};
+ghost use Rattle.waywire_c.specs.Reports.{told_unanswered};
 ghost use Rattle.waywire_c.specs.Statuses.{failed_outcome, global_outcome, name_outcome};
 ghost use Rattle.waywire_c.specs.Statuses.{read_outcome, send_outcome, OrMemory};
 ghost use Rattle.waywire_c.specs.Values.{iface_at, object_from_c};
@@ -207,6 +208,37 @@ pub extern "C" fn waywire_c_server_announce(
         }
         Err(why) => send_status(why),
     }
+}
+
+/// Reads the next request as `waywire_c_end_next` does at a server, and answers a fault.
+#[unsafe(no_mangle)]
+pub extern "C" fn waywire_c_server_next(
+    end: &mut EndHandle,
+    report: &mut Report,
+    args: &mut [ReportArg],
+) -> u32
+    ensures answer { IfServer end.old.held (λ server. OrMemory
+        (request_opens server.core (request server)) (read_outcome (next_answer server)) result) }
+    ensures other { IfClient end.old.held (λ client. result ≡ 66) }
+    ensures report { result ≢ 11 → IfServer end.old.held (λ server. told_by report.new
+        ≡ told_request (length args.old) (next_answer server)) }
+    ensures entry { result ≢ 11 → IfServer end.old.held (λ server. entry_told_by report.new
+        ≡ entry_told (request_entry server.core.view (next_answer server))) }
+    ensures args { result ≢ 11 → IfServer end.old.held (λ server.
+        TellsArgs (request_args (next_answer server)) args.old args.new) }
+    ensures state { result ≢ 11 → IfServer end.old.held (λ server. end.new.held
+        ≡ Server (after_next server)) }
+    ensures no_report { result ≡ 11 → told_by report.new ≡ fields_of_kind 0 }
+    ensures no_entry { result ≡ 11 → entry_told_by report.new ≡ entry_told None }
+    ensures no_args { result ≡ 11 → args.new ≡ args.old }
+    ensures unchanged { result ≡ 11 → end.new.held ≡ end.old.held }
+    ensures client { IfClient end.old.held (λ client. end.new.held ≡ end.old.held) }
+{
+    let HeldEnd::Server(server) = end.get_mut() else {
+        *report = nothing();
+        return OTHER_END;
+    };
+    read_request(server, true, report, args)
 }
 
 /// Reads the next request, and writes its report to `report` and its arguments to the slots. A
