@@ -1,0 +1,3 @@
+pub mod Completion
+pub mod Doubt
+pub mod Samples
