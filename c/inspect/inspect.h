@@ -152,6 +152,7 @@ void find_core_names(char *path, size_t size);
 /* The tables of the core and of all texts that were read. */
 struct known {
 	waywire_tables *tables;
+	waywire_tables *raised; /* the same, without an end of versions: sessions are judged by these */
 	struct text joined; /* the texts, each after a comment that names it */
 	struct text names;  /* the names of the texts, with spaces between, the core first */
 };

@@ -34,7 +34,7 @@ void judge_begin(struct judging *judging, const struct options *options, const s
 	questions_begin(&judging->questions);
 	for (size_t i = 0; i < options->faults.count; i++)
 		fault_counts_add(&judging->faults, options->faults.lines[i].words);
-	waywire_status status = waywire_inspector_new(known->tables, options->limit, &judging->follower.inspector);
+	waywire_status status = waywire_inspector_new(known->raised, options->limit, &judging->follower.inspector);
 	if (status)
 		lose(judging, status);
 }
@@ -51,6 +51,7 @@ void judge_free(struct judging *judging)
 	text_free(&judging->room.named);
 	text_free(&judging->room.part);
 	text_free(&judging->reason);
+	text_free(&judging->newer);
 	text_free(&judging->verdict);
 }
 
@@ -99,18 +100,81 @@ static void print_by_line(struct judging *judging, struct message *message, cons
 static void put_taken_back(const struct judging *judging, struct text *words, const char *before)
 {
 	uint32_t id;
-	if (waywire_inspector_undeserved(judging->follower.inspector, &id) && !judging->is_excused)
+	uint64_t number = waywire_inspector_undeserved(judging->follower.inspector, &id);
+	if (number && number <= judging->last_judged && !judging->is_excused)
 		text_format(words, "%sthe compositor took back id %" PRIu32 ", which nobody had given up", before, id);
 }
+
+/* ---- what is newer than the tables */
+
+/* Whether the tables have the interface of an object, but not in its version. */
+static bool is_newer(const struct judging *judging, uint16_t interface, uint32_t version, uint32_t *known)
+{
+	return !waywire_tables_version(judging->follower.tables, interface, known) && *known < version;
+}
+
+/* Whether that is the case after a bind of a version that the tables lack. Puts what they have instead. */
+static bool is_of_newer(const struct judging *judging, const struct object *object, struct text *reason)
+{
+	uint32_t known;
+	if (!judging->newer.length || !is_newer(judging, object->interface, object->version, &known))
+		return false;
+	text_add(reason, "the tables have ");
+	text_put(reason, object->name.bytes, object->name.length);
+	text_format(reason, " up to version %" PRIu32 ", and ", known);
+	put_object(reason, object);
+	text_format(reason, " has version %" PRIu32, object->version);
+	return true;
+}
+
+/* Notes that a bind is newer than the tables; `note` gets what is printed of that. */
+static void note_newer(struct judging *judging, const struct message *message, struct text *note)
+{
+	uint32_t known;
+	if (!is_bind(message) || !is_newer(judging, message->bound, message->args[1].value.u, &known))
+		return;
+	text_add(note, "the tables have ");
+	text_put(note, message->args[1].value.bytes, message->args[1].value.length);
+	text_format(note, " up to version %" PRIu32 ", and it is bound at %" PRIu32, known, message->args[1].value.u);
+	if (!judging->newer.length)
+		text_put(&judging->newer, note->bytes, note->length);
+	text_add(note, "; judged until a message comes that they lack");
+}
+
+/* Whether the tables have a request that ends an object of this version. */
+static bool has_destructor(const struct judging *judging, const struct object *object)
+{
+	const waywire_tables *tables = judging->follower.tables;
+	waywire_message found;
+	uint16_t opcode = 0;
+	while (!waywire_tables_message(tables, object->interface, WAYWIRE_FROM_CLIENT, opcode++, &found, NULL, NULL))
+		if (found.destroys == WAYWIRE_DESTROYS_TARGET && found.since <= object->version)
+			return true;
+	return false;
+}
+
+/* Whether the server makes an object with this message that is newer than the tables, and these have no request that
+ * ends it. Newer tables may have one, and then the server may not use the id again while the object is live. */
+static bool is_unsettled(const struct judging *judging, const struct message *message, struct text *reason)
+{
+	return judging->newer.length && message->made.id >= WAYWIRE_FIRST_SERVER_ID
+		&& !has_destructor(judging, &message->made) && is_of_newer(judging, &message->made, reason);
+}
+
+/* ---- a judged message */
 
 /* Prints a message with the first of the library's lines, and removes that line. */
 static void print_judged(struct judging *judging, struct message *message, const char **lines, size_t *length)
 {
-	struct text note = { NULL, 0, 0 };
+	struct text note = { NULL, 0, 0 }, words = { NULL, 0, 0 };
+	judging->last_judged = message->number;
 	if (waywire_inspector_undeserved(judging->follower.inspector, NULL) == message->number) {
-		judging->is_excused |= is_ended_unmarked(judging->known, message->freed.name);
+		judging->is_excused |= is_ended_unmarked(judging->known, message->freed.name)
+			|| is_of_newer(judging, &message->freed, &words);
 		put_taken_back(judging, &note, "");
+		text_free(&words);
 	}
+	note_newer(judging, message, &note);
 	const struct beside beside = { .note = note.bytes };
 	const char *end = *length ? memchr(*lines, '\n', *length) : NULL;
 	size_t its = end ? (size_t)(end - *lines) : *length;
@@ -222,8 +286,11 @@ static void meet_fault(struct judging *judging, struct message *message, const w
 {
 	const char *verdict;
 	size_t length;
-	if ((judgement->fault == WAYWIRE_FAULT_BAD_BIND && is_beyond_tables(judging, message, &judging->reason))
-		|| (judgement->fault == WAYWIRE_FAULT_UNKNOWN_MESSAGE && is_beyond_texts(judging, message, &judging->reason))) {
+	struct text *reason = &judging->reason;
+	if ((judgement->fault == WAYWIRE_FAULT_BAD_BIND && is_beyond_tables(judging, message, reason))
+		|| (judgement->fault == WAYWIRE_FAULT_UNKNOWN_MESSAGE && !message->name.length
+			&& is_of_newer(judging, &message->target, reason))
+		|| (judgement->fault == WAYWIRE_FAULT_UNKNOWN_MESSAGE && is_beyond_texts(judging, message, reason))) {
 		leave_unjudged(judging, message);
 		return;
 	}
@@ -256,7 +323,9 @@ static void print_messages(struct judging *judging, int from)
 	struct message message;
 	waywire_inspector_judgement(inspector, &judgement);
 	while (judging->standing != LOST && !judging->has_error && read_message(&judging->follower, from, &message)) {
-		if (message.number <= judged)
+		if (judging->standing == JUDGED && is_unsettled(judging, &message, &judging->reason))
+			leave_unjudged(judging, &message);
+		else if (judging->standing == JUDGED && message.number <= judged)
 			print_judged(judging, &message, &lines, &length);
 		else if (judging->standing == JUDGED && judging->is_left)
 			leave_unjudged(judging, &message);
@@ -328,6 +397,15 @@ void judge_waits(struct judging *judging, const struct moment *moment)
 
 /* ---- the end */
 
+/* Puts the first bind that is newer than the tables, if there is one. */
+static void put_newer(const struct judging *judging, struct text *words)
+{
+	if (!judging->newer.length)
+		return;
+	text_add(words, "; ");
+	text_put(words, judging->newer.bytes, judging->newer.length);
+}
+
 /* Puts the library's verdict; false if memory runs out. */
 static bool put_lawful(struct judging *judging, struct text *words)
 {
@@ -341,6 +419,7 @@ static bool put_lawful(struct judging *judging, struct text *words)
 	}
 	if (judging->is_log) {
 		log_put_lawful(judging, words);
+		put_newer(judging, words);
 		put_taken_back(judging, words, "; ");
 		return true;
 	}
@@ -350,6 +429,7 @@ static bool put_lawful(struct judging *judging, struct text *words)
 		length -= begins;
 	}
 	text_put(words, line, length - 1);
+	put_newer(judging, words);
 	put_taken_back(judging, words, "; ");
 	fault_counts_put(words, &judging->faults, "; with ");
 	return true;

@@ -31,6 +31,8 @@ struct judging {
 	const struct known *known;
 	struct follower follower;
 	struct text reason;           /* if it is not judged: what is not in the tables */
+	struct text newer;            /* the first bind of a version that is not in the tables; empty if there is none */
+	uint64_t last_judged;         /* the number of the last judged message */
 	struct text verdict;          /* if it is broken */
 	uint64_t unjudged_from;       /* the number of that message in its direction; 0 if it is the first of all */
 	int unjudged_side;            /* whose message that is */

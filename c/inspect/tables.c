@@ -3,6 +3,7 @@
 #include "inspect.h"
 
 #include <errno.h>
+#include <inttypes.h>
 #include <limits.h>
 #include <stdio.h>
 
@@ -160,6 +161,33 @@ static void take_out_what_is_replaced(struct sources *sources, size_t first)
 				source_without(&sources->of[i], &sources->of[other]);
 }
 
+/* Whether it is one of the four interfaces that are the same in all tables. */
+static bool is_fixed(struct name name)
+{
+	return is_name(name, "wl_display") || is_name(name, "wl_registry") || is_name(name, "wl_callback")
+		|| is_name(name, "wl_fixes");
+}
+
+/* The same tables, with the newest version that a number can have for each interface that may have a newer one. */
+static waywire_tables *raise_versions(const waywire_tables *tables)
+{
+	struct text raising = { NULL, 0, 0 };
+	waywire_tables *raised;
+	struct name name;
+	for (uint16_t index = 0; !waywire_tables_name(tables, index, &name.bytes, &name.length); index++) {
+		if (is_fixed(name))
+			continue;
+		text_add(&raising, "extend ");
+		text_put(&raising, name.bytes, name.length);
+		text_format(&raising, " %" PRIu32 "\n", UINT32_MAX);
+	}
+	waywire_status status = waywire_tables_read(tables, raising.bytes, raising.length, &raised, NULL, NULL);
+	text_free(&raising);
+	if (status)
+		fail("the tables are not read: %s", waywire_strerror(status));
+	return raised;
+}
+
 static void free_sources(struct sources *sources, char **paths, size_t count)
 {
 	for (size_t i = 0; i < sources->count; i++)
@@ -187,7 +215,8 @@ void known_read(struct known *known, const struct options *options)
 	if (!options->no_tables)
 		add_protocols(&sources, count, core, options->verbose);
 	take_out_what_is_replaced(&sources, count);
-	*known = (struct known){ read_sources(core, &sources), { NULL, 0, 0 }, { NULL, 0, 0 } };
+	*known = (struct known){ .tables = read_sources(core, &sources) };
+	known->raised = raise_versions(known->tables);
 	waywire_tables_free(core);
 	text_add(&known->names, "core");
 	text_add(&known->joined, "# The table texts that waywire-inspect read, joined.\n");
@@ -199,6 +228,7 @@ void known_read(struct known *known, const struct options *options)
 void known_free(struct known *known)
 {
 	waywire_tables_free(known->tables);
+	waywire_tables_free(known->raised);
 	text_free(&known->joined);
 	text_free(&known->names);
 }

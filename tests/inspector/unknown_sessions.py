@@ -43,6 +43,7 @@ class Known:
         self.tables = {it.name: it for it in played.table_text.read_more(
             played.table_text.core_tables(), part.encode())}
         self.made = set()
+        self.is_newer = False
 
     def has(self, said):
         """Whether the tables have a message."""
@@ -50,12 +51,29 @@ class Known:
         side = "request" if said.sender == ">" else "event"
         return interface is not None and said.opcode < len(getattr(interface, side))
 
+    def lacks_version(self, thing):
+        """Whether the tables have an object's interface only in older versions."""
+        interface = self.tables.get(thing.interface.name)
+        return interface is not None and interface.version < thing.version
+
+    def binds_newer(self, said):
+        """Whether it binds what the tables have only in an older version."""
+        is_bind = (said.target.interface.name, said.name) == ("wl_registry", "bind")
+        return is_bind and self.lacks_version(said.values[1])
+
+    def is_settled(self, thing):
+        """Whether the tables say if a request can end an object of the server."""
+        ending = (it.destroys and it.since <= thing.version for it in self.tables[thing.interface.name].request)
+        return not self.lacks_version(thing) or any(ending)
+
     def is_beyond(self, said):
-        """Whether it binds what the tables do not have."""
-        if said.name != "bind" or said.target.interface.name != "wl_registry":
-            return False
-        interface = self.tables.get(said.values[1].interface.name)
-        return interface is None or said.values[1].version > interface.version
+        """Whether the tables cannot judge it. What is newer than they are is judged as far as they have it."""
+        self.is_newer |= self.binds_newer(said)
+        if said.made is not None and said.made.interface.name not in self.tables:
+            return True
+        if said.made is not None and said.made.id >= played.FIRST_OF_SERVER and not self.is_settled(said.made):
+            return self.is_newer
+        return self.is_newer and self.lacks_version(said.target) and not self.has(said)
 
 
 def check_named(told, thing):
@@ -162,7 +180,8 @@ def check_message(told, said, known, is_judged, counts):
     check_changes(told, said, known)
     check_text(told, said)
     must(told["judged"] == is_judged, "judged", told["judged"], is_judged)
-    must(("note" in told) == (not is_judged and known.is_beyond(said) and not counts["unjudged"]), "note", told)
+    is_first = not is_judged and not counts["unjudged"]
+    must(("note" in told) == (is_first or (is_judged and known.binds_newer(said))), "note", told)
     if is_judged:
         check_complete(told, said)
     elif said.target in known.made and said.target.id < played.FIRST_OF_SERVER:
@@ -170,6 +189,7 @@ def check_message(told, said, known, is_judged, counts):
     counts["messages"] += 1
     counts["unjudged"] += not is_judged
     counts["unjudged and named"] += not is_judged and told["message"] is not None
+    counts["judged behind a newer bind"] += is_judged and known.is_newer
 
 
 def check_verdict(told, play, counts):

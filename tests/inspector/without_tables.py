@@ -1,5 +1,5 @@
-"""Tests that waywire-inspect says nothing false of recorded sessions that it reads without some of their tables: each
-message that it does not judge is compared with what it says of it when it knows all tables.
+"""Tests that waywire-inspect says nothing false of recorded sessions that it reads without some of their tables, or with
+older ones: each message is compared with what it says of it when it knows all tables.
 
     python3 -m tests.inspector.without_tables [CLASS[.TEST]]..
 
@@ -8,9 +8,11 @@ import glob
 import json
 import os
 import re
+from collections import Counter
 
 from tests.checks import TOP
 from tests.inspector.inspecting import Inspected, main
+from tools.waywire import table_text
 
 TEXTS = sorted(glob.glob(f"{TOP}/protocols/*.tables"))
 # What a message is in any case.
@@ -72,6 +74,49 @@ class WithoutTables(Inspected):
         # Most of these messages are for objects that are known.
         self.assertGreater(unjudged, 1000)
         self.assertGreater(named, unjudged / 2)
+
+    def older(self, text, version):
+        """Writes a text as it was in an older version, and returns its path."""
+        with open(text, "rb") as file:
+            sections = table_text.parse_tables(file.read())
+        path = f"{self.folder}/{version}-{os.path.basename(text)}"
+        with open(path, "w", encoding="ascii") as file:
+            for it in sections:
+                print("extend" if it.extends else "interface", it.name, min(it.version, version), file=file)
+                for side, one in it.messages():
+                    if one.since <= version:
+                        print(side, one, file=file)
+        return path
+
+    def test_older_versions(self):
+        """What is judged is judged as by the whole tables; only that a bind is newer is said beside it."""
+        counts = Counter()
+        for path in sorted(glob.glob(f"{TOP}/examples/*.rec")):
+            truth = self.read_by(path, TEXTS)
+            its = {it["object"]["interface"] for it in truth.values()}
+            for text in TEXTS:
+                with open(text, encoding="ascii") as file:
+                    declared = dict(re.findall(r"(?m)^interface (\w+) (\d+)", file.read()))
+                newest = max(map(int, declared.values()), default=1)
+                for version in sorted({1, newest // 2, newest - 1} - {0, newest}) if its & set(declared) else ():
+                    said = self.read_by(path, [self.older(text, version) if it == text else it for it in TEXTS])
+                    with self.subTest(path, text=text, version=version):
+                        counts += self.compare_all(said, truth)
+        self.assertGreater(counts["judged behind a newer bind"], 1000, counts)
+
+    def compare_all(self, said, truth):
+        """Compares the messages of a session. Returns how many there were of each kind."""
+        counts, is_newer = Counter(), False
+        self.assertEqual(said.keys(), truth.keys())
+        for number, it in said.items():
+            note = it.pop("note", "")
+            is_newer |= "judged until a message comes" in note
+            counts["judged behind a newer bind" if it["judged"] and is_newer else str(it["judged"])] += 1
+            if it["judged"]:
+                self.assertEqual(it, {key: value for key, value in truth[number].items() if key != "note"})
+            else:
+                self.compare(it, truth[number])
+        return counts
 
 
 if __name__ == "__main__":

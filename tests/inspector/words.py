@@ -107,9 +107,58 @@ class Unjudged(Talking):
             "? -> wl_display@1: opcode 7, 8 bytes"])
 
     def test_a_version_that_the_tables_lack(self):
-        lines = self.lines(REGISTRY, (announced(1, "wl_compositor", 99),), bind(1, "wl_compositor", 99, 3))
-        self.assertEqual(lines[3], "not judged from here: the tables have wl_compositor up to version 7, "
-                                   "and it is bound at 99")
+        """What they have is judged. What they lack, and its objects' too, is not."""
+        given = REGISTRY, (announced(1, "wl_compositor", 99),), bind(1, "wl_compositor", 99, 3), message(3, 0, 4)
+        newer = "the tables have wl_compositor up to version 7, and it is bound at 99"
+        lines = self.lines(*given, message(4, 6))
+        self.assertEqual(lines[2:], [
+            '-> wl_registry@2.bind(1, "wl_compositor", 99, new id wl_compositor@3)',
+            f"{newer}; judged until a message comes that they lack",
+            "-> wl_compositor@3.create_surface(new id wl_surface@4)", "-> wl_surface@4.commit()",
+            f"{LAWFUL.format(4, 1)}; {newer}"])
+        why = "the tables have wl_surface up to version 7, and wl_surface@4 has version 99"
+        for lacked, line in ((message(4, 40, 5), "-> wl_surface@4: opcode 40, 12 bytes"),
+                             ((message(4, 40, 5),), "<- wl_surface@4: opcode 40, 12 bytes")):
+            lines = self.lines(*given, lacked, message(4, 6))
+            front = "event 2" if isinstance(lacked, tuple) else "request 4"
+            self.assertEqual(lines[-4:-1], [line, f"not judged from here: {why}", "? -> wl_surface@4.commit()"])
+            self.assertTrue(lines[-1].startswith(f"not judged from {front} on: {why}; lawful until then; "), lines[-1])
+
+    def test_what_is_broken_in_any_newer_version(self):
+        """A rule that is broken whatever the newer version has; a message that no version of its object has."""
+        given = (REGISTRY, (announced(1, "wl_compositor", 99) + announced(2, "wl_shm", 1),),
+                 bind(1, "wl_compositor", 99, 3), bind(2, "wl_shm", 1, 4))
+        for data, words in ((message(3, 0, 9), "F6: argument 0: 9 is neither a free id nor the next one, 5"),
+                            (message(4, 9), "F3: wl_shm@4 has no request with the opcode 9"),
+                            (bind(1, "wl_compositor", 100, 5), "F9: the global was announced with version 99")):
+            self.assertEqual(self.lines(*given, data, status=1)[-2], words)
+
+    OFFERS = """interface own_desk 1
+event offer N(own_offer)
+interface own_offer 1
+event named s
+interface own_share 1
+request destroy D
+event offer N(own_share)
+"""
+
+    def test_ids_of_the_server(self):
+        """A newer version may have a request that ends an object, which decides when its id can be used again."""
+        own = self.written("own.tables", self.OFFERS)
+        for name, made, is_sure in (("own_desk", "own_offer", False), ("own_share", "own_share", True)):
+            lines = self.lines(REGISTRY, (announced(1, name, 2),), bind(1, name, 2, 3), (message(3, 0, 0xFF000000),),
+                               options=["--tables", own])
+            why = f"the tables have {made} up to version 1, and {made}@4278190080 has version 2"
+            self.assertEqual(f"not judged from here: {why}" in lines, not is_sure)
+            self.assertEqual(lines[-1].startswith("lawful"), is_sure)
+
+    def test_an_id_that_was_taken_back(self):
+        """An event of a newer version may have ended its object."""
+        own = self.written("own.tables", "interface own_once 1\nevent begun\n")
+        for version, is_said in ((1, True), (2, False)):
+            lines = self.lines(REGISTRY, (announced(1, "own_once", version),), bind(1, "own_once", version, 3),
+                               (message(1, 1, 3),), options=["--tables", own])
+            self.assertEqual("the compositor took back id 3, which nobody had given up" in lines, is_said)
 
     def test_what_was_not_announced_is_broken(self):
         for bound, words in ((bind(1, "own_shell1", 6, 3), "the global was announced with version 5"),
