@@ -579,6 +579,8 @@ INSPECTOR = (
     of_inspector("inspector_questions", "questions"),
     # What hangs, while it does.
     of_inspector("inspector_hangs", "hangs"),
+    # What the program says of the same recordings.
+    of_inspector("inspector_verdicts", "verdicts"),
     # What --strict refuses, and what ends the tool at once.
     of_inspector("inspector_strict", "strict"),
     # The keys of --json, and their schema.

@@ -45,6 +45,13 @@ stream_argument = record (new_rule (codes "stream")) {
   action = Some SetTrue;
 }
 
+-- `--inspect`, which has no value
+abbrev pub inspect_argument : Rule
+inspect_argument = record (new_rule (codes "inspect")) {
+  long = Some (codes "inspect");
+  action = Some SetTrue;
+}
+
 -- the argument that names a recording: one word, which is required
 abbrev pub file_argument : Rule
 file_argument = record (new_rule (codes "FILE")) { required = true }
@@ -78,7 +85,7 @@ abbrev pub trace_command : App
 trace_command = recording_command (codes "trace")
 
 abbrev pub check_command : App
-check_command = recording_command (codes "check")
+check_command = with_rule (recording_command (codes "check")) inspect_argument
 
 abbrev pub demo_command : App
 demo_command = with_rule (new_app (codes "demo")) piece_argument
@@ -135,34 +142,37 @@ NamesFiles arguments tables file =
     (given_for (codes "tables") arguments ≡ map string_bytes tables.items)
     × (first_of (codes "FILE") arguments ≡ Some (string_bytes file))
 
--- whether `--stream` was given
-abbrev pub IsStreamed : List Row → Bool → Type 0
-IsStreamed arguments true = first_of (codes "stream") arguments ≡ Some (codes "true")
-IsStreamed arguments false = first_of (codes "stream") arguments ≢ Some (codes "true")
+-- whether the switch of this name was given
+abbrev pub IsSet : Text → List Row → Bool → Type 0
+IsSet name arguments true = first_of name arguments ≡ Some (codes "true")
+IsSet name arguments false = first_of name arguments ≢ Some (codes "true")
 
 -- What a command and its arguments ask for. A file or a path has the name of the word that was
 -- given for it, unchanged; a number is the one that was given, and a limit has that number.
+-- `--stream` and `--inspect` together ask for nothing.
 abbrev pub IsGiven : Text → List Row → Job → Type 0
 IsGiven name arguments (Trace tables limit file) =
     (name ≡ codes "trace") × NamesFiles arguments tables file × IsLimitOf arguments (Some limit)
-    × IsStreamed arguments false
-IsGiven name arguments (Check tables limit file) =
+    × IsSet (codes "stream") arguments false
+IsGiven name arguments (Check inspects tables limit file) =
     (name ≡ codes "check") × NamesFiles arguments tables file × IsLimitOf arguments (Some limit)
-    × IsStreamed arguments false
+    × IsSet (codes "stream") arguments false × IsSet (codes "inspect") arguments inspects
 IsGiven name arguments (Stream prints_lines tables limit file) =
     (name ≡ reading_name prints_lines) × NamesFiles arguments tables file
-    × IsLimitOf arguments (Some limit) × IsStreamed arguments true
+    × IsLimitOf arguments (Some limit) × IsSet (codes "stream") arguments true
+    × IsSet (codes "inspect") arguments false
 IsGiven name arguments (Demo piece) =
     (name ≡ codes "demo") × IsNumber (codes "piece") arguments (Some piece)
 IsGiven name arguments (Socket path) =
     (name ≡ codes "socket") × (first_of (codes "PATH") arguments ≡ Some (string_bytes path))
 
 -- the job of a command that reads a recording
-abbrev pub IsReading : Bool → Bool → Vec (String Global) Global → Limit → String Global → Job
-    → Type 0
-IsReading prints_lines true tables limit file job = job ≡ Stream prints_lines tables limit file
-IsReading true false tables limit file job = job ≡ Trace tables limit file
-IsReading false false tables limit file job = job ≡ Check tables limit file
+abbrev pub IsReading : Bool → Bool → Bool → Vec (String Global) Global → Limit → String Global
+    → Job → Type 0
+IsReading prints_lines true inspects tables limit file job =
+    job ≡ Stream prints_lines tables limit file
+IsReading true false inspects tables limit file job = job ≡ Trace tables limit file
+IsReading false false inspects tables limit file job = job ≡ Check inspects tables limit file
 
 -- the job that a command and its arguments ask for, or none if they ask for none
 abbrev pub IsJobFor : Text → List Row → Option Job → Type 0

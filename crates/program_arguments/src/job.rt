@@ -8,7 +8,7 @@ ghost use Rattle.std.specs.Cow.{cow_str_bytes};
 ghost use Rattle.program_arguments.specs.Asking.{Asks, AsksHelp, HasFault, IsAnswer, IsJobFor};
 ghost use Rattle.program_arguments.specs.Asking.{IsLimitOf};
 ghost use Rattle.program_arguments.specs.Asking.{IsNumber, IsOutOfMemory, NamesJob, NamesNone};
-ghost use Rattle.program_arguments.specs.Asking.{IsReading, IsStreamed, reading_name};
+ghost use Rattle.program_arguments.specs.Asking.{IsReading, IsSet, inspect_argument, reading_name};
 ghost use Rattle.program_arguments.specs.Asking.{Says, Stops, StopsFor, StopsWith, check_command};
 ghost use Rattle.program_arguments.specs.Asking.{command_line, demo_command, file_argument};
 ghost use Rattle.program_arguments.specs.Asking.{given_for, limit_argument, path_argument};
@@ -34,9 +34,9 @@ const USUAL_LIMIT: &str = "4096";
 const VERSION: &str = "0.2.0";
 
 /// The message for a command line that the parser accepts although it is wrong: the parser takes
-/// any number in range for a limit.
-const USAGE: &str = "error: no command of this program, or a limit that is no multiple of 4\n\n\
-     Usage: waywire <COMMAND>\n";
+/// any number in range for a limit, and any switches together.
+const USAGE: &str = "error: no command of this program, or a limit that is no multiple of 4, \
+     or --inspect with --stream\n\nUsage: waywire <COMMAND>\n";
 
 /// One run of the program.
 #[derive(Debug, Drop)]
@@ -50,8 +50,9 @@ pub enum Job {
         file: String,
     },
     /// Print whether the recording in the file of this name is lawful, with the same tables and
-    /// limit.
+    /// limit; or, if `inspects`, the verdict of `waywire-inspect` on it.
     Check {
+        inspects: bool,
         tables: Vec<String>,
         limit: Limit,
         file: String,
@@ -127,11 +128,12 @@ fn trace<'a>(alloc: Global) -> Result<Command<'a>, AllocError>
 fn check<'a>(alloc: Global) -> Result<Command<'a>, AllocError>
     ensures { IfOk result (λ c. app_of c ≡ check_command) }
 {
-    of_recording(
+    let command = of_recording(
         alloc,
         "check",
         "Prints whether a recording is a lawful session",
-    )
+    )?;
+    command.arg(inspect(alloc))
 }
 
 /// A command of this name that reads a recording.
@@ -196,6 +198,17 @@ fn stream<'a>(alloc: Global) -> Arg<'a>
         .long("stream")
         .action(ArgAction::SetTrue)
         .help("Judge a recording of any length while it is read; FILE may be - for standard input")
+}
+
+/// The switch for the verdict of `waywire-inspect`.
+fn inspect<'a>(alloc: Global) -> Arg<'a>
+    ensures rule { rule_of result ≡ inspect_argument }
+    ensures local { result.global ≡ false }
+{
+    Arg::new(alloc, "inspect")
+        .long("inspect")
+        .action(ArgAction::SetTrue)
+        .help("Print the verdict of waywire-inspect: what the tables lack is not judged")
 }
 
 /// The argument that names a recording.
@@ -285,11 +298,11 @@ fn limit_of(matches: &ArgMatches<'_>) -> Option<Limit>
     }
 }
 
-/// Whether a command was given `--stream`.
-fn is_streamed(matches: &ArgMatches<'_>) -> bool
-    ensures { IsStreamed (rows_of (found_of matches.now)) result }
+/// Whether a command was given the switch of this name.
+fn is_set(matches: &ArgMatches<'_>, name: &str) -> bool
+    ensures { IsSet name.now (rows_of (found_of matches.now)) result }
 {
-    match matches.get_str("stream") {
+    match matches.get_str(name) {
         Some(word) => word == "true",
         None => false,
     }
@@ -299,11 +312,12 @@ fn is_streamed(matches: &ArgMatches<'_>) -> bool
 fn reading_job(
     prints_lines: bool,
     is_streamed: bool,
+    inspects: bool,
     tables: Vec<String>,
     limit: Limit,
     file: String,
 ) -> Job
-    ensures { IsReading prints_lines is_streamed tables limit file result }
+    ensures { IsReading prints_lines is_streamed inspects tables limit file result }
 {
     if is_streamed {
         return Job::Stream {
@@ -321,6 +335,7 @@ fn reading_job(
         }
     } else {
         Job::Check {
+            inspects,
             tables,
             limit,
             file,
@@ -342,8 +357,13 @@ fn reading(
     let Some(file) = word_of(alloc, given, "FILE")? else {
         return Ok(None);
     };
+    let is_streamed = is_set(given, "stream");
+    let inspects = is_set(given, "inspect");
+    if is_streamed && inspects {
+        return Ok(None);
+    }
     let tables = words_of(alloc, given, "tables")?;
-    Ok(Some(reading_job(prints_lines, is_streamed(given), tables, limit, file)))
+    Ok(Some(reading_job(prints_lines, is_streamed, inspects, tables, limit, file)))
 }
 
 /// The job that a command with this name asks for with its arguments, or none.

@@ -1,4 +1,5 @@
 mod FileLines
 mod Opening
+mod PiecesInspected
 mod StreamEnds
 mod Texts

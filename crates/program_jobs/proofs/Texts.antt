@@ -181,15 +181,13 @@ pub three_appended_ok : {X E : Type 0} (r : Result X E) (old a b c x y z : List 
 three_appended_ok (Ok done) old a b c x y z e f g = three_appended old a b c x y z e f g
 three_appended_ok (Err why) old a b c x y z e f g = tt
 
--- seven texts are appended, two of them numbers
-pub seven_appended : (old a b c d e f g x y z d' f' : List ℕ) → x ≡ old ++ (a ++ (b ++ c)) → y ≡ x ++ (d ++ (e ++ f))
-    → z ≡ y ++ g → d ≡ d' → f ≡ f'
-    → z ≡ old ++ (a ++ b ++ c ++ d' ++ e ++ f' ++ g)
-seven_appended old a b c d e f g x y z d' f' one two three p q = grind (arith, common_steps)
+-- six texts are appended, two of them numbers
+six_appended : (old a b c d e f x z d' f' : List ℕ) → x ≡ old ++ (a ++ (b ++ c)) → z ≡ x ++ (d ++ (e ++ f))
+    → d ≡ d' → f ≡ f' → z ≡ old ++ (a ++ b ++ c ++ d' ++ e ++ f')
+six_appended old a b c d e f x z d' f' one two p q = grind (arith, common_steps)
 
-pub seven_appended_ok : {X E : Type 0} (r : Result X E) (old a b c d e f g x y z d' f' : List ℕ)
-    → x ≡ old ++ (a ++ (b ++ c)) → y ≡ x ++ (d ++ (e ++ f)) → z ≡ (if is_ok r then y ++ g else y) → d ≡ d' → f ≡ f'
-    → OnOk r (z ≡ old ++ (a ++ b ++ c ++ d' ++ e ++ f' ++ g))
-seven_appended_ok (Ok done) old a b c d e f g x y z d' f' one two three p q =
-    seven_appended old a b c d e f g x y z d' f' one two three p q
-seven_appended_ok (Err why) old a b c d e f g x y z d' f' one two three p q = tt
+pub six_appended_ok : {X E : Type 0} (r : Result X E) (old a b c d e f x z d' f' : List ℕ)
+    → x ≡ old ++ (a ++ (b ++ c)) → OnOk r (z ≡ x ++ (d ++ (e ++ f))) → d ≡ d' → f ≡ f'
+    → OnOk r (z ≡ old ++ (a ++ b ++ c ++ d' ++ e ++ f'))
+six_appended_ok (Ok done) old a b c d e f x z d' f' one two p q = six_appended old a b c d e f x z d' f' one two p q
+six_appended_ok (Err why) old a b c d e f x z d' f' one two p q = tt

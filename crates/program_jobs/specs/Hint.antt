@@ -48,22 +48,35 @@ known_version tables name =
     (λ iface. option_map (λ (i : Interface). i.version) (interface_at tables iface.0))
     (place_of tables name)
 
--- the line for an interface that no table has
+-- what is missing if no table has an interface; only a name that a table can have is printed
 abbrev pub unknown_text : List ℕ → List ℕ
-unknown_text name = codes "waywire: no table has " ++ name ++ codes ": see --tables\n"
+unknown_text name =
+    if is_name name then codes "no table has " ++ name
+    else codes "no table can have its interface"
 
--- the line for an interface that the tables have in an earlier version
+-- what is missing if the tables have an interface in an earlier version
 abbrev pub newer_text : NamedBind → ℕ → List ℕ
 newer_text bound known =
-    codes "waywire: the tables have " ++ bound.interface ++ codes " up to version " ++ decimal known
-    ++ codes ", and it is bound at " ++ decimal bound.version ++ codes ": see --tables\n"
+    codes "the tables have " ++ bound.interface ++ codes " up to version " ++ decimal known
+    ++ codes ", and it is bound at " ++ decimal bound.version
+
+-- What the tables lack for a bind, in words, given the version that they have of its interface, if
+-- they have it.
+abbrev pub lack_words : NamedBind → Option ℕ → List ℕ
+lack_words bound None = unknown_text bound.interface
+lack_words bound (Some known) = newer_text bound known
+
+-- the line that says so
+abbrev pub lack_line : NamedBind → Option ℕ → List ℕ
+lack_line bound known =
+    codes "waywire: " ++ lack_words bound known ++ codes ": see --tables\n"
 
 -- The line for a bind, given the version of its interface in the tables, if they have it. There is
 -- none if the tables have the version that is bound, or if no tables can have the name.
 abbrev pub hint_text : NamedBind → Option ℕ → List ℕ
-hint_text bound None = if is_name bound.interface then unknown_text bound.interface else []
+hint_text bound None = if is_name bound.interface then lack_line bound None else []
 hint_text bound (Some known) =
-    if nat_lt known bound.version then newer_text bound known else []
+    if nat_lt known bound.version then lack_line bound (Some known) else []
 
 abbrev pub hint_for : List Interface → Option NamedBind → List ℕ
 hint_for tables None = []

@@ -1,5 +1,7 @@
 pub mod Verdict
 pub mod Hint
+pub mod Inspecting
+pub mod Finding
 pub mod Texts
 pub mod FileLines
 pub mod Failing

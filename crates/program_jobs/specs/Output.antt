@@ -29,7 +29,10 @@ use Rattle.program_jobs.specs.declared.failure.Failure.TheVariants.{BreaksRule}
 use Rattle.program_jobs.specs.declared.failure.Failure.TheVariants.{CannotWrite, SocketFailed}
 use Rattle.program_jobs.specs.declared.failure.Failure.TheVariants.{Memory}
 use Rattle.program_jobs.specs.Failing.{IsStreamFailure, IsTablesFailure, failure_line, status_of}
+use Rattle.program_jobs.specs.declared.inspecting.Noted.{Noted}
+use Rattle.program_jobs.specs.Finding.{finding_line, finding_status, lacking_of}
 use Rattle.program_jobs.specs.Hint.{hint_of}
+use Rattle.program_jobs.specs.Inspecting.{IsNoted}
 use Rattle.program_jobs.specs.Texts.{AreRead, IsFileRead, IsTooLong, NamedText, Source, as_one}
 use Rattle.program_stream.specs.Writing.{AppendsFront}
 use Rattle.program_jobs.specs.Verdict.{last_line, verdict_status}
@@ -58,6 +61,29 @@ pub record IsTraced (limit : ℕ) (tables : List Interface) (text output hint : 
   pub hinted : hint ≡ hint_of tables (stream_of ToServer pieces) verdict
   pub status_is : status ≡ verdict_status verdict
 
+-- The text is a recording, and the output is the line of the verdict of waywire-inspect on it.
+-- There is no hint, because the line has what the tables lack.
+pub record IsInspected (limit : ℕ) (tables : List Interface) (text output hint : List ℕ)
+    (status : ℕ) : Type 0 where
+  pub pieces : List Piece
+  pub recorded : TextRecords text pieces
+  pub verdict : Verdict
+  pub answers : IsVerdictOf tables (session_of limit pieces) verdict
+  pub noted : Noted
+  pub is_noted : IsNoted limit tables pieces noted
+  pub whole : output ≡ finding_line
+      (lacking_of tables (stream_of ToServer pieces) noted.is_announced verdict) verdict noted
+  pub unhinted : hint ≡ []
+  pub status_is : status ≡ finding_status
+      (lacking_of tables (stream_of ToServer pieces) noted.is_announced verdict) verdict noted
+
+-- what `check` prints for a text, with `--inspect` or without
+abbrev pub ChecksAs : Bool → ℕ → List Interface → List ℕ → List ℕ → List ℕ → ℕ → Type 0
+ChecksAs true limit tables text output hint status =
+    IsInspected limit tables text output hint status
+ChecksAs false limit tables text output hint status =
+    IsChecked limit tables text output hint status
+
 -- The tables of a job: the core ones, extended by the texts that were read, joined to one text.
 -- Without texts they are the core ones.
 abbrev pub LoadsTables : List Source → List Interface → Type 0
@@ -72,9 +98,10 @@ abbrev pub IsDone : Job → List Source → Option (List ℕ) → List ℕ → L
 IsDone (Trace tables limit file) sources known output hint status =
     (all : List Interface) × LoadsTables sources all
     × ((text : List ℕ) × IsFileRead known text × IsTraced limit.bytes all text output hint status)
-IsDone (Check tables limit file) sources known output hint status =
+IsDone (Check inspects tables limit file) sources known output hint status =
     (all : List Interface) × LoadsTables sources all
-    × ((text : List ℕ) × IsFileRead known text × IsChecked limit.bytes all text output hint status)
+    × ((text : List ℕ) × IsFileRead known text
+    × ChecksAs inspects limit.bytes all text output hint status)
 IsDone (Stream prints_lines tables limit file) sources known output hint status = ⊥
 IsDone (Demo piece) sources known output hint status =
     IsShown core_tables piece output × (hint ≡ []) × (status ≡ 0)
@@ -84,7 +111,7 @@ IsDone (Socket path) sources known output hint status =
 -- the job reads a whole recording before it prints
 abbrev pub ReadsFile : Job → Type 0
 ReadsFile (Trace tables limit file) = Unit {0}
-ReadsFile (Check tables limit file) = Unit {0}
+ReadsFile (Check inspects tables limit file) = Unit {0}
 ReadsFile (Stream prints_lines tables limit file) = ⊥
 ReadsFile (Demo piece) = ⊥
 ReadsFile (Socket path) = ⊥
@@ -93,7 +120,7 @@ ReadsFile (Socket path) = ⊥
 abbrev pub Streams : Job → Type 0
 Streams (Stream prints_lines tables limit file) = Unit {0}
 Streams (Trace tables limit file) = ⊥
-Streams (Check tables limit file) = ⊥
+Streams (Check inspects tables limit file) = ⊥
 Streams (Demo piece) = ⊥
 Streams (Socket path) = ⊥
 
@@ -102,14 +129,14 @@ abbrev pub OfStream : Job → (Bool → ℕ → List ℕ → Type 0) → Type 0
 OfStream (Stream prints_lines tables limit file) holds =
     holds prints_lines limit.bytes (string_bytes file)
 OfStream (Trace tables limit file) holds = ⊥
-OfStream (Check tables limit file) holds = ⊥
+OfStream (Check inspects tables limit file) holds = ⊥
 OfStream (Demo piece) holds = ⊥
 OfStream (Socket path) holds = ⊥
 
 -- the file of its recording has this name
 abbrev pub NamesFile : Job → List ℕ → Type 0
 NamesFile (Trace tables limit file) name = string_bytes file ≡ name
-NamesFile (Check tables limit file) name = string_bytes file ≡ name
+NamesFile (Check inspects tables limit file) name = string_bytes file ≡ name
 NamesFile (Stream prints_lines tables limit file) name = string_bytes file ≡ name
 NamesFile (Demo piece) name = ⊥
 NamesFile (Socket path) name = ⊥
@@ -117,7 +144,7 @@ NamesFile (Socket path) name = ⊥
 -- the words by which the job names table texts, and folders of them
 abbrev pub tables_named : Job → List (List ℕ)
 tables_named (Trace tables limit file) = map string_bytes tables.items
-tables_named (Check tables limit file) = map string_bytes tables.items
+tables_named (Check inspects tables limit file) = map string_bytes tables.items
 tables_named (Stream prints_lines tables limit file) = map string_bytes tables.items
 tables_named (Demo piece) = []
 tables_named (Socket path) = []
@@ -126,7 +153,7 @@ tables_named (Socket path) = []
 abbrev pub BindsSocket : Job → Type 0
 BindsSocket (Socket path) = Unit {0}
 BindsSocket (Trace tables limit file) = ⊥
-BindsSocket (Check tables limit file) = ⊥
+BindsSocket (Check inspects tables limit file) = ⊥
 BindsSocket (Stream prints_lines tables limit file) = ⊥
 BindsSocket (Demo piece) = ⊥
 
@@ -134,7 +161,7 @@ BindsSocket (Demo piece) = ⊥
 abbrev pub NamesPath : Job → List ℕ → Type 0
 NamesPath (Socket path) name = string_bytes path ≡ name
 NamesPath (Trace tables limit file) name = ⊥
-NamesPath (Check tables limit file) name = ⊥
+NamesPath (Check inspects tables limit file) name = ⊥
 NamesPath (Stream prints_lines tables limit file) name = ⊥
 NamesPath (Demo piece) name = ⊥
 

@@ -2,13 +2,15 @@
 ghost use Rattle.std.specs.Prelude.{◌≡◌, ◌≤◌, ◌⊎◌, ℕ, IfOk, IfErr, IsErr, Option, Some, List, ◌≢◌};
 ghost use Rattle.program_arguments.specs.declared.job.Job.{Job};
 ghost use Rattle.program_jobs.specs.Failing.{IsReadFailure, IsRecordingFailure, IsRefusal};
-ghost use Rattle.program_jobs.specs.Output.{Acted, IsChecked, IsDone, IsHinted, IsRefused};
-ghost use Rattle.program_jobs.specs.Output.{IsTraced, ReadsFile, Streams};
+ghost use Rattle.program_jobs.specs.Output.{Acted, ChecksAs, IsChecked, IsDone, IsHinted};
+ghost use Rattle.program_jobs.specs.Output.{IsInspected, IsRefused, IsTraced, ReadsFile, Streams};
 ghost use Rattle.program_jobs.specs.Texts.{IsFileRead, Source, sources_of};
 ghost use Rattle.wl_recording.specs.Text.{IsFirstBad};
 
 use crate::failure::Failure;
-use crate::hint::hint_on;
+use crate::finding::{lacking_of, status_by, write_finding};
+use crate::hint::{hint_on, requests_of};
+use crate::inspecting::inspect;
 use crate::streaming::{Stream, judge};
 use crate::tables::{TablesFile, load_tables};
 use crate::verdict::{status_of, write_broken};
@@ -19,6 +21,7 @@ use std::alloc::{Allocator, Global};
 use std::io::{ErrorKind, Read, Write};
 use wl_check::{check_text, trace_text, write_verdict};
 use wl_message::Limit;
+use wl_recording::Recording;
 use wl_sigs::Tables;
 
 /// The most bytes of a file.
@@ -79,8 +82,29 @@ fn recording<'a, A: Allocator, R: Read>(
     }
 }
 
-/// The line of the verdict on a recording.
+/// The line of the verdict on a recording, or of that of `waywire-inspect`.
 fn checked<'a, A: Allocator>(
+    alloc: &'a A,
+    global: Global,
+    inspects: bool,
+    tables: &Tables,
+    limit: Limit,
+    text: &[u8],
+) -> Result<Printed<&'a A>, Failure<'static>>
+    ensures line { IfOk result (λ o. ChecksAs inspects limit.bytes tables.now text.now o.text.items
+        o.hint.items o.status) }
+    ensures refused { IfErr result (IsRefusal text.now) }
+    ensures bad { (n : ℕ) → IsFirstBad text.now n → IsErr result }
+{
+    if inspects {
+        inspected(alloc, global, tables, limit, text)
+    } else {
+        judged(alloc, tables, limit, text)
+    }
+}
+
+/// The line of the verdict on a recording.
+fn judged<'a, A: Allocator>(
     alloc: &'a A,
     tables: &Tables,
     limit: Limit,
@@ -99,6 +123,32 @@ fn checked<'a, A: Allocator>(
         text,
         hint,
         status: status_of(&verdict),
+    })
+}
+
+/// The line of the verdict of `waywire-inspect` on a recording.
+fn inspected<'a, A: Allocator>(
+    alloc: &'a A,
+    global: Global,
+    tables: &Tables,
+    limit: Limit,
+    text: &[u8],
+) -> Result<Printed<&'a A>, Failure<'static>>
+    ensures line { IfOk result (λ o. IsInspected limit.bytes tables.now text.now o.text.items
+        o.hint.items o.status) }
+    ensures refused { IfErr result (IsRefusal text.now) }
+    ensures bad { (n : ℕ) → IsFirstBad text.now n → IsErr result }
+{
+    let recording = Recording::parse(global, text)?;
+    let (verdict, noted) = inspect(global, tables, limit, &recording)?;
+    let requests = requests_of(alloc, &recording)?;
+    let lacking = lacking_of(tables, &requests, noted.is_announced, &verdict);
+    let mut line = Vec::new(alloc);
+    write_finding(&mut line, &lacking, &verdict, &noted)?;
+    Ok(Printed {
+        text: line,
+        hint: Vec::new(alloc),
+        status: status_by(&lacking, &verdict, &noted),
     })
 }
 
@@ -151,13 +201,14 @@ fn output<'a, 'b, A: Allocator, T: Read + Drop, R: Read>(
             traced(alloc, &tables, *limit, &text)
         }
         Job::Check {
+            inspects,
             tables: names,
             limit,
             file: name,
         } => {
             let tables = load_tables(alloc, global, names.as_slice(), tables)?;
             let text = recording(alloc, name.as_str(), file)?;
-            checked(alloc, &tables, *limit, &text)
+            checked(alloc, global, *inspects, &tables, *limit, &text)
         }
         Job::Demo { piece } => {
             let text = demo(alloc, &Tables::core(global)?, *piece)?;

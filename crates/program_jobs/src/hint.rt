@@ -8,7 +8,8 @@ ghost use Rattle.wl_recording.specs.Text.{TextRecords};
 ghost use Rattle.wl_check.specs.Merged.{stream_of};
 ghost use Rattle.wl_sigs.specs.Rules.{is_name, is_name_byte};
 ghost use Rattle.program_jobs.specs.Hint.{bound_at, bound_in, hint_for, hint_of, hint_text};
-ghost use Rattle.program_jobs.specs.Hint.{known_version, newer_text, seen_bound, unknown_text};
+ghost use Rattle.program_jobs.specs.Hint.{known_version, lack_line, lack_words, newer_text};
+ghost use Rattle.program_jobs.specs.Hint.{seen_bound, unknown_text};
 
 use itoa::Buffer;
 use std::alloc::{AllocError, Allocator};
@@ -26,9 +27,9 @@ const MOST_NAME_BYTES: usize = 256;
 
 /// The interface and the version that a bind names.
 #[derive(Clone, Copy)]
-struct Bound<'a> {
-    interface: &'a [u8],
-    version: u32,
+pub(crate) struct Bound<'a> {
+    pub(crate) interface: &'a [u8],
+    pub(crate) version: u32,
 }
 
 /// The line for standard error after the verdict on a recording with this text. It is empty unless
@@ -61,7 +62,7 @@ pub(crate) fn hint_on<A: Allocator + Clone>(
 }
 
 /// All bytes to the server.
-fn requests_of<A: Allocator, B: Allocator + Clone>(
+pub(crate) fn requests_of<A: Allocator, B: Allocator + Clone>(
     alloc: A,
     recording: &Recording<B>,
 ) -> Result<Vec<u8, A>, AllocError>
@@ -107,7 +108,7 @@ fn hint_at<A: Allocator>(
 }
 
 /// What the bind at this offset names.
-fn bound_at(requests: &[u8], offset: usize) -> Option<Bound<'_>>
+pub(crate) fn bound_at(requests: &[u8], offset: usize) -> Option<Bound<'_>>
     ensures { option_map seen_bound result ≡ bound_at requests.now offset }
 {
     if requests.len() < BOUND_AT || offset > requests.len() - BOUND_AT {
@@ -137,7 +138,7 @@ fn named(argument: Result<(ValueRef<'_>, usize), ArgFault>) -> Option<Bound<'_>>
 }
 
 /// The version that the tables have of an interface, if they have it.
-fn known_version(tables: &Tables, interface: &[u8]) -> Option<u32>
+pub(crate) fn known_version(tables: &Tables, interface: &[u8]) -> Option<u32>
     ensures { result ≡ known_version tables.now interface.now }
 {
     let place = tables.interface(interface)?;
@@ -154,26 +155,54 @@ fn write_hint<A: Allocator>(
         (out.new.items ≡ out.old.items ++ hint_text (seen_bound bound.now) known) }
 {
     match known {
-        None if is_name(bound.interface) => write_unknown(out, bound.interface),
+        None if is_name(bound.interface) => write_line(out, bound, None),
         None => Ok(()),
-        Some(known) if known < bound.version => write_newer(out, bound, known),
+        Some(most) if most < bound.version => write_line(out, bound, known),
         Some(_) => Ok(()),
     }
 }
 
-/// Appends the line for an interface that no table has.
+/// Appends the line that says what the tables lack.
+fn write_line<A: Allocator>(
+    out: &mut Vec<u8, A>,
+    bound: &Bound<'_>,
+    known: Option<u32>,
+) -> Result<(), AllocError>
+    ensures { OnOk result
+        (out.new.items ≡ out.old.items ++ lack_line (seen_bound bound.now) known) }
+{
+    out.extend_from_slice(b"waywire: ")?;
+    write_lack(out, bound, known)?;
+    out.extend_from_slice(b": see --tables\n")
+}
+
+/// Appends what the tables lack for a bind, in words.
+pub(crate) fn write_lack<A: Allocator>(
+    out: &mut Vec<u8, A>,
+    bound: &Bound<'_>,
+    known: Option<u32>,
+) -> Result<(), AllocError>
+    ensures { OnOk result
+        (out.new.items ≡ out.old.items ++ lack_words (seen_bound bound.now) known) }
+{
+    match known {
+        None => write_unknown(out, bound.interface),
+        Some(known) => write_newer(out, bound, known),
+    }
+}
+
+/// The same for an interface that no table has.
 fn write_unknown<A: Allocator>(out: &mut Vec<u8, A>, interface: &[u8]) -> Result<(), AllocError>
     ensures { OnOk result (out.new.items ≡ out.old.items ++ unknown_text interface.now) }
 {
-    append_three(
-        out,
-        b"waywire: no table has ",
-        interface,
-        b": see --tables\n",
-    )
+    if !is_name(interface) {
+        return out.extend_from_slice(b"no table can have its interface");
+    }
+    out.extend_from_slice(b"no table has ")?;
+    out.extend_from_slice(interface)
 }
 
-/// Appends the line for an interface whose version is above that of the tables.
+/// The same for an interface whose version is above that of the tables.
 fn write_newer<A: Allocator>(
     out: &mut Vec<u8, A>,
     bound: &Bound<'_>,
@@ -188,12 +217,11 @@ fn write_newer<A: Allocator>(
     let named = named.format(bound.version).as_bytes();
     append_three(
         out,
-        b"waywire: the tables have ",
+        b"the tables have ",
         bound.interface,
         b" up to version ",
     )?;
-    append_three(out, most, b", and it is bound at ", named)?;
-    out.extend_from_slice(b": see --tables\n")
+    append_three(out, most, b", and it is bound at ", named)
 }
 
 /// Appends three texts.

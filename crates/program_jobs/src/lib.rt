@@ -7,8 +7,10 @@
 
 mod acting;
 mod failure;
+mod finding;
 mod folder;
 mod hint;
+mod inspecting;
 pub mod laws;
 mod running;
 mod socket;

@@ -46,15 +46,15 @@ pub returns-in-Trace : goal.returns-in-Trace
 returns-in-Trace g c =
     let reads : ReadsFile c.args.job.now = elim c.in-Trace.is [
       | inl e ↦ subst (λ (job : Job). ReadsFile job) (sym e.1) tt
-      | inr e ↦ subst (λ (job : Job). ReadsFile job) (sym e.1) tt
+      | inr e ↦ subst (λ (job : Job). ReadsFile job) (sym e.2) tt
     ] in
     let names : NamesFile c.args.job.now (string_bytes c.in-Trace.file) = elim c.in-Trace.is [
       | inl e ↦ subst (λ (job : Job). NamesFile job (string_bytes c.in-Trace.file)) (sym e.1) refl
-      | inr e ↦ subst (λ (job : Job). NamesFile job (string_bytes c.in-Trace.file)) (sym e.1) refl
+      | inr e ↦ subst (λ (job : Job). NamesFile job (string_bytes c.in-Trace.file)) (sym e.2) refl
     ] in
     let words : map string_bytes c.in-Trace.tables.items ≡ tables_named c.args.job.now = elim c.in-Trace.is [
       | inl e ↦ subst (λ (job : Job). map string_bytes c.in-Trace.tables.items ≡ tables_named job) (sym e.1) refl
-      | inr e ↦ subst (λ (job : Job). map string_bytes c.in-Trace.tables.items ≡ tables_named job) (sym e.1) refl
+      | inr e ↦ subst (λ (job : Job). map string_bytes c.in-Trace.tables.items ≡ tables_named job) (sym e.2) refl
     ] in
     files (string_bytes c.in-Trace.file) reads names (rw words at c.run_over_files-in-Trace.ensures)
 

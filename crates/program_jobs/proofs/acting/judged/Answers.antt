@@ -1,5 +1,5 @@
 use Rattle.std.proofs.Common.{rules, inl, inr}
-use Rattle.program_jobs.proofs.acting.checked.Goals as goal
+use Rattle.program_jobs.proofs.acting.judged.Goals as goal
 
 -- the hint is about the pieces that the text records
 pub returns-clause-line : goal.returns-clause-line
