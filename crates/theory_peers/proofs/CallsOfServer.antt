@@ -347,7 +347,7 @@ announced_one limit tables e asked written state count news g a adds =
 
 -- ---- all calls
 
-calls_go_on : (limit : ℕ) (tables : List Interface) (e : List Judged) (asked : List (Message Known))
+pub calls_go_on : (limit : ℕ) (tables : List Interface) (e : List Judged) (asked : List (Message Known))
     (written : List QueuedMessage) (state : State) → Valid tables
     → ServerCalls limit tables e asked written state → GoesOn limit tables e asked written state
 calls_go_on limit tables _ _ _ _ v (calls.begun sizes) = record {

@@ -17,3 +17,11 @@ pub mod ServerVersions
 pub mod AnnouncedGlobals
 pub mod AcceptedBinds
 pub mod CallsOfServer
+pub mod PassingPieces
+pub mod HeardRequests
+pub mod RecordedRequests
+pub mod RecordedEvents
+pub mod ToldMessages
+pub mod PlaysOfServer
+pub mod PlayedCalls
+pub mod RunByBytes

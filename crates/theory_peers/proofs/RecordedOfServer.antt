@@ -34,7 +34,7 @@ use Rattle.theory_connection.proofs.ReadAsMeant.{HasObject, made_of, made_read}
 use Rattle.theory_connection.proofs.WholeInFlight.{OpenRow, client_ends, client_makes, client_told, each_by}
 use Rattle.theory_connection.proofs.WholeInFlight.{all_asks_more, ask_meets, deletes_at, each_more, tells_at}
 use Rattle.theory_recording.specs.Follows.{KnownAs, birth_places, knowledge}
-use Rattle.theory_recording.proofs.CalledAsMeant.{go_on_more, goes_on_as, known_call, known_told}
+use Rattle.theory_recording.proofs.CalledAsMeant.{go_on_more, goes_on_as, known_call, known_told, other_taken, own_taken}
 use Rattle.theory_recording.proofs.CheckerOfRows.{held_known, news_told}
 use Rattle.theory_recording.proofs.JudgedAsMeant.{all_found, call_as, frame_called}
 use Rattle.theory_recording.proofs.KnownBehindMessage.{known_deleted, places_behind, grown}
@@ -77,6 +77,8 @@ event_one limit tables e asked m told server stream p t valid f fit s =
       is = frame_called limit tables k ToClient m stream s.more p t o fit.fits
           (made_for tables valid m.target.born.iface.0 (side_of ToClient) m.opcode fit.fits.signature
           fit.fits.there) s.whole s.bytes args s.enough refl;
+      own = own_taken tables e ToClient m o.entry fit.fits;
+      other = other_taken tables e call ToServer refl;
       follows = record {
         passed = go_on_more e (Ok call) f.passed (goes_on_as tables ToClient m o.entry fit.fits o.iface);
         here = client_ends m.ends (client_told f.here new);
@@ -151,6 +153,8 @@ delete_one limit tables e asked x told server stream p t valid f low s =
       is = frame_called limit tables k ToClient (deleting x) stream s.more p t o fits
           (made_for tables valid 0 (side_of ToClient) 1 fits.signature fits.there) s.whole s.bytes (tt, tt) s.enough
           refl;
+      own = own_taken tables e ToClient (deleting x) o.entry fits;
+      other = other_taken tables e call ToServer refl;
       follows = record {
         passed = go_on_more e (Ok call) f.passed (goes_on_as tables ToClient (deleting x) o.entry fits o.iface);
         here = at f.here x.id None;

@@ -67,13 +67,17 @@ pub record IsPlacedIn (limit : ℕ) (stream : List ℕ) (place taken tokens : �
   pub bytes : drop place stream ≡ sent.bytes ++ more
   pub enough : taken + length sent.tokens ≤ tokens
 
--- The message there keeps all rules, and the checker then follows the server.
+-- The message there keeps all rules and takes its tokens, and the checker then follows the server.
 pub record KeepsRules (limit : ℕ) (tables : List Interface) (stream : List ℕ) (place tokens : ℕ)
     (sent : boxes.QueuedMessage) (e : List Judged) (asked : List (Message Known))
     (told : List (Coming Known)) (server : Rows Born) : Type 0 where
   pub call : Call
   pub is : judged limit tables (knowledge tables e) stream
       (framed ToClient tokens (span place (length sent.bytes))) ≡ Ok call
+  pub own : (knowledge tables (e ++ Ok call ∷ [])).taken ToClient
+      ≡ (knowledge tables e).taken ToClient + length sent.tokens
+  pub other : (knowledge tables (e ++ Ok call ∷ [])).taken ToServer
+      ≡ (knowledge tables e).taken ToServer
   pub follows : FollowsServer tables (e ++ Ok call ∷ []) asked told server
 
 -- The checker read this call as this request, which names objects that are open to the checker and

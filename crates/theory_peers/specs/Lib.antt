@@ -6,4 +6,5 @@ pub mod ReadByServer
 pub mod Samples
 pub mod ServerCalls
 pub mod ServerRun
+pub mod ServerStreams
 pub mod WrittenByServer

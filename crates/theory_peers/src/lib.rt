@@ -6,3 +6,4 @@
 
 pub mod laws;
 pub mod samples;
+pub mod server_streams;
