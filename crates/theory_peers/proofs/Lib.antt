@@ -25,3 +25,5 @@ pub mod ToldMessages
 pub mod PlaysOfServer
 pub mod PlayedCalls
 pub mod RunByBytes
+pub mod PostedError
+pub mod PostedRun

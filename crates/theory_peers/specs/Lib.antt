@@ -5,6 +5,7 @@ pub mod FollowsServer
 pub mod ReadByServer
 pub mod Samples
 pub mod ServerCalls
+pub mod ServerEnding
 pub mod ServerRun
 pub mod ServerStreams
 pub mod WrittenByServer

@@ -13,6 +13,7 @@ ghost use Rattle.wl_recording.specs.Piece.{Piece as Pieces};
 ghost use Rattle.wl_check.specs.Merged.{merged};
 ghost use Rattle.wl_check.specs.Session.{IsFirstBrokenMessage, IsLawful, session_of};
 ghost use Rattle.theory_peers.specs.ServerCalls.{IsSoundServer};
+ghost use Rattle.theory_peers.specs.ServerEnding.{ServerEnds};
 ghost use Rattle.theory_peers.specs.ServerStreams.{NoRequestBreaks, ServerPlays};
 
 /// If the recording of a server and any client is broken, the first broken message is the client's.
@@ -41,4 +42,22 @@ pub fn while_its_client_keeps_the_rules()
         → length (merged limit pieces) + 1 < max_births
         → NoRequestBreaks tables (session_of limit pieces) → IsSoundServer state
         → (fault : Faults) → request state ≡ Err fault → ⊥ }
+{}
+
+/// After the server posted an error, too: a broken recording is broken first by the client, and
+/// while no request breaks a rule, the recording is lawful to its end. A checker examines nothing
+/// behind the error.
+pub fn a_recording_stays_lawful_behind_an_error()
+    ensures first { (limit : ℕ) (tables : List Interface) (pieces leaving : List Pieces)
+        (state : State) (direction : Way) (index offset : ℕ) (fault : Faults)
+        → Valid tables → ServerEnds limit tables pieces leaving state
+        → length (merged limit pieces) + 1 < max_births
+        → IsFirstBrokenMessage tables (session_of limit pieces) direction index offset fault
+        → direction ≡ ToServer }
+    ensures lawful { (limit : ℕ) (tables : List Interface) (pieces leaving : List Pieces)
+        (state : State)
+        → Valid tables → ServerEnds limit tables pieces leaving state
+        → length (merged limit pieces) + 1 < max_births
+        → NoRequestBreaks tables (session_of limit pieces)
+        → IsLawful tables (session_of limit pieces) }
 {}
