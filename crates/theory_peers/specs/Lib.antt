@@ -8,4 +8,5 @@ pub mod ServerCalls
 pub mod ServerEnding
 pub mod ServerRun
 pub mod ServerStreams
+pub mod StreamSamples
 pub mod WrittenByServer
