@@ -1,7 +1,14 @@
+pub mod AcceptedEvent
 pub mod AcceptedRequest
 pub mod AnnouncedGlobals
 pub mod Blame
+pub mod BlameOfServer
+pub mod ClientCalls
+pub mod ClientRun
+pub mod ClientSamples
+pub mod FollowsClient
 pub mod FollowsServer
+pub mod ReadByClient
 pub mod ReadByServer
 pub mod Samples
 pub mod ServerCalls
@@ -9,4 +16,5 @@ pub mod ServerEnding
 pub mod ServerRun
 pub mod ServerStreams
 pub mod StreamSamples
+pub mod WrittenByClient
 pub mod WrittenByServer

@@ -1,9 +1,12 @@
-//! Why a server keeps the rules whoever its client is, as definitions only: what a checker of their
-//! recording knows, how that fits the server, and the laws that each step keeps this.
+//! Why a server keeps the rules whoever its client is, and a client whoever its server is, as
+//! definitions only: what a checker of their recording knows, how that fits the one end, and the
+//! laws that each step keeps this.
 //!
 //! Each law is the contract of a function that does nothing.
 #![tactic(auto)]
 
+pub mod client_laws;
+pub mod client_samples;
 pub mod laws;
 pub mod samples;
 pub mod server_streams;

@@ -1,0 +1,18 @@
+use Rattle.std.proofs.Common.{refl}
+use Rattle.wl_sigs.specs.Core.{core_tables}
+use Rattle.wl_check.specs.Places.{holder, is_ending, used, server_used, advertised_version, taken}
+use Rattle.theory_recording.specs.Follows.{places_of_making}
+use Rattle.theory_peers.specs.AcceptedRequest.{index_of}
+use Rattle.theory_peers.proofs.client_samples.a_mode_is_replaced.Goals as goal
+
+pub returns-clause-before : goal.returns-clause-before
+unfolding core_tables holder is_ending used server_used advertised_version taken places_of_making index_of
+returns-clause-before c = refl
+
+pub returns-clause-replaced : goal.returns-clause-replaced
+unfolding core_tables holder is_ending used server_used advertised_version taken places_of_making index_of
+returns-clause-replaced c = refl
+
+pub returns-clause-after : goal.returns-clause-after
+unfolding core_tables holder is_ending used server_used advertised_version taken places_of_making index_of
+returns-clause-after c = refl
