@@ -42,3 +42,4 @@ pub mod ClientSteps
 pub mod ClientWrites
 pub mod ClientVersions
 pub mod CallsOfClient
+pub mod ClientReadsError

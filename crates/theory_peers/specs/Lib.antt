@@ -6,6 +6,7 @@ pub mod BlameOfServer
 pub mod ClientCalls
 pub mod ClientRun
 pub mod ClientSamples
+pub mod ErrorAtClient
 pub mod FollowsClient
 pub mod FollowsServer
 pub mod ReadByClient

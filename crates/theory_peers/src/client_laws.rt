@@ -33,6 +33,7 @@ ghost use Rattle.theory_peers.specs.AcceptedEvent.{IsAcceptedEvent, ServerMessag
 ghost use Rattle.theory_peers.specs.BlameOfServer.{IsFromClient};
 ghost use Rattle.theory_peers.specs.ClientCalls.{ClientCalls, MakesClientRun};
 ghost use Rattle.theory_peers.specs.ClientRun.{ClientRun, HasVersionsAtClient};
+ghost use Rattle.theory_peers.specs.ErrorAtClient.{IsAcceptedError, IsErrorRead};
 ghost use Rattle.theory_peers.specs.FollowsClient.{ClientKeepsRules, FollowsClient, IsToldAs};
 ghost use Rattle.theory_peers.specs.FollowsClient.{MayBeAsked, after_asking, after_learning};
 ghost use Rattle.theory_peers.specs.FollowsClient.{after_telling};
@@ -213,4 +214,16 @@ pub fn client_calls_read_without_a_fault()
         → SpellsEvent state.core.tables s.event (header_of state.core.inbox.bytes)
         (drop 8 (take n state.core.inbox.bytes)) (length state.core.inbox.tokens)
         → ReadsAsClientStep state s }
+{}
+
+/// A client that has read all events before it reads the wl_display.error with which a session
+/// ends, without a fault, as the checker did.
+pub fn an_accepted_error_is_read()
+    ensures { (limit : ℕ) (tables : List Interface) (e : List Judged)
+        (asked : List (Message Known)) (view : Objects) (remembered : List Global) (call : Calls)
+        (waiting : ℕ)
+        → Valid tables → FollowsClient tables e asked [] (client_rows view) remembered
+        → (accepted : IsAcceptedError limit tables e call)
+        → IsErrorRead tables view call (header_at (drop accepted.place accepted.stream))
+        (take (accepted.size - 8) (drop (accepted.place + 8) accepted.stream)) waiting }
 {}
