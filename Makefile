@@ -130,15 +130,9 @@ out/c/lib/%.o: c/lib/%.c $(wildcard c/lib/*.h) include/waywire.h include/waywire
 	@mkdir -p out/c/lib
 	$(CC) $(CFLAGS) -std=c99 -Wall -Wextra -Wpedantic -fPIC -Iinclude -c $< -o $@
 
-# The toolchain's memory functions, which call those of c/lib/tables.c instead of `malloc`, `realloc` and `free`.
-out/c/memory.a: $(exports) Makefile
-	@mkdir -p out/c
-	$(OBJCOPY) --redefine-sym malloc=memory_malloc --redefine-sym realloc=memory_realloc \
-		--redefine-sym free=memory_free $(memory) $@
-
 # One object of the calls, the exports and the memory, in which only the calls are global.
-out/c/waywire.o: $(exports) $(calls) out/c/memory.a
-	$(LD) -r --whole-archive $(exports) --no-whole-archive $(calls) out/c/memory.a \
+out/c/waywire.o: $(exports) $(calls)
+	$(LD) -r --whole-archive $(exports) --no-whole-archive $(calls) $(memory) \
 		-o out/c/whole.o
 	nm -g --defined-only $(calls) | sed -n 's/.* T \(waywire_\)/\1/p' > out/c/calls.txt
 	$(OBJCOPY) --keep-global-symbols=out/c/calls.txt out/c/whole.o $@

@@ -12,15 +12,8 @@ struct handle {
 	void *at;
 };
 
-/* The head of each block of the library's memory. The blocks of tables are in one ring with the tables; any other
- * block is a ring of its own. */
-struct block {
-	struct block *before, *after;
-};
-
 struct waywire_tables {
 	struct handle handle;
-	struct block blocks; /* the ring of what was allocated while they were made */
 	size_t users;        /* the caller, each end and each inspector */
 	waywire_tables *own; /* these, for whoever joins or leaves their users */
 };

@@ -4,6 +4,7 @@
 
 uint32_t waywire_c_tables_core(void **tables);
 uint32_t waywire_c_tables_core_unended(void **tables);
+void waywire_c_tables_free(struct handle);
 uint32_t waywire_c_tables_read(struct handle, const void *text, size_t length, void **more,
 	size_t *line, uint32_t *rule);
 uint32_t waywire_c_end_more_tables(struct handle *, const void *text, size_t length, void **more,
@@ -31,65 +32,16 @@ SAME(decoded, offsetof(waywire_decoded, opcode) == 4 && offsetof(waywire_decoded
 	&& offsetof(waywire_decoded, spelling) == 40
 	&& offsetof(waywire_decoded, interfaces) == 44); /* an export writes 48 bytes, before `interfaces` are */
 
-/* ---- the memory of the exports
+/* ---- who uses tables
  *
- * The exports never free tables, because an end borrows them for as long as the process runs. So all that is
- * allocated while tables are made is linked into a ring, and freed as a whole when the caller, the ends and the
- * inspectors no longer use them, or if they could not be made.
- *
- * Every block has the same head, whatever it is for. So a block can grow and be freed whether or not tables are
- * being made at the time, and whether or not they were when it was allocated. */
+ * An end and an inspector borrow the tables they are made with. So an export may free tables only when the caller, the
+ * ends and the inspectors no longer use them. */
 
-SAME(block, sizeof(struct block) == 16); /* what follows is aligned as `malloc` aligns */
-
-/* The ring of the tables that this thread makes; null while it makes none. */
-static __thread struct block *making;
-
-/* Puts a block into a ring; without one it becomes a ring of its own. Returns what follows its head. */
-static void *linked(struct block *block, struct block *ring)
-{
-	block->before = ring ? ring : block;
-	block->after = ring ? ring->after : block;
-	block->before->after = block;
-	block->after->before = block;
-	return block + 1;
-}
-
-/* Takes a block out of its ring, by what follows its head. */
-static struct block *unlinked(void *at)
-{
-	struct block *block = (struct block *)at - 1;
-	block->before->after = block->after;
-	block->after->before = block->before;
-	return block;
-}
-
-/* `malloc`, `realloc` and `free` as the exports call them, never of null: `make` gives them these
- * names. */
-
-void *memory_malloc(size_t size)
-{
-	struct block *block = malloc(sizeof *block + size);
-	return block ? linked(block, making) : NULL;
-}
-
-void *memory_realloc(void *at, size_t size)
-{
-	struct block *block = unlinked(at), *ring = block->before == block ? NULL : block->before;
-	struct block *moved = realloc(block, sizeof *block + size);
-	void *kept = linked(moved ? moved : block, ring);
-	return moved ? kept : NULL;
-}
-
-void memory_free(void *at)
-{
-	free(unlinked(at));
-}
-
+/* Frees tables that have no users. */
 static void free_tables(waywire_tables *tables)
 {
-	while (tables->blocks.after != &tables->blocks)
-		free(unlinked(tables->blocks.after + 1));
+	if (tables->handle.at)
+		waywire_c_tables_free(tables->handle);
 	free(tables);
 }
 
@@ -99,7 +51,6 @@ static waywire_tables *empty_tables(void)
 	waywire_tables *tables = malloc(sizeof *tables);
 	if (tables) {
 		tables->handle.at = NULL;
-		tables->blocks.before = tables->blocks.after = &tables->blocks;
 		tables->users = 1;
 		tables->own = tables;
 	}
@@ -140,9 +91,7 @@ static waywire_status core_by(core_maker *make, waywire_tables **tables)
 	waywire_tables *made = empty_tables();
 	if (!made)
 		return WAYWIRE_NO_MEMORY;
-	making = &made->blocks;
 	waywire_status status = make(&made->handle.at);
-	making = NULL;
 	return made_tables(status, made, tables);
 }
 
@@ -172,11 +121,9 @@ static waywire_status read_over(const waywire_tables *tables, struct handle *end
 		line = &no_line;
 	if (!rule)
 		rule = &no_rule;
-	making = &made->blocks;
 	status = end
 		? waywire_c_end_more_tables(end, text, length, &made->handle.at, line, rule)
 		: waywire_c_tables_read(tables->handle, text, length, &made->handle.at, line, rule);
-	making = NULL;
 	return made_tables(status, made, more);
 }
 

@@ -293,15 +293,6 @@ ALONE = (
 )
 
 
-def memory_has_one_form(_program):
-    """A block is freed whenever it was allocated: before tables are made, while they are made, or later."""
-    path = os.path.join(OUT, "blocks")
-    run([*C, "-std=c99", os.path.join(TESTS, "blocks.c"), "-o", path])
-    run([path])
-    need("valgrind")
-    run([*VALGRIND, path])
-
-
 def sockets(_program):
     """Sockets: each environment variable and each error, the lock, a socket that was left behind, descriptors."""
     with tempfile.TemporaryDirectory() as folder:
@@ -667,7 +658,7 @@ def replay_at_compositors(program):
 
 TESTS_IN_ORDER = (header_is_c99_and_cpp, every_message_goes_by_its_stub,
                   stubs_compile_everywhere, ends_and_objects_have_types, session, values,
-                  inspector_says_what_the_reference_says, no_error_and_no_leak, *ALONE, memory_has_one_form,
+                  inspector_says_what_the_reference_says, no_error_and_no_leak, *ALONE,
                   sockets, connections, connections_without_memory, works_beside_many_registries,
                   works_beside_waiting_messages, shared_tables,
                   no_leak_to_the_sanitizer, exports_its_calls_alone, examples, installed, installing_compiles_nothing,
@@ -685,7 +676,7 @@ TESTS_IN_ORDER = (header_is_c99_and_cpp, every_message_goes_by_its_stub,
 BY_NAME = {it.__name__: it for it in TESTS_IN_ORDER}
 # What `make check` runs.
 SHORT = [BY_NAME[it] for it in """header_is_c99_and_cpp ends_and_objects_have_types session values tables_that_grow
-    memory_has_one_form followed_messages pointers_of_both_ranges replaced_objects sockets connections
+    followed_messages pointers_of_both_ranges replaced_objects sockets connections
     no_descriptor_is_left_open socket_takes_a_part space_keeps_what_was_written exports_its_calls_alone
     examples""".split()]
 

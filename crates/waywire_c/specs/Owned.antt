@@ -14,6 +14,9 @@ use Rattle.waywire_c.specs.contracts.held.HeldInspector as inspector
 abbrev pub lends_tables : Ptr → tables.the_row.Denot → Fml
 lends_tables = static_ref_at tables.the_row
 
+abbrev pub owns_tables : Global → Ptr → tables.the_row.Denot → Fml
+owns_tables alloc = box_owns (ghosts.dealloc_token alloc) tables.the_row
+
 abbrev pub held_tables_coded : Coded tables.the_row.Denot
 held_tables_coded = tables.the_row.coded
 

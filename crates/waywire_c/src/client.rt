@@ -30,7 +30,7 @@ pub extern "C" fn waywire_c_client_new(
     ensures tried { result ≢ 63 → IsTried result }
     ensures none { result ≢ 0 → client.new ≡ client.old }
 {
-    match making::client_by(alloc, tables.get().tables, sizes) {
+    match making::client_by(alloc, tables.lent(), sizes) {
         Ok(boxed) => {
             *client = address(boxed);
             OK

@@ -280,10 +280,10 @@ pub extern "C" fn waywire_c_tables_decode(
     decoded: &mut Decoded,
     args: &mut [ReportArg],
 ) -> u32
-    ensures { TellsDecoded tables.held.tables.now interface version sender bytes.now
+    ensures { TellsDecoded tables.held.tables interface version sender bytes.now
         (decoded_by decoded.old) result (decoded_by decoded.new) args.old args.new }
 {
-    let tables = tables.get().tables;
+    let tables = tables.lent();
     let Some(side) = side_with_room(args.len(), sender) else {
         return BAD_VALUE;
     };

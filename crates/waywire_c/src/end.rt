@@ -27,8 +27,8 @@ ghost use Rattle.waywire_c.specs.Reports.{entry_told, entry_told_by, fields_of_k
 ghost use Rattle.waywire_c.specs.Reports.{told_by};
 
 use crate::end_handle::EndHandle;
+use crate::held::HeldTables;
 use crate::making;
-use crate::parts::lent_address;
 use crate::reading::read;
 use crate::reports::Report;
 use crate::sending::{Call, send, send_words};
@@ -36,6 +36,7 @@ use crate::statuses::{FIRST_SERVER_OBJECT, NOT_FOUND, OK};
 use crate::tables::put_fault;
 use crate::values::{CAmounts, CObject, CParts, CallArg, ReportArg, maker};
 use std::alloc::Global;
+use std::ptr;
 use wl_connection::End;
 
 /// Frees an end, and what was borrowed from it.
@@ -422,9 +423,12 @@ pub extern "C" fn waywire_c_end_more_tables(
         Ok(boxed) => boxed,
         Err(why) => return put_fault(why, line, rule),
     };
-    if end.more_tables(boxed.tables).is_err() {
+    // Tested before they are lent, because only C frees what is lent.
+    if boxed.tables.has_server_objects() && !end.core().tables.has_server_objects() {
         return FIRST_SERVER_OBJECT;
     }
-    *more = lent_address(boxed);
+    let lent: &'static HeldTables = Box::leak(boxed);
+    end.take_tables(&lent.tables);
+    *more = ptr::from_ref(lent).cast::<u8>();
     OK
 }

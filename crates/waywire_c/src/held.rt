@@ -1,5 +1,5 @@
 //! The targets of handles. Each has its own type, so a handle's proofs can name it in one word.
-ghost use Rattle.std.specs.Prelude.{◌≡◌, OnErr, OnOk};
+ghost use Rattle.std.specs.Prelude.{◌≡◌, false, OnErr, OnOk};
 ghost use Rattle.std.specs.Result.{is_err};
 ghost use Rattle.wl_connection.specs.MoreTables.{Extend, has_first_server_object, with_tables};
 ghost use Rattle.waywire_c.specs.Ends.{core_of as core_of_end, end_with_core as end_by_core};
@@ -13,11 +13,10 @@ use wl_objects::SlotTable;
 use wl_server::Server;
 use wl_sigs::Tables;
 
-/// Tables, which are kept until the process ends because ends that are freed later may still borrow
-/// them.
+/// Tables. C frees them once no end and no inspector borrows them any more.
 #[derive(Drop)]
 pub struct HeldTables {
-    pub tables: &'static Tables,
+    pub tables: Tables,
 }
 
 /// A client or a server.
@@ -42,6 +41,17 @@ impl HeldEnd {
             HeldEnd::Client(client) => client.more_tables(tables),
             HeldEnd::Server(server) => server.more_tables(tables),
         }
+    }
+
+    /// Replaces the end's tables with these, which extend them and do not have the first event by
+    /// which the server makes an object.
+    pub fn take_tables(&mut self, tables: &'static Tables)
+        requires extend { Extend (core_of_end self.old).tables tables.now }
+        requires allowed { has_first_server_object (core_of_end self.old).tables tables.now
+            ≡ false }
+        ensures { self.new ≡ end_by_core self.old (with_tables (core_of_end self.old) tables.now) }
+    {
+        let _taken = self.more_tables(tables);
     }
 }
 

@@ -31,7 +31,7 @@ pub extern "C" fn waywire_c_inspector_new(
     ensures tried { result ≢ 63 → IsTried result }
     ensures none { result ≢ 0 → inspector.new ≡ inspector.old }
 {
-    match making::inspector_by(alloc, tables.get().tables, limit) {
+    match making::inspector_by(alloc, tables.lent(), limit) {
         Ok(boxed) => {
             *inspector = address(boxed);
             OK

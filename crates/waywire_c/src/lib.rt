@@ -16,6 +16,7 @@ mod inspector;
 mod inspector_handle;
 mod making;
 mod messages;
+mod owned_tables;
 mod parts;
 mod reading;
 mod recording;

@@ -37,31 +37,25 @@ fn boxed<T: Drop>(alloc: Global, value: T) -> Result<Box<T>, AllocError>
     }
 }
 
-/// Tables that are kept until the process ends.
-fn kept(alloc: Global, tables: Tables) -> Result<Box<HeldTables>, AllocError>
-    ensures { IfOk result (λ kept. kept.value.tables.now ≡ tables) }
+// Tables in a box.
+fn held(alloc: Global, tables: Tables) -> Result<Box<HeldTables>, AllocError>
+    ensures { IfOk result (λ held. held.value.tables ≡ tables) }
 {
-    let tables = boxed(alloc, tables)?;
-    boxed(
-        alloc,
-        HeldTables {
-            tables: Box::leak(tables),
-        },
-    )
+    boxed(alloc, HeldTables { tables })
 }
 
 /// The core tables.
 pub fn core_tables(alloc: Global) -> Result<Box<HeldTables>, AllocError>
-    ensures { IfOk result (λ kept. kept.value.tables.now ≡ core_tables) }
+    ensures { IfOk result (λ held. held.value.tables ≡ core_tables) }
 {
-    kept(alloc, Tables::core(alloc)?)
+    held(alloc, Tables::core(alloc)?)
 }
 
 /// The core tables for a server whose caller ends objects.
 pub fn unended_tables(alloc: Global) -> Result<Box<HeldTables>, AllocError>
-    ensures { IfOk result (λ kept. kept.value.tables.now ≡ unended_tables) }
+    ensures { IfOk result (λ held. held.value.tables ≡ unended_tables) }
 {
-    kept(alloc, Tables::core_unended(alloc)?)
+    held(alloc, Tables::core_unended(alloc)?)
 }
 
 /// These tables with those of a text added.
@@ -71,13 +65,13 @@ pub fn more_tables(
     text: &[u8],
 ) -> Result<Box<HeldTables>, TableFault>
     ensures made { MatchResult result
-        (λ kept. outcome tables.now text.now ≡ Ok kept.value.tables.now)
+        (λ held. outcome tables.now text.now ≡ Ok held.value.tables)
         (λ why. (outcome tables.now text.now ≡ Err why) ⊎ (why ≡ Memory)) }
-    ensures extend { IfOk result (λ kept. Extend tables.now kept.value.tables.now) }
+    ensures extend { IfOk result (λ held. Extend tables.now held.value.tables) }
 {
     texts_extend();
     let joined = tables.read_more(text)?;
-    match kept(alloc, joined) {
+    match held(alloc, joined) {
         Ok(boxed) => Ok(boxed),
         Err(_) => Err(TableFault::Memory),
     }

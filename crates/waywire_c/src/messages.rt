@@ -110,12 +110,12 @@ pub extern "C" fn waywire_c_tables_message(
     length: &mut usize,
 ) -> u32
     ensures answer { result
-        ≡ find_outcome (message_at tables.held.tables.now interface sender opcode) }
-    ensures told { MatchOption (message_at tables.held.tables.now interface sender opcode)
+        ≡ find_outcome (message_at tables.held.tables interface sender opcode) }
+    ensures told { MatchOption (message_at tables.held.tables interface sender opcode)
         ((message.new ≡ message.old) × (name.new ≡ name.old) × (length.new ≡ length.old))
         (λ found. TellsMessage found message.new length.new) }
 {
-    let tables = tables.get().tables;
+    let tables = tables.lent();
     let Some(side) = side_of(sender) else {
         return NOT_FOUND;
     };
@@ -146,12 +146,12 @@ pub extern "C" fn waywire_c_tables_kind(
     kind: &mut CKind,
 ) -> u32
     ensures answer { result
-        ≡ find_outcome (kind_of_argument tables.held.tables.now interface sender opcode place) }
-    ensures told { MatchOption (kind_of_argument tables.held.tables.now interface sender opcode
+        ≡ find_outcome (kind_of_argument tables.held.tables interface sender opcode place) }
+    ensures told { MatchOption (kind_of_argument tables.held.tables interface sender opcode
         place)
         (kind.new ≡ kind.old) (λ found. TellsKind found kind.new) }
 {
-    let tables = tables.get().tables;
+    let tables = tables.lent();
     let Some(side) = side_of(sender) else {
         return NOT_FOUND;
     };

@@ -42,7 +42,7 @@ pub extern "C" fn waywire_c_server_new(
     ensures tried { result ≢ 63 → IsTried result }
     ensures none { result ≢ 0 → server.new ≡ server.old }
 {
-    match making::server_by(alloc, tables.get().tables, sizes) {
+    match making::server_by(alloc, tables.lent(), sizes) {
         Ok(boxed) => {
             *server = address(boxed);
             OK

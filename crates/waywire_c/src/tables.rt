@@ -11,6 +11,7 @@ ghost use Rattle.waywire_c.specs.Statuses.{find_outcome, table_outcome, table_st
 ghost use Rattle.waywire_c.specs.Values.{iface_at};
 
 use crate::making::{core_tables, more_tables, unended_tables};
+use crate::owned_tables::OwnedTables;
 use crate::parts::lent_address;
 use crate::statuses::{BAD_LINE, BAD_TABLE, NO_MEMORY, NOT_FOUND, OK};
 use crate::tables_handle::TablesHandle;
@@ -32,6 +33,12 @@ pub extern "C" fn waywire_c_tables_core(alloc: Global, tables: &mut *const u8) -
         }
         Err(_) => NO_MEMORY,
     }
+}
+
+/// Frees tables that no end, no inspector and no call has any more.
+#[unsafe(no_mangle)]
+pub extern "C" fn waywire_c_tables_free(tables: OwnedTables) {
+    drop(tables.opened());
 }
 
 /// Makes the core tables for a server whose caller ends objects, and writes their address to
@@ -61,17 +68,17 @@ pub extern "C" fn waywire_c_tables_read(
     line: &mut usize,
     rule: &mut u32,
 ) -> u32
-    ensures answer { (result ≡ table_outcome (outcome tables.held.tables.now text.now))
+    ensures answer { (result ≡ table_outcome (outcome tables.held.tables text.now))
         ⊎ (result ≡ 11) }
     ensures bad_line { result ≡ 71
-        → outcome tables.held.tables.now text.now ≡ Err (bad_line line.new) }
+        → outcome tables.held.tables text.now ≡ Err (bad_line line.new) }
     ensures bad_table { result ≡ 72
-        → outcome tables.held.tables.now text.now ≡ Err (bad_table line.new rule.new) }
+        → outcome tables.held.tables text.now ≡ Err (bad_table line.new rule.new) }
     ensures line { result ≢ 71 → result ≢ 72 → line.new ≡ line.old }
     ensures rule { result ≢ 72 → rule.new ≡ rule.old }
     ensures none { result ≢ 0 → more.new ≡ more.old }
 {
-    match more_tables(alloc, tables.get().tables, text) {
+    match more_tables(alloc, tables.lent(), text) {
         Ok(boxed) => {
             *more = lent_address(boxed);
             OK
@@ -112,11 +119,11 @@ pub extern "C" fn waywire_c_tables_interface(
     name: &[u8],
     interface: &mut u16,
 ) -> u32
-    ensures answer { result ≡ find_outcome (place_of tables.held.tables.now name.now) }
-    ensures found { MatchOption (place_of tables.held.tables.now name.now)
+    ensures answer { result ≡ find_outcome (place_of tables.held.tables name.now) }
+    ensures found { MatchOption (place_of tables.held.tables name.now)
         (interface.new ≡ interface.old) (λ iface. iface ≡ iface_at interface.new) }
 {
-    match tables.get().tables.interface(name) {
+    match tables.lent().interface(name) {
         Some(iface) => {
             *interface = iface.0;
             OK
@@ -133,11 +140,11 @@ pub extern "C" fn waywire_c_tables_name(
     name: &mut *const u8,
     length: &mut usize,
 ) -> u32
-    ensures answer { result ≡ find_outcome (interface_at tables.held.tables.now interface) }
-    ensures length { MatchOption (interface_at tables.held.tables.now interface)
+    ensures answer { result ≡ find_outcome (interface_at tables.held.tables interface) }
+    ensures length { MatchOption (interface_at tables.held.tables interface)
         ((length.new ≡ length.old) × (name.new ≡ name.old)) (λ i. length.new ≡ len i.name) }
 {
-    match tables.get().tables.name(Iface(interface)) {
+    match tables.lent().name(Iface(interface)) {
         Some(text) => {
             *name = start_of(text);
             *length = text.len();
@@ -154,11 +161,11 @@ pub extern "C" fn waywire_c_tables_version(
     interface: u16,
     version: &mut u32,
 ) -> u32
-    ensures answer { result ≡ find_outcome (interface_at tables.held.tables.now interface) }
-    ensures version { MatchOption (interface_at tables.held.tables.now interface)
+    ensures answer { result ≡ find_outcome (interface_at tables.held.tables interface) }
+    ensures version { MatchOption (interface_at tables.held.tables interface)
         (version.new ≡ version.old) (λ i. version.new ≡ i.version) }
 {
-    match tables.get().tables.version(Iface(interface)) {
+    match tables.lent().version(Iface(interface)) {
         Some(found) => {
             *version = found;
             OK

@@ -5,6 +5,7 @@ ghost use Rattle.waywire_c.specs.declared.held.HeldTables.{HeldTables};
 
 use crate::held::HeldTables;
 use std::marker::Model;
+use wl_sigs::Tables;
 
 /// C's pointer to the tables. It holds what a `&'static` to them holds: any number of calls can
 /// have it at one time, and each takes a copy.
@@ -22,10 +23,17 @@ impl Model for TablesHandle {
 
 impl TablesHandle {
     /// The handle's target, borrowed.
-    pub fn get<'a>(self) -> &'a HeldTables
+    fn get<'a>(self) -> &'a HeldTables
         ensures { result.now ≡ self.held }
     {
         let TablesHandle { ptr } = self;
         unsafe { &*(ptr as *const HeldTables) }
+    }
+
+    /// The tables.
+    pub fn lent<'a>(self) -> &'a Tables
+        ensures { result.now ≡ self.held.tables }
+    {
+        &self.get().tables
     }
 }

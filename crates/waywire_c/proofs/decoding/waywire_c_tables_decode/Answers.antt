@@ -14,5 +14,5 @@ returns-in_default c =
 pub returns-then-is_none : goal.returns-then-is_none
 returns-then-is_none c =
     let none = none-is _ (sym (ap is_some c.version.ensures.answer) ∙ (c.is_none.ensures ∙ ap not c.if-is_none.true)) in
-    rw (← c.side_with_room.ensures, c.in-Some.is, ← c.get.ensures, none)
+    rw (← c.side_with_room.ensures, c.in-Some.is, ← c.lent-tables.ensures, none)
     (record { status_is = refl; told_is = refl; args = refl })
