@@ -35,7 +35,8 @@ SAME(decoded, offsetof(waywire_decoded, opcode) == 4 && offsetof(waywire_decoded
 /* ---- who uses tables
  *
  * An end and an inspector borrow the tables they are made with. So an export may free tables only when the caller, the
- * ends and the inspectors no longer use them. */
+ * ends and the inspectors no longer use them. Tables share what they have in common with those that they were made
+ * from; the exports count who has it. */
 
 /* Frees tables that have no users. */
 static void free_tables(waywire_tables *tables)

@@ -348,6 +348,18 @@ def works_beside_waiting_messages(_program):
             raise Failed(f"{work}: {max(more):.0f} instructions each, and beside no message {none:.0f}")
 
 
+def growth_takes_what_is_added(_program):
+    """The tables of an end that grows by one interface after another: of a thousand, each takes at most four times the
+    instructions that it takes of a hundred. Nothing leaks."""
+    need("valgrind")
+    path = compiled("growing")
+    for end in ("client", "server", "extended"):
+        few, many = (instructions_of("growing", end, it) for it in (100, 1000))
+        if many > 4 * few:
+            raise Failed(f"{end}: {many:.0f} instructions each of a thousand, and of a hundred {few:.0f}")
+        run([*VALGRIND, path, end, "20"])
+
+
 def shared_tables(_program):
     """Threads share tables: nothing leaks, and there is no data race."""
     path = compiled("shared", "-pthread")
@@ -660,7 +672,7 @@ TESTS_IN_ORDER = (header_is_c99_and_cpp, every_message_goes_by_its_stub,
                   stubs_compile_everywhere, ends_and_objects_have_types, session, values,
                   inspector_says_what_the_reference_says, no_error_and_no_leak, *ALONE,
                   sockets, connections, connections_without_memory, works_beside_many_registries,
-                  works_beside_waiting_messages, shared_tables,
+                  works_beside_waiting_messages, growth_takes_what_is_added, shared_tables,
                   no_leak_to_the_sanitizer, exports_its_calls_alone, examples, installed, installing_compiles_nothing,
                   package, debian_package, debian_package_at_a_clean_debian,
                   sockets_are_those_of_libwayland, libwayland_at_our_server, compositor,

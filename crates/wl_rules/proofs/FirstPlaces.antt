@@ -26,7 +26,7 @@ use denote.Ref.{Bor}
 use Rattle.wl_rules.specs.Joined.{first_place}
 use Rattle.wl_rules.specs.Broken.{is_first}
 use Rattle.wl_rules.specs.NameHash.{name_hash}
-use Rattle.wl_rules.specs.Places.{place_in}
+use Rattle.wl_rules.specs.Places.{mapped_place}
 
 -- the place of a name after one more name is appended
 abbrev pub with_name : Option ℕ → Bool → ℕ → Option ℕ
@@ -100,22 +100,22 @@ same_keys hash a b =
     second false false both = refl
 
 -- the places of names after the place of one name is changed
-pub place_in-updates : (m n : BTreeMap (ℕ × Bor (List ℕ)) ℕ) (hash : ℕ) (name : Bor (List ℕ)) (w : Option ℕ)
+pub mapped_place-updates : (m n : BTreeMap (ℕ × Bor (List ℕ)) ℕ) (hash : ℕ) (name : Bor (List ℕ)) (w : Option ℕ)
     → hash ≡ name_hash name.now
     → Updates (λ x y. ordering_then (nat_cmp x.0 y.0) (slice_cmp nat_cmp x.1.now y.1.now)) m n (hash, name) w
-    → (q : List ℕ) → place_in n q ≡ cond (bytes_eq name.now q) w (place_in m q)
-place_in-updates m n hash name w is updates q =
+    → (q : List ℕ) → mapped_place n q ≡ cond (bytes_eq name.now q) w (mapped_place m q)
+mapped_place-updates m n hash name w is updates q =
     updates.0 (name_hash q, record { ref_ptr = (0, 0); now = q })
     ∙ ap (λ h. cond (is_eq (ordering_then (nat_cmp h (name_hash q)) (slice_cmp nat_cmp name.now q))) w
-    (place_in m q)) is
-    ∙ ap (λ t. cond t w (place_in m q)) (same_keys name_hash name.now q)
+    (mapped_place m q)) is
+    ∙ ap (λ t. cond t w (mapped_place m q)) (same_keys name_hash name.now q)
 
 -- the place of a name, by its hash
-pub place_in-get : (m : BTreeMap (ℕ × Bor (List ℕ)) ℕ) (hash : ℕ) (name : Bor (List ℕ))
+pub mapped_place-get : (m : BTreeMap (ℕ × Bor (List ℕ)) ℕ) (hash : ℕ) (name : Bor (List ℕ))
     → hash ≡ name_hash name.now
     → get (λ x y. ordering_then (nat_cmp x.0 y.0) (slice_cmp nat_cmp x.1.now y.1.now)) m (hash, name)
-    ≡ place_in m name.now
-place_in-get m hash name is =
+    ≡ mapped_place m name.now
+mapped_place-get m hash name is =
     ap (λ h. get_by (λ y. ordering_then (nat_cmp h y.0) (slice_cmp nat_cmp name.now y.1.now)) m) is
 
 -- the step of a loop over names

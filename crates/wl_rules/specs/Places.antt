@@ -7,6 +7,8 @@ use Rattle.std.specs.declared.cmp.Ordering.{Ordering}
 use denote.Ref.{Bor}
 use Rattle.wl_rules.specs.NameHash.{name_hash}
 use Rattle.wl_rules.specs.Tables.{Interface}
+use Rattle.wl_rules.specs.declared.places.Places.{Places}
+use Rattle.wl_rules.specs.declared.places.Places.TheVariants.{Listed, Mapped}
 use Rattle.wl_text.specs.Text.{WrittenInterface}
 use Rattle.wl_rules.specs.Joined.{all_names, first_place}
 
@@ -15,9 +17,15 @@ abbrev pub name_cmp : List ℕ → ℕ × Bor (List ℕ) → Ordering
 name_cmp name key =
     ordering_then (nat_cmp (name_hash name) key.0) (slice_cmp nat_cmp name key.1.now)
 
--- the index that the map has for a name
-abbrev pub place_in : BTreeMap (ℕ × Bor (List ℕ)) ℕ → List ℕ → Option ℕ
-place_in places name = get_by (name_cmp name) places
+-- the index that a map has for a name
+abbrev pub mapped_place : BTreeMap (ℕ × Bor (List ℕ)) ℕ → List ℕ → Option ℕ
+mapped_place places name = get_by (name_cmp name) places
+
+-- the index of a name
+module _ {A : Type 0} where
+  abbrev pub place_in : Places A → List ℕ → Option ℕ
+  place_in (Listed names) name = first_place names.items name
+  place_in (Mapped places) name = mapped_place places name
 
 -- these are the first indices of the names of the tables and of a text
 abbrev pub ArePlaces : (List ℕ → Option ℕ) → List Interface → List WrittenInterface → Type 0

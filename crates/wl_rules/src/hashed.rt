@@ -1,5 +1,5 @@
 //! Names with their hashes.
-ghost use Rattle.std.specs.Prelude.{◌≡◌};
+ghost use Rattle.std.specs.Prelude.{◌≡◌, bytes_eq};
 ghost use Rattle.wl_rules.specs.NameHash.{name_hash};
 
 use crate::hash::name_hash;
@@ -54,5 +54,12 @@ impl<'n> HashedName<'n> {
         ensures { result ≡ name_hash self.now }
     {
         self.hash
+    }
+
+    /// Whether another is the same name. Names are compared only if their hashes are equal.
+    pub fn is_same(&self, other: &HashedName<'_>) -> bool
+        ensures { result ≡ bytes_eq self.now other.now }
+    {
+        self.hash == other.hash && self.name == other.name
     }
 }

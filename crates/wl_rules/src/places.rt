@@ -8,11 +8,17 @@ use crate::hashed::HashedName;
 use std::alloc::{AllocError, Allocator};
 use std::collections::BTreeMap;
 
-/// Indices by name and its hash; the hash comes first, so that one number distinguishes most names
-/// that begin alike.
-pub type Places<'n, A> = BTreeMap<(u64, &'n [u8]), usize, A>;
-
 /// The first index of each name.
+#[derive(Drop)]
+pub enum Places<'n, A: Allocator> {
+    /// The names, each at its index. A lookup goes through them, so this is for a few lookups.
+    Listed(Vec<HashedName<'n>, A>),
+    /// Indices by name and its hash; the hash comes first, so that one number distinguishes most
+    /// names that begin alike.
+    Mapped(BTreeMap<(u64, &'n [u8]), usize, A>),
+}
+
+/// The first index of each name, for any number of lookups.
 pub fn places_of<'n, A: Allocator + Clone + Drop>(
     alloc: &A,
     names: &[HashedName<'n>],
@@ -28,7 +34,7 @@ pub fn places_of<'n, A: Allocator + Clone + Drop>(
             places.insert(key, earlier)?;
         }
     }
-    Ok(places)
+    Ok(Places::Mapped(places))
 }
 
 /// The first index of a name.
@@ -36,5 +42,18 @@ pub fn place_in<'n, A: Allocator>(places: &Places<'n, A>, name: &'n [u8]) -> Opt
     ensures { result ≡ place_in places.now name.now }
 {
     let key = (name_hash(name), name);
-    places.get(&key).copied()
+    match places {
+        Places::Listed(names) => place_listed(
+            names.as_slice(),
+            &HashedName::with_hash(name, key.0),
+        ),
+        Places::Mapped(places) => places.get(&key).copied(),
+    }
+}
+
+// The first index of a name in a list.
+fn place_listed(names: &[HashedName<'_>], wanted: &HashedName<'_>) -> Option<usize>
+    ensures { result ≡ first_place names.now wanted.now }
+{
+    names.iter().position(|name| name.is_same(wanted))
 }

@@ -8,8 +8,9 @@ ghost use Rattle.wl_sigs.specs.Extending.{is_object_of, is_server_object_of};
 ghost use Rattle.wl_sigs.specs.Joined.{message_placed, interface_placed};
 ghost use Rattle.wl_sigs.specs.NameHash.{name_hash};
 ghost use Rattle.wl_sigs.specs.Places.{PlacesFit, place_in};
+ghost use Rattle.wl_sigs.specs.Stored.{interface_of, name_bytes};
 ghost use Rattle.wl_sigs.specs.Tables.{has_destroying_event, has_destroying_request};
-ghost use Rattle.wl_sigs.specs.Tables.{has_server_object, messages_of};
+ghost use Rattle.wl_sigs.specs.Tables.{destroys_target, has_server_object, messages_of};
 ghost use Rattle.wl_sigs.specs.Written.{message_written, interface_written};
 
 use crate::core_interfaces::{CoreInterface, CoreMessage};
@@ -18,18 +19,29 @@ use crate::signature::Signature;
 use std::alloc::{AllocError, Allocator, Global};
 use std::fmt::{self, Debug, Formatter};
 use std::marker::Model;
+use std::sync::Arc;
 use wl_rules::{Destroys, HashedName, Places, Side, name_hash};
 use wl_text::{WrittenInterface, WrittenMessage};
 
-/// One interface of the tables.
+/// The name and the messages of an interface.
+#[derive(Drop)]
+pub(crate) struct InterfaceParts<A: Allocator = Global> {
+    name: Name<A>,
+    requests: Vec<Signature<A>, A>,
+    events: Vec<Signature<A>, A>,
+}
+
+/// One interface of the tables. Tables that extend others share its parts with them.
 #[derive(Drop)]
 pub(crate) struct StoredInterface<A: Allocator = Global> {
-    name: Name<A>,
     /// `name_hash` of the name.
     hash: u64,
     version: u32,
-    pub(crate) requests: Vec<Signature<A>, A>,
-    pub(crate) events: Vec<Signature<A>, A>,
+    /// Whether an event destroys its target.
+    is_ended: bool,
+    /// Whether an event has a new object of the server.
+    has_server_objects: bool,
+    parts: Arc<InterfaceParts<A>, A>,
 }
 
 impl<A: Allocator> Model for StoredInterface<A> {
@@ -38,27 +50,30 @@ impl<A: Allocator> Model for StoredInterface<A> {
     ghost Value = { Interface };
 
     ghost use Rattle.std.specs.Prelude.{◌≡◌};
+    ghost use Rattle.std.specs.Arc.{arc_value};
     ghost use Rattle.wl_sigs.specs.NameHash.{name_hash};
-    ghost use Rattle.wl_sigs.specs.Stored.{name_bytes};
+    ghost use Rattle.wl_sigs.specs.Stored.{interface_of, name_bytes};
+    ghost use Rattle.std.specs.List.{list_any};
+    ghost use Rattle.wl_sigs.specs.Tables.{has_destroying_event, has_server_object};
 
-    ghost view = { λ i. record {
-      name = name_bytes i.name;
-      version = i.version;
-      requests = i.requests.items;
-      events = i.events.items;
+    ghost view = { λ i. interface_of i.version (arc_value i.parts) };
+
+    ghost invariant = { λ i. record {
+      hash : i.hash ≡ name_hash (name_bytes (arc_value i.parts).name);
+      ended : i.is_ended ≡ has_destroying_event (interface_of i.version (arc_value i.parts));
+      server_objects : i.has_server_objects
+          ≡ list_any has_server_object (interface_of i.version (arc_value i.parts)).events;
     } };
-
-    ghost invariant = { λ i. i.hash ≡ name_hash (name_bytes i.name) };
 }
 
-// Without the hash, which the name gives.
+// Without what the parts give: `hash`, `is_ended` and `has_server_objects`.
 impl<A: Allocator + Debug> Debug for StoredInterface<A> {
     fn fmt<W: fmt::Write>(&self, f: &mut Formatter<W>) -> fmt::Result {
         f.debug_struct("StoredInterface")
-            .field("name", &self.name)
+            .field("name", &self.parts.name)
             .field("version", &self.version)
-            .field("requests", &self.requests)
-            .field("events", &self.events)
+            .field("requests", &self.parts.requests)
+            .field("events", &self.parts.events)
             .finish()
     }
 }
@@ -67,7 +82,7 @@ impl<A: Allocator> StoredInterface<A> {
     pub(crate) fn name(&self) -> &[u8]
         ensures { result.now ≡ self.now.name }
     {
-        self.name.as_slice()
+        self.parts.name.as_slice()
     }
 
     /// Its name, with the stored hash.
@@ -94,10 +109,7 @@ impl<A: Allocator> StoredInterface<A> {
     pub(crate) fn opcode(&self, side: Side, name: &[u8]) -> Option<usize>
         ensures { result ≡ position (λ m. bytes_eq m.name name.now) (messages_of side self.now) }
     {
-        let messages = match side {
-            Side::Request => self.requests.as_slice(),
-            Side::Event => self.events.as_slice(),
-        };
+        let messages = self.messages(side);
         messages.iter().position(|message| message.name() == name)
     }
 
@@ -105,16 +117,14 @@ impl<A: Allocator> StoredInterface<A> {
     pub(crate) fn has_destroying_event(&self) -> bool
         ensures { result ≡ has_destroying_event self.now }
     {
-        self.events
-            .iter()
-            .any(|event| event.destroys == Destroys::Target)
+        self.is_ended
     }
 
     /// Whether a request destroys its target, if the target has this version.
     pub(crate) fn has_destroying_request(&self, version: u32) -> bool
         ensures { result ≡ has_destroying_request version self.now }
     {
-        self.requests
+        self.messages(Side::Request)
             .iter()
             .any(|request| request.destroys_at(version))
     }
@@ -124,8 +134,8 @@ impl<A: Allocator> StoredInterface<A> {
         ensures { result.now ≡ messages_of side self.now }
     {
         match side {
-            Side::Request => self.requests.as_slice(),
-            Side::Event => self.events.as_slice(),
+            Side::Request => self.parts.requests.as_slice(),
+            Side::Event => self.parts.events.as_slice(),
         }
     }
 
@@ -133,7 +143,7 @@ impl<A: Allocator> StoredInterface<A> {
     pub(crate) fn takes_object_of(&self, place: usize) -> bool
         ensures { result ≡ list_any (λ m. list_any (is_object_of place) m.kinds) self.now.requests }
     {
-        self.requests
+        self.messages(Side::Request)
             .iter()
             .any(|request| request.takes_object_of(place))
     }
@@ -143,7 +153,7 @@ impl<A: Allocator> StoredInterface<A> {
         ensures { result
             ≡ list_any (λ m. list_any (is_server_object_of place) m.kinds) self.now.events }
     {
-        self.events
+        self.messages(Side::Event)
             .iter()
             .any(|event| event.makes_server_object_of(place))
     }
@@ -164,37 +174,57 @@ impl<A: Allocator> StoredInterface<A> {
     pub(crate) fn has_server_objects(&self) -> bool
         ensures { result ≡ list_any has_server_object self.now.events }
     {
-        self.events.iter().any(|event| event.has_server_object())
+        self.has_server_objects
     }
 }
 
 impl<A: Allocator + Clone + Drop> StoredInterface<A> {
+    #[inline(always)]
+    fn new(alloc: &A, hash: u64, version: u32, parts: InterfaceParts<A>) -> Result<Self, AllocError>
+        requires { hash ≡ name_hash (name_bytes parts.name) }
+        ensures { IfOk result (λ i. i ≡ interface_of version parts) }
+    {
+        let is_ended = one_destroys(parts.events.as_slice());
+        let has_server_objects = one_has_server_object(parts.events.as_slice());
+        Ok(StoredInterface {
+            hash,
+            version,
+            is_ended,
+            has_server_objects,
+            parts: Arc::new(alloc.clone()?, parts)?,
+        })
+    }
+
     pub(crate) fn of(alloc: &A, interface: &CoreInterface) -> Result<Self, AllocError>
         ensures { IfOk result (λ i. i ≡ interface_written interface.now) }
     {
-        Ok(StoredInterface {
+        let parts = InterfaceParts {
             name: Name::from_slice(alloc, interface.name)?,
-            hash: name_hash(interface.name),
-            version: interface.version,
             requests: signatures_of(alloc, interface.requests)?,
             events: signatures_of(alloc, interface.events)?,
-        })
+        };
+        Self::new(alloc, name_hash(interface.name), interface.version, parts)
     }
 
-    /// An owned copy of the interface.
-    pub(crate) fn copy(&self, alloc: &A) -> Result<Self, AllocError>
-        ensures { IfOk result (λ i. i ≡ self.now) }
+    /// The interface at a version, with the same parts.
+    fn at_version(&self, version: u32) -> Result<Self, AllocError>
+        ensures { IfOk result (λ i. i ≡ record {
+          name = self.now.name;
+          version = version;
+          requests = self.now.requests;
+          events = self.now.events;
+        }) }
     {
         Ok(StoredInterface {
-            name: self.name.copy(alloc)?,
             hash: self.hash,
-            version: self.version,
-            requests: copies_of(alloc, self.requests.as_slice())?,
-            events: copies_of(alloc, self.events.as_slice())?,
+            version,
+            is_ended: self.is_ended,
+            has_server_objects: self.has_server_objects,
+            parts: self.parts.clone()?,
         })
     }
 
-    /// An owned copy of the interface, with what is added to it.
+    /// The interface, with what is added to it. It shares its parts unless messages are added.
     pub(crate) fn grown<'n>(
         &self,
         alloc: &A,
@@ -207,27 +237,29 @@ impl<A: Allocator + Clone + Drop> StoredInterface<A> {
             ≡ grown_by (place_in places.now) past self.now (option_copied more.entry)) }
     {
         let Some(more) = more else {
-            return self.copy(alloc);
+            return self.at_version(self.version);
         };
-        Ok(StoredInterface {
-            name: self.name.copy(alloc)?,
-            hash: self.hash,
-            version: more.version,
+        if more.requests.is_empty() && more.events.is_empty() {
+            return self.at_version(more.version);
+        }
+        let parts = InterfaceParts {
+            name: self.parts.name.copy(alloc)?,
             requests: grown_signatures(
                 alloc,
                 places,
                 past,
-                self.requests.as_slice(),
+                self.messages(Side::Request),
                 more.requests.as_slice(),
             )?,
             events: grown_signatures(
                 alloc,
                 places,
                 past,
-                self.events.as_slice(),
+                self.messages(Side::Event),
                 more.events.as_slice(),
             )?,
-        })
+        };
+        Self::new(alloc, self.hash, more.version, parts)
     }
 
     /// What a text that does not mention the interface says about it: no message.
@@ -254,14 +286,29 @@ impl<A: Allocator + Clone + Drop> StoredInterface<A> {
         requires { PlacesFit (place_in places.now) past }
         ensures { IfOk result (λ i. i ≡ interface_placed (place_in places.now) past interface.now) }
     {
-        Ok(StoredInterface {
+        let parts = InterfaceParts {
             name: Name::from_slice(alloc, interface.name)?,
-            hash: name_hash(interface.name),
-            version: interface.version,
             requests: placed_signatures(alloc, places, past, interface.requests.as_slice())?,
             events: placed_signatures(alloc, places, past, interface.events.as_slice())?,
-        })
+        };
+        Self::new(alloc, name_hash(interface.name), interface.version, parts)
     }
+}
+
+// Whether one of these events destroys its target.
+fn one_destroys<A: Allocator>(events: &[Signature<A>]) -> bool
+    ensures { result ≡ list_any (λ m. destroys_target m.destroys) events.now }
+{
+    events
+        .iter()
+        .any(|event| event.destroys == Destroys::Target)
+}
+
+// Whether one of these events has a new object of the server.
+fn one_has_server_object<A: Allocator>(events: &[Signature<A>]) -> bool
+    ensures { result ≡ list_any has_server_object events.now }
+{
+    events.iter().any(|event| event.has_server_object())
 }
 
 fn copies_of<A: Allocator + Clone + Drop>(

@@ -31,6 +31,10 @@ use wl_rules::{
 use wl_text::{TableFault, WrittenInterface, read_interfaces};
 use wl_wire::Iface;
 
+/// How long a text may be so that going through all names for each of its own takes less than a map
+/// of them takes to make.
+const SHORT_TEXT: usize = 1024;
+
 /// Signature tables: a list of interfaces, with the signatures of their messages.
 ///
 /// Tables are always valid: names are distinct and consist of `a` to `z`, `0` to `9` and `_`;
@@ -91,11 +95,8 @@ impl<A: Allocator> Tables<A> {
         ensures answer { option_copied result ≡ signature_at self.now iface.0 side opcode }
         ensures valid { Valid self.now }
     {
-        let entry = self.interfaces.get(iface.0 as usize)?;
-        match side {
-            Side::Request => entry.requests.get(opcode as usize),
-            Side::Event => entry.events.get(opcode as usize),
-        }
+        let entry = self.entry(iface)?;
+        entry.messages(side).get(opcode as usize)
     }
 
     /// The opcode of the request or event with this name. `None` past the tables, or if the
@@ -220,7 +221,8 @@ impl<A: Allocator + Clone + Drop> Tables<A> {
     {
         let written = read_interfaces(self.interfaces.allocator(), text)?;
         let (gathered, of_extensions) = self.gathered(written)?;
-        let places = self.places(gathered.declared.as_slice())?;
+        let is_short = text.len() <= SHORT_TEXT;
+        let places = self.places(is_short, gathered.declared.as_slice())?;
         let of_others = self.first_broken(&places, &gathered)?;
         if let Some(BrokenLine { line, rule }) = earlier(of_extensions, of_others) {
             return Err(TableFault::BadTable { line, rule });
@@ -267,11 +269,15 @@ impl<A: Allocator + Clone + Drop> Tables<A> {
     // The first index of each name of these interfaces and those of a text.
     fn places<'n>(
         &'n self,
+        is_short: bool,
         written: &[WrittenInterface<'n, A>],
     ) -> Result<Places<'n, A>, AllocError>
         ensures { IfOk result (λ places. ArePlaces (place_in places) self.now written.now) }
     {
         let names = self.all_names(written)?;
+        if is_short {
+            return Ok(Places::Listed(names));
+        }
         places_of(self.interfaces.allocator(), names.as_slice())
     }
 
