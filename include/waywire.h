@@ -766,8 +766,8 @@ waywire_status waywire_server_add_global(waywire_server server, uint16_t interfa
 	uint32_t version, uint32_t *name);
 
 /* Sets how many globals the server may add in its lifetime, including those that it has added: 1,024 unless this is
- * called. Of a number above WAYWIRE_MOST_GLOBALS, that many. A client that is made with this library remembers 1,024
- * at a time. */
+ * called. A number above WAYWIRE_MOST_GLOBALS counts as WAYWIRE_MOST_GLOBALS. A client that is made with this library
+ * remembers 1,024 at a time. */
 waywire_status waywire_server_allow_globals(waywire_server server, size_t number);
 
 /* Withdraws a global. It can still be bound; waywire_server_announce sends global_remove to the registries to

@@ -1,5 +1,5 @@
 //! A client keeps the rules, whoever its server is, as long as that server takes back only what was
-//! given up.
+//! given up and replaces no open object.
 ghost use Rattle.std.specs.Prelude.{◌≡◌, ◌+◌, ◌-◌, ◌++◌, ◌∷◌, ℕ, List, [], Ok, drop, take};
 ghost use Rattle.std.specs.Prelude.{◌<◌, ◌^◌, Option, false, length};
 ghost use Rattle.wl_wire.specs.declared.header.Header.{Header as Headers};

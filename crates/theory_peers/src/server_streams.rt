@@ -33,7 +33,8 @@ pub fn a_recording_is_broken_first_by_the_client()
 {}
 
 /// While none of the recorded requests breaks a rule, the whole recording is lawful, and the server
-/// meets no fault, whatever it does and however the bytes are cut.
+/// meets no fault, whatever it does and however the bytes are cut. Fewer than 2^64 - 2 messages
+/// were recorded.
 pub fn while_its_client_keeps_the_rules()
     ensures lawful { (limit : ℕ) (tables : List Interface) (pieces arriving leaving : List Pieces)
         (state : State)
@@ -50,8 +51,8 @@ pub fn while_its_client_keeps_the_rules()
 {}
 
 /// After the server posted an error, too: a broken recording is broken first by the client, and
-/// while no request breaks a rule, the recording is lawful to its end. A checker examines nothing
-/// behind the error.
+/// while no request breaks a rule, the recording is lawful. Nothing behind the error counts for
+/// that. Fewer than 2^64 - 2 messages were recorded.
 pub fn a_recording_stays_lawful_behind_an_error()
     ensures first { (limit : ℕ) (tables : List Interface) (pieces leaving : List Pieces)
         (state : State) (direction : Way) (index offset : ℕ) (fault : Faults)
