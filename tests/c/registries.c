@@ -1,6 +1,6 @@
 /* Many open registries cost little.
  *
- *     registries             tests that 100,000 registries take less than 40 MB
+ *     registries             tests that 100,000 registries take less than 120 MB
  *     registries TASK OPEN   does a task with OPEN registries open, all of it in `measured`, and prints
  *                            how often. The instructions are counted from outside
  *

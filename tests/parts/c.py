@@ -286,7 +286,7 @@ ALONE = (
     # a callback, and a global that a callback adds comes before the answer to the next message.
     of_program("asks_for_room_once_a_read", "asking",
                wraps=("waywire_end_out_room", "waywire_server_announce"), checked=()),
-    # 100,000 open registries take less than 40 MB.
+    # 100,000 open registries take less than 120 MB.
     of_program("many_registries", "registries"),
     # Ten gigabytes pass an inspector.
     of_program("long_session_takes_no_more_memory", "long_session", timeout=2 * LONG),
